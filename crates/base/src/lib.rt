@@ -1,0 +1,1 @@
+// Nothing runs here: the crate holds the definitions and laws that every layer above shares (specs/, proofs/).

@@ -1,0 +1,58 @@
+// Big-endian fields of a slice, read. A byte behind the end reads as 0, so every read is total.
+ghost use mathlib.Core.Path.{_≡_};
+ghost use lib.ListN.{getD, take, drop};
+ghost use Rattle.fields.specs.Field.{field};
+
+// The byte at an index.
+pub fn byte(s: &[u8], at: usize) -> u8
+    ensures { λ r. ⌜ r ≡ getD (now (s .entry)) at 0 ⌝ }
+{
+    if at < s.len() {
+        return s[at];
+    }
+    0
+}
+
+// The two bytes at an index.
+pub fn get2(s: &[u8], at: usize) -> u16
+    ensures { λ r. ⌜ r ≡ field 2 (now (s .entry)) at ⌝ }
+{
+    if s.len() <= at {
+        return 0;
+    }
+    byte(s, at) as u16 * 256 + byte(s, at + 1) as u16
+}
+
+// The three bytes at an index.
+pub fn get3(s: &[u8], at: usize) -> u32
+    ensures { λ r. ⌜ r ≡ field 3 (now (s .entry)) at ⌝ }
+{
+    if s.len() <= at {
+        return 0;
+    }
+    get2(s, at) as u32 * 256 + byte(s, at + 2) as u32
+}
+
+// The four bytes at an index.
+pub fn get4(s: &[u8], at: usize) -> u32
+    ensures { λ r. ⌜ r ≡ field 4 (now (s .entry)) at ⌝ }
+{
+    if s.len() <= at {
+        return 0;
+    }
+    get2(s, at) as u32 * 65536 + get2(s, at + 2) as u32
+}
+
+// The part of count bytes from an index on, as far as the slice has them.
+pub fn part(s: &[u8], at: usize, count: usize) -> &[u8]
+    ensures { λ r. ⌜ now r ≡ take count (drop at (now (s .entry))) ⌝ }
+{
+    if s.len() <= at {
+        return &s[..0];
+    }
+    if s.len() - at <= count {
+        return &s[at..];
+    }
+    let end = at + count;
+    &s[at..end]
+}

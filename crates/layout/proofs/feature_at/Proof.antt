@@ -1,0 +1,12 @@
+-- `layout::feature_at` meets its contract: it reads the field where the layout has it.
+use Rattle.layout.specs.Layout.{number}
+use borrow.Author.Needs.{needs}
+use Rattle.layout.proofs.feature_at.Statement.{statement}
+use Rattle.layout.proofs.feature_at.Tie as tie
+
+returns : tie.Need-returns
+unfolding number
+returns c = search needs
+
+pub feature-at-spec : {M : Type 1} → statement M
+feature-at-spec = tie.close (tie.spec (λ c. search needs) (λ c. search needs) (λ c κs. search needs) returns)

@@ -1,0 +1,12 @@
+-- `layout::flags_at` meets its contract: it reads the field where the layout has it.
+use Rattle.layout.specs.Layout.{flags}
+use borrow.Author.Needs.{needs}
+use Rattle.layout.proofs.flags_at.Statement.{statement}
+use Rattle.layout.proofs.flags_at.Tie as tie
+
+returns : tie.Need-returns
+unfolding flags
+returns c = search needs
+
+pub flags-at-spec : {M : Type 1} → statement M
+flags-at-spec = tie.close (tie.spec (λ c. search needs) (λ c. search needs) (λ c. search needs) (λ c κs. search needs) returns)

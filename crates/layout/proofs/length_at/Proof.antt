@@ -1,0 +1,12 @@
+-- `layout::length_at` meets its contract: it reads the field where the layout has it.
+use Rattle.layout.specs.Layout.{bodyLength}
+use borrow.Author.Needs.{needs}
+use Rattle.layout.proofs.length_at.Statement.{statement}
+use Rattle.layout.proofs.length_at.Tie as tie
+
+returns : tie.Need-returns
+unfolding bodyLength
+returns c = search needs
+
+pub length-at-spec : {M : Type 1} → statement M
+length-at-spec = tie.close (tie.spec (λ c. search needs) (λ c. search needs) (λ c. search needs) (λ c κs. search needs) returns)

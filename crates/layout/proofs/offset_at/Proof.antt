@@ -1,0 +1,12 @@
+-- `layout::offset_at` meets its contract: it reads the field where the layout has it.
+use Rattle.layout.specs.Layout.{offset}
+use borrow.Author.Needs.{needs}
+use Rattle.layout.proofs.offset_at.Statement.{statement}
+use Rattle.layout.proofs.offset_at.Tie as tie
+
+returns : tie.Need-returns
+unfolding offset
+returns c = search needs
+
+pub offset-at-spec : {M : Type 1} → statement M
+offset-at-spec = tie.close (tie.spec (λ c. search needs) (λ c. search needs) (λ c. search needs) (λ c κs. search needs) returns)

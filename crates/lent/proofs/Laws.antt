@@ -1,0 +1,107 @@
+-- The laws of `Wrote`. Assumes nothing.
+use mathlib.Core.Path.{_≡_, refl, sym, ap, _∙_}
+use mathlib.Core.List.{List, [], _∷_, _++_, append-assoc, append-nil}
+use Prim.Native.Nat.{ℕ, _+_, _-_, _≤_, _<_, min}
+use native.Mathlib.Nat.{zero-add}
+use native.Mathlib.Decide.{decLe}
+use native.Mathlib.Omega.{arith}
+use lib.ListN.{length, set, take, drop, replicate, length-append, length-take, length-replicate, take-append-drop, drop-of-length-le, replicate-append-replicate}
+use lib.Seq.{sets, length-sets, sets-eq, length-take-le, take-length, drop-drop}
+use Rattle.lent.specs.Wrote.{Wrote}
+use Rattle.lent.proofs.Sets.{sets-out, sets-room, sets-append, sets-left}
+
+-- ---- a single writing
+
+-- where nothing is to be written nothing changes
+pub nothing : (d : List ℕ) (at : ℕ) → Wrote d at [] at d
+nothing d at = record { next = omega arith; holds = refl }
+
+-- from the end on nothing is written
+pub nowhere : (d : List ℕ) (at : ℕ) (xs : List ℕ) → length d ≤ at → Wrote d at xs at d
+nowhere d at xs h = record { next = omega arith; holds = sym (sets-out d at xs h) }
+
+-- what has no room counts for nothing
+pub room : {d b e : List ℕ} {at r : ℕ} (xs : List ℕ) → b ≡ take (length d - at) xs → Wrote d at b r e → Wrote d at xs r e
+room {d} {b} {e} {at} {r} xs h w = record {
+  next = omega (arith, w .next, ap length h, length-take (length d - at) xs);
+  holds = w .holds ∙ ap (sets d at) h ∙ sets-room d at xs (length d - at) (omega arith);
+}
+
+-- what has room ends where the buffer ends, or before
+pub room-end : (d b xs : List ℕ) (at : ℕ) → at < length d → b ≡ take (length d - at) xs → at + length b ≤ length d
+room-end d b xs at h k = omega (arith, ap length k, length-take (length d - at) xs)
+
+-- a single element that has room
+pub stored : (d : List ℕ) (at x : ℕ) → at < length d → Wrote d at (x ∷ []) (at + 1) (set d at x)
+stored d at x h = record { next = omega arith; holds = refl }
+
+-- a block b that has room, as a copy into the part of d that it fills leaves it
+pub copied : (d b e : List ℕ) (at : ℕ) → at + length b ≤ length d
+    → e ≡ take (length b) b ++ drop (length b) (take (at + length b - at) (drop at d))
+    → Wrote d at b (at + length b) (take at d ++ (e ++ drop (at + length b - at) (drop at d)))
+copied d b e at h k =
+    let n : at + length b - at ≡ length b = omega arith in
+    let l : length (take (length b) (drop at d)) ≤ length b = omega (arith, length-take (length b) (drop at d)) in
+    let s : e ≡ b = k ∙ rw (n, take-length, drop-of-length-le (take (length b) (drop at d)) l) (append-nil b) in
+    record { next = omega arith; holds = rw (s, n, drop-drop, sets-eq b d at h) (sym (append-assoc (take at d) b (drop (at + length b) d))) }
+
+-- ---- what a writing leaves
+
+-- the buffer keeps its length
+pub kept : {d e : List ℕ} {at r : ℕ} {xs : List ℕ} → Wrote d at xs r e → length e ≡ length d
+kept {d} {e} {at} {r} {xs} w = ap length (w .holds) ∙ length-sets d at xs
+
+-- where all has room: what stood before it, what was written, and what stood behind it
+pub placed : {d e : List ℕ} {at r : ℕ} {xs : List ℕ} → Wrote d at xs r e → at + length xs ≤ length d → e ≡ take at d ++ xs ++ drop (at + length xs) d
+placed {d} {e} {at} {r} {xs} w h = w .holds ∙ sets-eq xs d at h
+
+-- the same from index 0 on
+pub front : {d e : List ℕ} {r : ℕ} {xs : List ℕ} → Wrote d 0 xs r e → length xs ≤ length d → e ≡ xs ++ drop (length xs) d
+front {d} {e} {r} {xs} w h = rw zero-add at (placed w (omega arith))
+
+-- two outcomes of one writing are the same
+pub same : {d e f : List ℕ} {at r q : ℕ} {xs : List ℕ} → Wrote d at xs r e → Wrote d at xs q f → (r ≡ q) × (e ≡ f)
+same v w = (v .next ∙ sym (w .next), v .holds ∙ sym (w .holds))
+
+-- ---- writings together
+
+-- one writing after another
+pub then : {d e f : List ℕ} {at r q : ℕ} {xs ys : List ℕ} → Wrote d at xs r e → Wrote e r ys q f → Wrote d at (xs ++ ys) q f
+then {d} {e} {f} {at} {r} {q} {xs} {ys} v w =
+    let k : length e ≡ length d = kept v in
+    let behind : sets e r ys ≡ sets e (at + length xs) ys =
+    elim (decLe (length xs) (length d - at)) [
+      | yes h ↦ ap (λ (i : ℕ). sets e i ys) (omega (arith, v .next))
+      | no h ↦ sets-out e r ys (omega (arith, v .next)) ∙ sym (sets-out e (at + length xs) ys (omega arith))
+    ] in
+    record {
+      next = omega (arith, length-append xs ys, v .next, w .next);
+      holds = w .holds ∙ behind ∙ ap (λ (l : List ℕ). sets l (at + length xs) ys) (v .holds) ∙ sym (sets-append d at xs ys);
+    }
+
+-- a writing of xs into the lent front of d, which is as long as the first m elements of xs, is a writing of those into d
+pub cut : {d e : List ℕ} {r limit : ℕ} {xs : List ℕ} (m : ℕ) → limit ≡ length (take m xs) → limit ≤ length d → Wrote (take limit d) 0 xs r e
+    → Wrote d 0 (take m xs) r (e ++ drop limit d)
+cut {d} {e} {r} {limit} {xs} m l h w =
+    let n : length (take limit d) ≡ limit = length-take-le limit d h in
+    let k : limit ≡ min m (length xs) = l ∙ length-take m xs in
+    record {
+      next = omega (arith, w .next);
+      holds =
+          ap (λ (z : List ℕ). z ++ drop limit d) (w .holds ∙ sym (sets-room (take limit d) 0 xs m (omega arith)))
+          ∙ sym (sets-left (take limit d) (drop limit d) 0 (take m xs) (omega arith))
+          ∙ ap (λ (z : List ℕ). sets z 0 (take m xs)) (take-append-drop limit d);
+    }
+
+-- ---- setting to one value
+
+-- one more of them
+pub filled-more : {d e : List ℕ} {i : ℕ} (x : ℕ) → Wrote d 0 (replicate i x) i e → i < length e → Wrote d 0 (replicate (i + 1) x) (i + 1) (set e i x)
+filled-more {d} {e} {i} x w h = rw (← replicate-append-replicate i 1 x) (then w (stored e i x h))
+
+-- no room is left: all of them
+pub filled-whole : {d e : List ℕ} {i : ℕ} (x : ℕ) → Wrote d 0 (replicate i x) i e → length e ≤ i → e ≡ replicate (length d) x
+filled-whole {d} {e} {i} x w h =
+    let n : length (replicate i x) ≡ i = length-replicate i x in
+    let k : i ≡ length d = omega (arith, w .next, kept w) in
+    front w (omega arith) ∙ rw (drop-of-length-le d {i = length (replicate i x)} (omega arith), append-nil, k)

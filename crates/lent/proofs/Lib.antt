@@ -1,0 +1,3 @@
+-- Laws that this crate's proofs and those above it cite.
+pub mod Sets
+pub mod Laws

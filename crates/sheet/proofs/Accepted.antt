@@ -1,0 +1,223 @@
+-- A sheet is accepted exactly when the facts of an accepted sheet hold of it, and what follows from these. Assumes nothing.
+use mathlib.Core.Path.{_≡_, ap}
+use mathlib.Core.List.{List}
+use Prim.Native.Nat.{ℕ, zero, suc, _+_, _*_, _-_, _%_, _≤_, _<_}
+use native.Mathlib.Nat.{add-suc, add-zero, le-refl, div-add-mod}
+use native.Mathlib.Omega.{arith}
+use lib.ListN.{length}
+use borrow.Author.Tests.{ltb-false, leb-false, eqb-true, eqb-false, not-false, le-ltb, lt-leb, eq-eqb, ne-eqb}
+use Rattle.base.specs.Lists.{Bytes}
+use Rattle.fields.proofs.Laws.{field-lt}
+use Rattle.text.specs.declared.Refusal.{Refusal}
+use Rattle.text.specs.First.{accept, firstOf}
+use Rattle.text.proofs.First.{if-false, orElse-none, if-zero, orElse-zero, first-all, first-accept}
+use Rattle.layout.specs.Layout.{featureCount, profileCount, bodiesAt, number, flags, bodyLength, offset, profile, current, last}
+use Rattle.sheet.specs.Check.{profileRule, sameProfile, profileFault, numberBefore, endBefore, flagsRule, entryRule, entryFault, counted, verdict, Accepted}
+use Rattle.sheet.specs.Facts.{Facts}
+
+-- ---- the fields of a list of bytes
+
+pub featureCount-lt : (s : List ℕ) → Bytes s → featureCount s < 65536
+unfolding featureCount
+featureCount-lt s b = field-lt 2 s 0 b
+
+pub profileCount-lt : (s : List ℕ) → Bytes s → profileCount s < 65536
+unfolding profileCount
+profileCount-lt s b = field-lt 2 s 2 b
+
+pub number-lt : (s : List ℕ) (i : ℕ) → Bytes s → number s i < 65536
+unfolding number
+number-lt s i b = field-lt 2 s (4 + 8 * i) b
+
+pub flags-lt : (s : List ℕ) (i : ℕ) → Bytes s → flags s i < 256
+unfolding flags
+flags-lt s i b = b (4 + 8 * i + 2)
+
+pub bodyLength-lt : (s : List ℕ) (i : ℕ) → Bytes s → bodyLength s i < 256
+unfolding bodyLength
+bodyLength-lt s i b = b (4 + 8 * i + 3)
+
+pub profile-lt : (s : List ℕ) (i : ℕ) → Bytes s → profile s i < 65536
+unfolding profile
+profile-lt s i b = field-lt 2 s (4 + 8 * featureCount s + 4 * i) b
+
+-- ---- a profile that is accepted
+
+record ProfileGood (number : ℕ) (listed : Refusal) (current last : ℕ) : Type 0 where
+  above : 0 < number
+  new : listed .number ≡ 0
+  bit : current ≤ 1
+  zero-last : last ≡ 0
+
+profile-good : (num : ℕ) (listed : Refusal) (cur las : ℕ) → profileRule num listed cur las .number ≡ 0 → ProfileGood num listed cur las
+unfolding profileRule
+profile-good num listed cur las e =
+    let a = if-zero _ _ _ e in
+    let b = orElse-zero _ _ (a .1) in
+    let d = if-zero _ _ _ (b .1) in
+    let g = if-zero _ _ _ (d .1) in
+    let n : num ≡ 0 → ⊥ = eqb-false _ _ (a .0) in
+    record {
+      above = omega arith;
+      new = b .0;
+      bit = ltb-false _ _ (d .0);
+      zero-last = eqb-true _ _ (not-false _ (g .0));
+    }
+
+profile-accept : (num : ℕ) (listed : Refusal) (cur las : ℕ) → ProfileGood num listed cur las → profileRule num listed cur las ≡ accept
+unfolding profileRule
+profile-accept num listed cur las g =
+    rw (ne-eqb num 0 (omega arith), if-false, orElse-none listed _ (g .new), le-ltb 1 cur (g .bit), if-false, eq-eqb las 0 (g .zero-last), if-false)
+
+-- ---- an entry that is accepted
+
+record EntryGood (num before flag len off end : ℕ) : Type 0 where
+  above : before < num
+  legal : flagsRule flag .number ≡ 0
+  four : len % 4 ≡ 0
+  follows : off ≡ end
+
+entry-good : (num before flag len off end : ℕ) → entryRule num before flag len off end .number ≡ 0 → EntryGood num before flag len off end
+unfolding entryRule
+entry-good num before flag len off end e =
+    let a = if-zero _ _ _ (if-zero _ _ _ e .1) in
+    let b = orElse-zero _ _ (a .1) in
+    let d = if-zero _ _ _ (b .1) in
+    let g = if-zero _ _ _ (d .1) in
+    record {
+      above = leb-false _ _ (a .0);
+      legal = b .0;
+      four = eqb-true _ _ (not-false _ (d .0));
+      follows = eqb-true _ _ (not-false _ (g .0));
+    }
+
+entry-accept : (num before flag len off end : ℕ) → EntryGood num before flag len off end → entryRule num before flag len off end ≡ accept
+unfolding entryRule
+entry-accept num before flag len off end g =
+    rw (ne-eqb num 0 (omega arith), if-false, lt-leb num before (g .above), if-false, orElse-none (flagsRule flag) _ (g .legal), eq-eqb (len % 4) 0 (g .four), if-false, eq-eqb off end (g .follows), if-false)
+
+-- ---- the profile numbers before profile i
+
+-- none of them is profile i's number
+differs-of : (s : List ℕ) (i : ℕ) → firstOf (sameProfile s i) 0 i .number ≡ 0 → (j : ℕ) → j < i → profile s j ≡ profile s i → ⊥
+unfolding sameProfile
+differs-of s i e j l = eqb-false _ _ (if-zero _ _ _ (first-all (sameProfile s i) i e j l) .0)
+
+of-differs : (s : List ℕ) (i : ℕ) → ((j : ℕ) → j < i → profile s j ≡ profile s i → ⊥) → firstOf (sameProfile s i) 0 i ≡ accept
+unfolding sameProfile
+of-differs s i h = first-accept (sameProfile s i) 0 i (λ j l m. ap (λ (r : Refusal). r .number) (rw (ne-eqb (profile s j) (profile s i) (h j (omega arith))) (if-false _ _)))
+
+-- ---- the steps from one entry to the next
+
+module _ (s : List ℕ) (follows : (i : ℕ) → i < featureCount s → offset s i ≡ endBefore s i) where
+  step-end : (i : ℕ) → i < featureCount s → endBefore s (suc i) ≡ endBefore s i + bodyLength s i
+  unfolding endBefore
+  step-end i l = ap (λ (k : ℕ). k + bodyLength s i) (follows i l)
+
+  rises : (i k : ℕ) → i + k ≤ featureCount s → endBefore s i ≤ endBefore s (i + k)
+  rises i zero l = rw add-zero (omega arith)
+  rises i (suc k) l = rw add-suc (omega (arith, rises i k (omega arith), step-end (i + k) (omega arith)))
+
+  rises-to : (i j : ℕ) → i ≤ j → j ≤ featureCount s → endBefore s i ≤ endBefore s j
+  rises-to i j l m =
+      let e : i + (j - i) ≡ j = omega arith in
+      rw e at (rises i (j - i) (omega arith))
+
+-- ---- accepted exactly when the facts hold
+
+fours : (n : ℕ) → n < 256 → n % 4 ≡ 0 → n ≤ 252
+fours n l e = omega (arith, div-add-mod n 4)
+
+pub facts : (s : List ℕ) → Bytes s → Accepted s → Facts s
+unfolding verdict counted profileFault entryFault
+facts s bs e =
+    let a = if-zero _ _ _ (if-zero _ _ _ e .1) in
+    let b = if-zero _ _ _ (a .1) in
+    let d = orElse-zero _ _ (b .1) in
+    let g = orElse-zero _ _ (d .1) in
+    let k = if-zero _ _ _ (g .1) in
+    let p : (i : ℕ) → i < profileCount s → ProfileGood (profile s i) (firstOf (sameProfile s i) 0 i) (current s i) (last s i) =
+    λ i h. profile-good _ _ _ _ (first-all _ _ (d .0) i h) in
+    let q : (i : ℕ) → i < featureCount s → EntryGood (number s i) (numberBefore s i) (flags s i) (bodyLength s i) (offset s i) (endBefore s i) =
+    λ i h. entry-good _ _ _ _ _ _ (first-all _ _ (g .0) i h) in
+    let end : length s ≡ endBefore s (featureCount s) = eqb-true _ _ (not-false _ (k .0)) in
+    let fol : (i : ℕ) → i < featureCount s → offset s i ≡ endBefore s i = λ i h. q i h .follows in
+    record {
+      room = ltb-false _ _ (a .0);
+      ends = end;
+      few = ltb-false _ _ (b .0);
+      profile-above = λ i h. p i h .above;
+      profile-differs = λ i j l h. differs-of s i (p i h .new) j l;
+      profile-bit = λ i h. p i h .bit;
+      profile-last = λ i h. p i h .zero-last;
+      above = λ i h. q i h .above;
+      legal = λ i h. q i h .legal;
+      four = λ i h. q i h .four;
+      short = λ i h. fours (bodyLength s i) (bodyLength-lt s i bs) (q i h .four);
+      follows = fol;
+      inside = λ i h. omega (arith, end, fol i h, step-end s fol i h, rises-to s fol (suc i) (featureCount s) h (le-refl (featureCount s)));
+    }
+
+module _ (s : List ℕ) (f : Facts s) where
+  profile-fine : (i : ℕ) → i < profileCount s → profileFault s i ≡ accept
+  unfolding profileFault
+  profile-fine i h =
+      profile-accept _ _ _ _ record {
+        above = f .profile-above i h;
+        new = ap (λ (r : Refusal). r .number) (of-differs s i (λ j l. f .profile-differs i j l h));
+        bit = f .profile-bit i h;
+        zero-last = f .profile-last i h;
+      }
+
+  entry-fine : (i : ℕ) → i < featureCount s → entryFault s i ≡ accept
+  unfolding entryFault
+  entry-fine i h = entry-accept _ _ _ _ _ _ record { above = f .above i h; legal = f .legal i h; four = f .four i h; follows = f .follows i h }
+
+all-fine : (fault : ℕ → Refusal) (n : ℕ) → ((i : ℕ) → i < n → fault i ≡ accept) → firstOf fault 0 n .number ≡ 0
+all-fine fault n h =
+    ap (λ (r : Refusal). r .number) (first-accept fault 0 n (λ j l m. ap (λ (r : Refusal). r .number) (h j (omega arith))))
+
+pub accept-of : (s : List ℕ) → Facts s → verdict s ≡ accept
+unfolding verdict counted
+accept-of s f =
+    rw (
+      le-ltb (length s) 4 (omega (arith, f .room)),
+      if-false,
+      le-ltb (length s) (bodiesAt s) (f .room),
+      if-false,
+      le-ltb 63 (profileCount s) (f .few),
+      if-false,
+      orElse-none _ _ (all-fine (profileFault s) (profileCount s) (profile-fine s f)),
+      orElse-none _ _ (all-fine (entryFault s) (featureCount s) (entry-fine s f)),
+      eq-eqb (length s) (endBefore s (featureCount s)) (f .ends),
+      if-false,
+    )
+
+-- ---- what follows from the facts
+
+module _ {s : List ℕ} (f : Facts s) where
+  -- each body starts where the one before ends
+  pub end-next : (i : ℕ) → i < featureCount s → endBefore s (suc i) ≡ endBefore s i + bodyLength s i
+  end-next = step-end s (f .follows)
+
+  pub end-rises : (i j : ℕ) → i ≤ j → j ≤ featureCount s → endBefore s i ≤ endBefore s j
+  end-rises = rises-to s (f .follows)
+
+  -- the bodies lie behind the profiles
+  pub behind : (i : ℕ) → i < featureCount s → bodiesAt s ≤ offset s i
+  unfolding endBefore
+  behind i l = omega (arith, f .follows i l, end-rises 0 i (omega arith) (omega arith))
+
+  -- the feature numbers ascend
+  next-above : (i : ℕ) → suc i < featureCount s → number s i < number s (suc i)
+  unfolding numberBefore
+  next-above i l = f .above (suc i) l
+
+  far-above : (i k : ℕ) → i + suc k < featureCount s → number s i < number s (i + suc k)
+  far-above i zero l = rw add-suc (rw add-zero (next-above i (omega arith)))
+  far-above i (suc k) l = rw add-suc (omega (arith, far-above i k (omega arith), next-above (i + suc k) (omega arith)))
+
+  pub ascending : (i j : ℕ) → i < j → j < featureCount s → number s i < number s j
+  ascending i j l m =
+      let e : i + suc (j - suc i) ≡ j = omega arith in
+      rw e at (far-above i (j - suc i) (omega arith))

@@ -1,0 +1,8 @@
+-- Laws that this crate's proofs and those above it cite.
+pub mod Laws
+pub mod Accepted
+pub mod Meaning
+pub mod Pieces
+pub mod Fine
+pub mod Longest
+pub mod Build

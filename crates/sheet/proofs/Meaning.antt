@@ -1,0 +1,73 @@
+-- An accepted sheet means a drive that a sheet can describe. Assumes nothing.
+use mathlib.Core.Path.{_≡_, sym, ap, _∙_}
+use mathlib.Core.List.{List}
+use Prim.Native.Nat.{ℕ, zero, suc, _+_, _%_, _≤_, _<_}
+use native.Mathlib.Omega.{arith}
+use lib.ListN.{length, drop, length-drop}
+use lib.Seq.{length-take-le}
+use Rattle.base.specs.Lists.{each, Bytes}
+use Rattle.base.proofs.Lists.{bytes-drop, bytes-take, length-each, each-all}
+use Rattle.text.specs.Drive.{Desc, Listed, Good, Asc}
+use Rattle.layout.specs.Layout.{featureCount, profileCount, number, flags, bodyLength, offset, profile}
+use Rattle.sheet.specs.Check.{numberBefore, flagsRule, Accepted}
+use Rattle.sheet.specs.Facts.{Facts}
+use Rattle.sheet.specs.Meaning.{desc, listed, meaning, Distinct, Fine}
+use Rattle.sheet.proofs.Accepted.{facts, number-lt, flags-lt, profile-lt}
+
+pub features-count : (s : List ℕ) → length (meaning s .features) ≡ featureCount s
+unfolding meaning
+features-count s = length-each (desc s) 0 (featureCount s)
+
+pub profiles-count : (s : List ℕ) → length (meaning s .profiles) ≡ profileCount s
+unfolding meaning
+profiles-count s = length-each (listed s) 0 (profileCount s)
+
+module _ {s : List ℕ} (f : Facts s) where
+  -- a body is as long as its entry says
+  pub body-length : (i : ℕ) → i < featureCount s → length (desc s i .body) ≡ bodyLength s i
+  unfolding desc
+  body-length i l =
+      let r : bodyLength s i ≤ length (drop (offset s i) s) = simp length-drop (omega (arith, f .inside i l)) in
+      length-take-le (bodyLength s i) (drop (offset s i) s) r
+
+  desc-good : Bytes s → (i : ℕ) → i < featureCount s → Good (desc s i)
+  unfolding desc
+  desc-good b i l = record {
+    number-low = number-lt s i b;
+    flags-low = flags-lt s i b;
+    four = ap (λ (k : ℕ). k % 4) (body-length i l) ∙ f .four i l;
+    short = omega (arith, body-length i l, f .short i l);
+    bytes = bytes-take (bodyLength s i) (drop (offset s i) s) (bytes-drop (offset s i) s b);
+  }
+
+  ascend-from : (i k : ℕ) → i + k ≤ featureCount s → Asc (suc (numberBefore s i)) (each (desc s) i k)
+  unfolding each desc numberBefore
+  ascend-from i zero l = tt
+  ascend-from i (suc k) l =
+      let e : 1 + number s i ≡ suc (number s i) = omega arith in
+      (f .above i (omega arith), rw e (ascend-from (suc i) k (omega arith)))
+
+  distinct-from : (i k : ℕ) → i + k ≤ profileCount s → Distinct (each (listed s) i k)
+  unfolding each listed
+  distinct-from i zero l = tt
+  distinct-from i (suc k) l = (
+    f .profile-above i (omega arith),
+    each-all (λ (q : Listed). q .number ≡ profile s i → ⊥) (listed s) (suc i) k (λ j m n e. f .profile-differs j i m (omega arith) (sym e)),
+    distinct-from (suc i) k (omega arith),
+  )
+
+pub fine-of : (s : List ℕ) → Bytes s → Facts s → Fine (meaning s)
+unfolding meaning numberBefore desc listed
+fine-of s b f = record {
+  sound = record {
+    few = omega (arith, profiles-count s, f .few);
+    profiles-low = each-all (λ (p : Listed). p .number < 65536) (listed s) 0 (profileCount s) (λ j l m. profile-lt s j b);
+    ascending = ascend-from f 0 (featureCount s) (omega arith);
+    good = each-all Good (desc s) 0 (featureCount s) (λ j l m. desc-good f b j (omega arith));
+  };
+  distinct = distinct-from f 0 (profileCount s) (omega arith);
+  legal = each-all (λ (d : Desc). flagsRule (d .flags) .number ≡ 0) (desc s) 0 (featureCount s) (λ j l m. f .legal j (omega arith));
+}
+
+pub meaning-fine : (s : List ℕ) → Bytes s → Accepted s → Fine (meaning s)
+meaning-fine s b e = fine-of s b (facts s b e)

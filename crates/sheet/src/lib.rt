@@ -1,0 +1,210 @@
+// The check of a drive sheet.
+ghost use mathlib.Core.Path.{_≡_};
+ghost use Rattle.text.specs.First.{firstOf};
+ghost use Rattle.sheet.specs.Check.{profileRule, sameProfile, profileFault, numberBefore, endBefore, flagsRule, entryRule, entryFault, counted, verdict};
+use text::Refusal;
+
+// ---- the rules, on numbers
+
+fn profile_rule(number: u16, listed: Refusal, current: u8, last: u8) -> Refusal
+    ensures { λ r. ⌜ r ≡ profileRule number listed current last ⌝ }
+{
+    if number == 0 {
+        return text::PROFILE_BAD;
+    }
+    if listed.number != 0 {
+        return listed;
+    }
+    if current > 1 {
+        return text::PROFILE_BAD;
+    }
+    if last != 0 {
+        return text::PROFILE_BAD;
+    }
+    text::ACCEPTED
+}
+
+fn flags_rule(f: u8) -> Refusal
+    ensures { λ r. ⌜ r ≡ flagsRule f ⌝ }
+{
+    if f / 64 != 0 {
+        return text::FLAGS_BAD;
+    }
+    if f / 4 % 16 != 0 {
+        return text::FLAGS_BAD;
+    }
+    if f / 2 % 2 != 1 {
+        return text::ACCEPTED;
+    }
+    if f % 2 == 0 {
+        return text::FLAGS_BAD;
+    }
+    text::ACCEPTED
+}
+
+fn entry_rule(number: u16, before: u16, flags: u8, len: u8, offset: u32, end: usize) -> Refusal
+    ensures { λ r. ⌜ r ≡ entryRule number before flags len offset end ⌝ }
+{
+    if number == 0 {
+        return text::ORDER_BAD;
+    }
+    if number <= before {
+        return text::ORDER_BAD;
+    }
+    let fault = flags_rule(flags);
+    if fault.number != 0 {
+        return fault;
+    }
+    if len % 4 != 0 {
+        return text::LENGTH_BAD;
+    }
+    if offset as usize != end {
+        return text::OFFSET_BAD;
+    }
+    text::ACCEPTED
+}
+
+// ---- the rules, at each profile and entry
+
+// Whether profiles i and j have one number.
+fn same_profile(s: &[u8], i: u16, j: u16) -> Refusal
+    ensures { λ r. ⌜ r ≡ sameProfile (now (s .entry)) i j ⌝ }
+{
+    let a = layout::profile_at(s, j);
+    let b = layout::profile_at(s, i);
+    if a.0 == b.0 {
+        return text::PROFILE_BAD;
+    }
+    text::ACCEPTED
+}
+
+// Whether a profile before profile i has its number.
+fn listed_before(s: &[u8], i: u16) -> Refusal
+    ensures { λ r. ⌜ r ≡ firstOf (sameProfile (now (s .entry)) i) 0 i ⌝ }
+{
+    let mut j: u16 = 0;
+    while j < i {
+        let fault = same_profile(s, i, j);
+        if fault.number != 0 {
+            return fault;
+        }
+        j += 1;
+    }
+    text::ACCEPTED
+}
+
+fn profile_fault(s: &[u8], i: u16) -> Refusal
+    ensures { λ r. ⌜ r ≡ profileFault (now (s .entry)) i ⌝ }
+{
+    let profile = layout::profile_at(s, i);
+    let listed = listed_before(s, i);
+    profile_rule(
+        profile.0,
+        listed,
+        layout::current_at(s, i),
+        layout::last_at(s, i),
+    )
+}
+
+// The first refusal of the first p profiles.
+fn profiles_fault(s: &[u8], p: u16) -> Refusal
+    ensures { λ r. ⌜ r ≡ firstOf (profileFault (now (s .entry))) 0 p ⌝ }
+{
+    let mut i: u16 = 0;
+    while i < p {
+        let fault = profile_fault(s, i);
+        if fault.number != 0 {
+            return fault;
+        }
+        i += 1;
+    }
+    text::ACCEPTED
+}
+
+// The feature number before entry i, 0 at the first.
+fn number_before(s: &[u8], i: u16) -> u16
+    ensures { λ r. ⌜ r ≡ numberBefore (now (s .entry)) i ⌝ }
+{
+    if i == 0 {
+        return 0;
+    }
+    let before = layout::feature_at(s, i - 1);
+    before.0
+}
+
+// Where the body before that of entry i ends.
+fn end_before(s: &[u8], i: u16) -> usize
+    ensures { λ r. ⌜ r ≡ endBefore (now (s .entry)) i ⌝ }
+{
+    if i == 0 {
+        return layout::bodies_at(s);
+    }
+    layout::offset_at(s, i - 1) as usize + layout::length_at(s, i - 1) as usize
+}
+
+fn entry_fault(s: &[u8], i: u16) -> Refusal
+    ensures { λ r. ⌜ r ≡ entryFault (now (s .entry)) i ⌝ }
+{
+    let feature = layout::feature_at(s, i);
+    let before = number_before(s, i);
+    let end = end_before(s, i);
+    entry_rule(
+        feature.0,
+        before,
+        layout::flags_at(s, i),
+        layout::length_at(s, i),
+        layout::offset_at(s, i),
+        end,
+    )
+}
+
+// The first refusal of the first n entries.
+fn entries_fault(s: &[u8], n: u16) -> Refusal
+    ensures { λ r. ⌜ r ≡ firstOf (entryFault (now (s .entry))) 0 n ⌝ }
+{
+    let mut i: u16 = 0;
+    while i < n {
+        let fault = entry_fault(s, i);
+        if fault.number != 0 {
+            return fault;
+        }
+        i += 1;
+    }
+    text::ACCEPTED
+}
+
+// ---- the check
+
+// The check of a sheet that has room for n entries and p profiles.
+fn counted_fault(s: &[u8], n: u16, p: u16) -> Refusal
+    ensures { λ r. ⌜ r ≡ counted (now (s .entry)) n p ⌝ }
+{
+    if 63 < p {
+        return text::PROFILES_MANY;
+    }
+    let profiles = profiles_fault(s, p);
+    if profiles.number != 0 {
+        return profiles;
+    }
+    let entries = entries_fault(s, n);
+    if entries.number != 0 {
+        return entries;
+    }
+    if s.len() != end_before(s, n) {
+        return text::SHEET_LONG;
+    }
+    text::ACCEPTED
+}
+
+// The first refusal of a drive sheet, number 0 where it is accepted.
+pub fn check(s: &[u8]) -> Refusal
+    ensures { λ r. ⌜ r ≡ verdict (now (s .entry)) ⌝ }
+{
+    if s.len() < 4 {
+        return text::SHEET_SHORT;
+    }
+    if s.len() < layout::bodies_at(s) {
+        return text::SHEET_SHORT;
+    }
+    counted_fault(s, layout::feature_count(s), layout::profile_count(s))
+}

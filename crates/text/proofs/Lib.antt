@@ -1,0 +1,7 @@
+-- Laws that the proofs of the crates above cite.
+pub mod First
+pub mod Profiles
+pub mod Selection
+pub mod Sizes
+pub mod Sent
+pub mod Walk

@@ -1,0 +1,5 @@
+pub mod First
+pub mod Flags
+pub mod Drive
+pub mod Response
+pub mod Reading
