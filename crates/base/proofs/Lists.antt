@@ -2,12 +2,12 @@
 use mathlib.Core.Path.{_≡_, refl, sym, ap, _∙_}
 use mathlib.Core.Bool.{Bool, true, false, _&&_, true≢false, and-comm}
 use mathlib.Core.List.{List, [], _∷_, _++_, append-assoc, append-nil}
-use Prim.Native.Nat.{ℕ, zero, suc, _+_, _*_, _≤_, _<_}
-use native.Mathlib.Nat.{zero-add}
+use Prim.Native.Nat.{ℕ, zero, suc, _+_, _*_, _≤_, _<_, _-_}
+use native.Mathlib.Nat.{zero-add, add-zero, suc-add, add-suc}
 use native.Mathlib.Numerals.{add-one}
 use native.Mathlib.Omega.{arith}
-use lib.ListN.{length, take, drop, getD, length-append, take-append-drop}
-use lib.Seq.{getD-drop, take-suc, take-add, drop-cons, drop-drop, drop-at, drop-append-le, drop-append-seam, ext-getD}
+use lib.ListN.{length, take, drop, getD, length-append, take-append-drop, length-take}
+use lib.Seq.{getD-drop, take-suc, take-add, drop-cons, drop-drop, drop-at, drop-append-le, drop-append-seam, ext-getD, take-take, take-append-add}
 use Rattle.base.specs.Lists.{each, flat, keep, All, Bytes}
 
 -- ---- bytes
@@ -247,3 +247,52 @@ take-row s at w i k =
     let e : at + w * suc i ≡ at + w * i + w = omega arith in
     let f : w * suc k ≡ w + w * k = omega arith in
     rw (e, f) (take-more s (at + w * i) w (w * k))
+
+-- a front that reaches into the second list
+pub take-append-ge : {A : Type 0} (n : ℕ) (xs ys : List A) → length xs ≤ n → take n (xs ++ ys) ≡ xs ++ take (n - length xs) ys
+take-append-ge n xs ys h = ap (λ (k : ℕ). take k (xs ++ ys)) {x = n} {y = length xs + (n - length xs)} (omega arith) ∙ take-append-add xs ys (n - length xs)
+
+-- a part that lies inside a front
+pub part-take : {A : Type 0} (l at n : ℕ) (s : List A) → at + l ≤ n → take l (drop at (take n s)) ≡ take l (drop at s)
+part-take l zero n s h = take-take l n s (omega arith)
+part-take l (suc at) zero s h = absurd (omega arith)
+part-take l (suc at) (suc n) [] h = refl
+part-take l (suc at) (suc n) (x ∷ s) h = part-take l at n s (omega arith)
+
+-- what stands behind a front
+pub front-rest : {A : Type 0} (xs ys : List A) → xs ≡ take (length xs) ys → ys ≡ xs ++ drop (length xs) ys
+front-rest xs ys e = sym (take-append-drop (length xs) ys) ∙ ap (λ r. r ++ drop (length xs) ys) (sym e)
+
+pub front-count : {A : Type 0} (xs ys : List A) → xs ≡ take (length xs) ys → length xs ≤ length ys
+front-count xs ys e = omega (arith, ap length e, length-take (length xs) ys)
+
+-- ---- indices in two parts
+
+pub each-add : {A : Type 0} (f : ℕ → A) (i j k : ℕ) → each f i (j + k) ≡ each f i j ++ each f (i + j) k
+unfolding each
+each-add f i zero k = rw (zero-add, add-zero)
+each-add f i (suc j) k = rw (suc-add, each, each-add f (suc i) j k, suc-add, add-suc)
+
+pub each-snoc : {A : Type 0} (f : ℕ → A) (i k : ℕ) → each f i (suc k) ≡ each f i k ++ (f (i + k) ∷ [])
+unfolding each
+each-snoc f i k = ap (each f i) (sym (add-one k)) ∙ each-add f i k 1
+
+pub each-cut : {A : Type 0} (f : ℕ → A) (j n : ℕ) → j ≤ n → each f 0 n ≡ each f 0 j ++ each f j (n - j)
+each-cut f j n l =
+    let e : n ≡ j + (n - j) = omega arith in
+    ap (each f 0) e ∙ each-add f 0 j (n - j) ∙ rw zero-add
+
+-- a test that fails before and behind a range keeps what another keeps of the range, if they agree there
+pub keep-range : {A : Type 0} (t u : A → Bool) (f : ℕ → A) (from to n : ℕ) → from ≤ to → to ≤ n
+    → ((j : ℕ) → j < from → t (f j) ≡ false)
+    → ((j : ℕ) → from ≤ j → j < to → t (f j) ≡ u (f j))
+    → ((j : ℕ) → to ≤ j → j < n → t (f j) ≡ false)
+    → keep t (each f 0 n) ≡ keep u (each f from (to - from))
+keep-range t u f from to n l m before inside behind =
+    let x : keep t (each f 0 from) ≡ [] =
+    keep-none t (each f 0 from) (each-all (λ a. t a ≡ false) f 0 from (λ j h k. before j (omega arith))) in
+    let y : keep u (each f from (to - from)) ≡ keep t (each f from (to - from)) =
+    keep-same u t (each f from (to - from)) (each-all (λ a. t a ≡ u a) f from (to - from) (λ j h k. inside j h (omega arith))) in
+    let z : keep t (each f to (n - to)) ≡ [] =
+    keep-none t (each f to (n - to)) (each-all (λ a. t a ≡ false) f to (n - to) (λ j h k. behind j h (omega arith))) in
+    rw (each-cut f to n m, each-cut f from to l, keep-append, keep-append, x, z, append-nil) (sym y)

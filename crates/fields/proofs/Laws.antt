@@ -5,7 +5,7 @@ use Prim.Native.Nat.{ℕ, zero, suc, _+_, _-_, _*_, _/_, _%_, _^_, _≤_, _<_}
 use native.Mathlib.Nat.{add-zero, add-suc, add-assoc, pow-suc, pow-succ', mod-one, mod-lt, mod-eq-of-lt, div-one, div-div-eq-div-mul}
 use native.Mathlib.Omega.{arith}
 use lib.ListN.{length, take, drop, getD, length-drop, length-append, drop-of-length-le, List·getD-eq-default}
-use lib.Seq.{take-suc, take-all, take-nil, getD-drop, getD-at, append-snoc}
+use lib.Seq.{take-suc, take-all, take-nil, getD-take, getD-drop, getD-at, append-snoc}
 use lib.Arith.{digits-lt, digits-div, digits-mod, mod-mul}
 use Rattle.base.specs.Lists.{Bytes}
 use Rattle.base.proofs.Lists.{bytes-one, bytes-append}
@@ -111,3 +111,10 @@ module _ (s : List ℕ) (at : ℕ) where
 
   pub byte-here : (v : ℕ) (rest : List ℕ) → drop at s ≡ v ∷ rest → getD s at 0 ≡ v
   byte-here v rest e = ap (λ (k : ℕ). getD s k 0) (sym (add-zero at)) ∙ sym (getD-drop at s 0 0) ∙ ap (λ (r : List ℕ). getD r 0 0) e
+
+-- ---- a field of a front that holds it
+
+pub field-take : (w n : ℕ) (s : List ℕ) (at : ℕ) → at + w ≤ n → field w (take n s) at ≡ field w s at
+unfolding field
+field-take zero n s at h = refl
+field-take (suc w) n s at h = rw (field-take w n s at (omega arith), getD-take n s (at + w) 0 (omega arith))

@@ -1,7 +1,7 @@
 -- Where a drive sheet's fields stand: counts, contents, profiles, bodies. Assumes nothing: these are definitions.
 use mathlib.Core.List.{List}
 use Prim.Native.Nat.{ℕ, _+_, _*_}
-use lib.ListN.{getD}
+use lib.ListN.{getD, take, drop}
 use Rattle.fields.specs.Field.{field}
 
 -- the head: feature count (2), profile count (2)
@@ -43,3 +43,7 @@ current s i = getD s (profileAt s i + 2) 0
 
 unfoldable pub last : List ℕ → ℕ → ℕ
 last s i = getD s (profileAt s i + 3) 0
+
+-- all profiles, as they stand
+unfoldable pub profilesPart : List ℕ → List ℕ
+profilesPart s = take (4 * profileCount s) (drop (profileAt s 0) s)

@@ -1,6 +1,6 @@
 // Where a drive sheet's fields stand: nothing above this crate knows the layout. A field behind the sheet's end reads as 0.
 ghost use mathlib.Core.Path.{_≡_};
-ghost use Rattle.layout.specs.Layout.{featureCount, profileCount, bodiesAt, profileAt, number, flags, bodyLength, offset, profile, current, last};
+ghost use Rattle.layout.specs.Layout.{featureCount, profileCount, bodiesAt, profileAt, number, flags, bodyLength, offset, profile, current, last, profilesPart};
 use text::Feature;
 use text::Profile;
 
@@ -73,4 +73,11 @@ pub fn last_at(s: &[u8], i: u16) -> u8
 {
     let at = profile_place(s, i);
     fields::byte(s, at + 3)
+}
+
+// The profiles as they stand, which is as feature 0 sends them.
+pub fn profiles_part(s: &[u8]) -> &[u8]
+    ensures { λ r. ⌜ now r ≡ profilesPart (now (s .entry)) ⌝ }
+{
+    fields::part(s, profile_place(s, 0), 4 * (profile_count(s) as usize))
 }

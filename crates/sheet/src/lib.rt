@@ -133,7 +133,7 @@ fn number_before(s: &[u8], i: u16) -> u16
 }
 
 // Where the body before that of entry i ends.
-fn end_before(s: &[u8], i: u16) -> usize
+pub fn end_before(s: &[u8], i: u16) -> usize
     ensures { λ r. ⌜ r ≡ endBefore (now (s .entry)) i ⌝ }
 {
     if i == 0 {

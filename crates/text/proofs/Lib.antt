@@ -5,3 +5,8 @@ pub mod Selection
 pub mod Sizes
 pub mod Sent
 pub mod Walk
+pub mod Packing
+pub mod Own
+pub mod Again
+pub mod Next
+pub mod Received

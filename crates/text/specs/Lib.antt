@@ -1,5 +1,7 @@
 pub mod First
 pub mod Flags
 pub mod Drive
+pub mod Command
 pub mod Response
 pub mod Reading
+pub mod Packing

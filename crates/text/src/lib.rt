@@ -1,4 +1,6 @@
 // The words of the T10 text that the code of every layer above shares.
+ghost use mathlib.Core.Path.{_≡_};
+ghost use Rattle.text.specs.Command.{commandFault, commandOf, headerOf};
 
 // A feature number.
 pub struct Feature(pub u16);
@@ -30,6 +32,23 @@ pub const OFFSET_BAD: Refusal = Refusal { number: 7 };
 
 pub const SHEET_LONG: Refusal = Refusal { number: 8 };
 
+// A reading's refusals.
+pub const READING_RT_BAD: Refusal = Refusal { number: 13 };
+
+pub const RECEIVED_BAD: Refusal = Refusal { number: 14 };
+
+pub const STATED_BAD: Refusal = Refusal { number: 15 };
+
+pub const RECEIVED_MORE: Refusal = Refusal { number: 16 };
+
+pub const ADDITIONAL_BAD: Refusal = Refusal { number: 17 };
+
+pub const FEATURE_BAD: Refusal = Refusal { number: 18 };
+
+pub const NOT_CURRENT: Refusal = Refusal { number: 19 };
+
+pub const ENDS_BEYOND: Refusal = Refusal { number: 20 };
+
 // What a driver reads off a response: all 0 but the refusal where it is refused.
 pub struct Reading {
     pub refusal: Refusal,
@@ -38,4 +57,74 @@ pub struct Reading {
     pub count: u32,
     pub end: usize,
     pub complete: bool,
+}
+
+// The command's refusals.
+pub const COMMAND_LENGTH: Refusal = Refusal { number: 9 };
+
+pub const OPCODE_OTHER: Refusal = Refusal { number: 10 };
+
+pub const RT_RESERVED: Refusal = Refusal { number: 11 };
+
+pub const BUFFER_SHORT: Refusal = Refusal { number: 12 };
+
+// GET CONFIGURATION as a host asks it.
+pub struct Command {
+    pub rt: u8,
+    pub sfn: Feature,
+    pub allocation: u16,
+}
+
+impl Command {
+    pub const OPCODE: u8 = 0x46;
+
+    pub const LENGTH: usize = 10;
+
+    // The first refusal of a command's bytes.
+    pub fn fault(bytes: &[u8]) -> Refusal
+        ensures { λ r. ⌜ r ≡ commandFault (now (bytes .entry)) ⌝ }
+    {
+        if bytes.len() != Command::LENGTH {
+            return COMMAND_LENGTH;
+        }
+        if fields::byte(bytes, 0) != Command::OPCODE {
+            return OPCODE_OTHER;
+        }
+        if fields::byte(bytes, 1) % 4 == 3 {
+            return RT_RESERVED;
+        }
+        ACCEPTED
+    }
+
+    // The command that its bytes spell. All other bits are reserved or control, and are ignored.
+    pub fn read(bytes: &[u8]) -> Command
+        ensures { λ r. ⌜ r ≡ commandOf (now (bytes .entry)) ⌝ }
+    {
+        Command {
+            rt: fields::byte(bytes, 1) % 4,
+            sfn: Feature(fields::get2(bytes, 2)),
+            allocation: fields::get2(bytes, 7),
+        }
+    }
+}
+
+// The header of a response.
+pub struct Header {
+    pub data_length: u32,
+    pub profile: Profile,
+}
+
+impl Header {
+    pub const LENGTH: usize = 8;
+    // The most bytes that are sent, whatever the allocation length.
+    pub const RETURN_LIMIT: usize = 65534;
+
+    pub fn new(data_length: u32, profile: Profile) -> Header
+        ensures { λ r. ⌜ r ≡ headerOf data_length (profile .0) ⌝ }
+    {
+        Header {
+            data_length: data_length,
+            profile: profile,
+        }
+    }
 }

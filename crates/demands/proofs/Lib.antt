@@ -1,0 +1,4 @@
+-- The demands, each in a file of its own.
+pub mod Sending
+pub mod Readings
+pub mod Stars

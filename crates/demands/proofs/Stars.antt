@@ -1,0 +1,22 @@
+-- The starred lines of the paper: one table, one theorem. Assumes nothing.
+use mathlib.Core.Path.{_≡_, refl}
+use Rattle.base.specs.Lists.{each, flat, keep, All}
+use Rattle.fields.specs.Field.{field, spell}
+use Rattle.text.specs.First.{_if_else_, pickZero, _orElse_, firstOf}
+use Rattle.text.specs.Command.{opcodeOf, rtOf, sfnOf, allocationOf, commandFault}
+use Rattle.text.specs.Drive.{profileBytes}
+use Rattle.text.specs.Response.{bytes, feature0, all, wants, selected, currentProfile, header, dataLength, full, sent}
+use Rattle.layout.specs.Layout as layout
+use Rattle.sheet.specs.Check.{profileRule, sameProfile, profileFault, numberBefore, endBefore, flagsRule, entryRule, entryFault, counted, verdict}
+use Rattle.sheet.specs.Meaning.{desc, listed, meaning}
+use Rattle.responder.specs.Answer.{refusing, sending, unless, roomRule, requested, commanded, answered}
+use Rattle.demands.specs.Recorder.{sheetE, sheetE′, command}
+use Rattle.demands.specs.Star.{Star, shown, asked, stars}
+
+-- a definition gives what the paper says
+abbrev pub Holds : Star → Type 0
+Holds r = r .gives ≡ r .paper
+
+pub starred : All Holds stars
+unfolding each flat keep field spell _if_else_ pickZero _orElse_ firstOf opcodeOf rtOf sfnOf allocationOf commandFault profileBytes bytes feature0 all wants selected currentProfile header dataLength full sent layout.featureCount layout.profileCount layout.number layout.flags layout.bodyLength layout.offset layout.profile layout.current layout.last profileRule sameProfile profileFault numberBefore endBefore flagsRule entryRule entryFault counted verdict desc listed meaning refusing sending unless roomRule requested commanded answered sheetE sheetE′ command shown asked stars
+starred = (refl, (refl, (refl, (refl, (refl, (refl, (refl, (refl, tt))))))))

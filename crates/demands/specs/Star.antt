@@ -1,0 +1,46 @@
+-- The starred lines of the paper as one table. Assumes nothing: these are definitions.
+use mathlib.Core.List.{List, [], _∷_, _++_}
+use Prim.Native.Nat.{ℕ}
+use lib.ListN.{take, replicate}
+use Rattle.responder.specs.Answer.{Outcome, answered}
+use Rattle.demands.specs.Recorder.{sheetE, sheetE′, command}
+
+-- what a definition gives, and what the paper's line says, as numbers
+pub record Star : Type 0 where
+  pub gives : List ℕ
+  pub paper : List ℕ
+
+-- an answer of the box in numbers: the refusal, the count, and that many bytes of the buffer
+unfoldable pub shown : Outcome → List ℕ
+shown o = o .reply .refusal .number ∷ o .reply .count ∷ take (o .reply .count) (o .buffer)
+
+-- the box's answer to RT, SFN and allocation length, in a buffer of 64 bytes
+unfoldable pub asked : (s : List ℕ) (rt sfn a : ℕ) → List ℕ
+asked s rt sfn a = shown (answered s (command rt sfn a) (replicate 64 0xEE))
+
+unfoldable pub stars : List Star
+stars =
+    -- RT 0, SFN 0, A 44
+    record {
+      gives = asked sheetE 0 0 44;
+      paper = (0 ∷ 44 ∷ [])
+          ++ (0x00 ∷ 0x00 ∷ 0x00 ∷ 0x28 ∷ 0x00 ∷ 0x00 ∷ 0x00 ∷ 0x12 ∷ [])
+          ++ (0x00 ∷ 0x00 ∷ 0x03 ∷ 0x08 ∷ 0x00 ∷ 0x12 ∷ 0x01 ∷ 0x00 ∷ 0x00 ∷ 0x10 ∷ 0x00 ∷ 0x00 ∷ [])
+          ++ (0x00 ∷ 0x01 ∷ 0x03 ∷ 0x04 ∷ 0x00 ∷ 0x00 ∷ 0x00 ∷ 0x02 ∷ [])
+          ++ (0x00 ∷ 0x03 ∷ 0x03 ∷ 0x04 ∷ 0x29 ∷ 0x00 ∷ 0x00 ∷ 0x00 ∷ [])
+          ++ (0x00 ∷ 0x1F ∷ 0x01 ∷ 0x00 ∷ [])
+          ++ (0x01 ∷ 0x05 ∷ 0x03 ∷ 0x00 ∷ []);
+    }
+    -- A 0: none. A 4
+    ∷ record { gives = asked sheetE 0 0 0; paper = 0 ∷ 0 ∷ [] }
+    ∷ record { gives = asked sheetE 0 0 4; paper = 0 ∷ 4 ∷ 0x00 ∷ 0x00 ∷ 0x00 ∷ 0x28 ∷ [] }
+    -- RT 0, SFN 0105h: 12 bytes, Data Length 8. SFN 0106h: 8 bytes, Data Length 4
+    ∷ record { gives = asked sheetE 0 0x0105 44; paper = 0 ∷ 12 ∷ 0 ∷ 0 ∷ 0 ∷ 8 ∷ 0 ∷ 0 ∷ 0x00 ∷ 0x12 ∷ 0x01 ∷ 0x05 ∷ 0x03 ∷ 0x00 ∷ [] }
+    ∷ record { gives = asked sheetE 0 0x0106 44; paper = 0 ∷ 8 ∷ 0 ∷ 0 ∷ 0 ∷ 4 ∷ 0 ∷ 0 ∷ 0x00 ∷ 0x12 ∷ [] }
+    -- RT 2, SFN 2: 8 bytes, Data Length 4
+    ∷ record { gives = asked sheetE 2 2 44; paper = 0 ∷ 8 ∷ 0 ∷ 0 ∷ 0 ∷ 4 ∷ 0 ∷ 0 ∷ 0x00 ∷ 0x12 ∷ [] }
+    -- RT 1 from 0 with 001Fh's flags made 00h: Data Length 36
+    ∷ record { gives = take 6 (asked sheetE′ 1 0 44); paper = 0 ∷ 40 ∷ 0 ∷ 0 ∷ 0 ∷ 36 ∷ [] }
+    -- RT 3: 11
+    ∷ record { gives = asked sheetE 3 0 44; paper = 11 ∷ 0 ∷ [] }
+    ∷ []

@@ -1,0 +1,5 @@
+-- Laws that this crate's proofs cite.
+pub mod Tally
+pub mod Outcome
+pub mod Rest
+pub mod Fresh

@@ -1,0 +1,13 @@
+-- `reading::not_current` meets its contract: each early return is a case of the test.
+use Rattle.text.proofs.First.{tests}
+use Rattle.reading.proofs.not_current.Statement.{statement}
+use Rattle.reading.proofs.not_current.Tie as tie
+
+returns : tie.Need-returns
+returns c = search tests
+
+returns-2 : tie.Need-returns-2
+returns-2 c = search tests
+
+pub not-current-spec : {M : Type 1} → statement M
+not-current-spec = tie.close (tie.spec returns returns-2)

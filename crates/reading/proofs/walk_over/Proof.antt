@@ -1,0 +1,37 @@
+-- `reading::walk_over` meets its contract: the loop carries what is left of the walk.
+use borrow.Author.Needs.{needs}
+use Prim.Native.Nat.{_+_, _*_, _-_, _≤_}
+use mathlib.Core.Path.{_≡_}
+use native.Mathlib.Omega.{arith}
+use lib.ListN.{length}
+use Rattle.text.specs.Reading.{walk}
+use Rattle.reading.specs.Scan.{tally}
+use Rattle.reading.proofs.Tally.{left, loop-start, loop-end, loop-fault, loop-cut, loop-more}
+use Rattle.reading.proofs.walk_over.Statement.{statement}
+use Rattle.reading.proofs.walk_over.Tie as tie
+
+abbrev Inv-loop : tie.InvT-loop
+Inv-loop rt sfn end s at₀ lo₀ count₀ last₀ at lo count last = (at ≤ length s) × (4 * count + 8 ≤ at) × (tally 0 8 0 (walk (length s) rt sfn end s sfn 8) ≡ left rt sfn end s at lo count last)
+
+abbrev μ-loop : tie.MeasureT-loop
+μ-loop rt sfn end s at₀ lo₀ count₀ last₀ at lo count last = length s - at
+
+loop-holds : tie.Need-loop-holds Inv-loop μ-loop
+loop-holds c = (omega arith, omega arith, search loop-start)
+
+returns : tie.Need-returns Inv-loop μ-loop
+returns c = search loop-fault
+
+returns-2 : tie.Need-returns-2 Inv-loop μ-loop
+returns-2 c = search loop-cut
+
+loop-again : tie.Need-loop-again Inv-loop μ-loop
+loop-again c = (omega arith, omega arith, search loop-more)
+
+returns-3 : tie.Need-returns-3 Inv-loop μ-loop
+returns-3 c = search loop-end
+
+pub walk-over-spec : {M : Type 1} → statement M
+walk-over-spec =
+    tie.close
+    (tie.spec Inv-loop μ-loop loop-holds (λ c. search needs) (λ c κs. search needs) returns (λ c. search needs) (λ c. search needs) (λ c. search needs) returns-2 (λ c. search needs) (λ c. search needs) (λ c. search needs) (λ c. search needs) loop-again returns-3)

@@ -1,0 +1,262 @@
+// The driver reads a response.
+ghost use mathlib.Core.Path.{_≡_};
+ghost use mathlib.Core.Bool.{not, _&&_};
+ghost use Prim.Native.Nat.{_≤_};
+ghost use lib.Dec.{eqb};
+ghost use lib.ListN.{length};
+ghost use Rattle.text.specs.Flags.{current};
+ghost use Rattle.text.specs.Reading.{headerRule, headRule, walk, reading};
+ghost use Rattle.reading.specs.Scan.{scanned, refusal, headAt, tally};
+ghost use Rattle.reading.specs.Held.{heldIn, heldOf};
+use text::Feature;
+use text::Header;
+use text::Profile;
+use text::Reading;
+use text::Refusal;
+
+// A reading, and the number of its last whole descriptor.
+pub struct Scanned {
+    pub reading: Reading,
+    pub last: Feature,
+}
+
+// The header bytes of a descriptor: number, Additional Length, and a refusal or none.
+struct Head {
+    number: u16,
+    len: u8,
+    fault: Refusal,
+}
+
+// The walk over the descriptors: a refusal or none, how many are whole, the place behind the last and its number.
+struct Walk {
+    fault: Refusal,
+    count: u32,
+    end: usize,
+    last: u16,
+}
+
+// ---- the rules, on numbers
+
+fn header_rule(limit: usize, rt: u8, received: usize, stated: u32) -> Refusal
+    ensures { λ r. ⌜ r ≡ headerRule limit rt received stated ⌝ }
+{
+    if rt > 2 {
+        return text::READING_RT_BAD;
+    }
+    if received < Header::LENGTH {
+        return text::RECEIVED_BAD;
+    }
+    if received > Header::RETURN_LIMIT {
+        return text::RECEIVED_BAD;
+    }
+    if stated < 4 {
+        return text::STATED_BAD;
+    }
+    if stated % 4 != 0 {
+        return text::STATED_BAD;
+    }
+    if stated as usize + 4 < received {
+        return text::RECEIVED_MORE;
+    }
+    if limit < received {
+        return text::RECEIVED_MORE;
+    }
+    text::ACCEPTED
+}
+
+// RT 2: not the feature that was asked for.
+fn other_feature(rt: u8, sfn: u16, number: u16) -> bool
+    ensures { λ r. ⌜ r ≡ (eqb rt 2 && not (eqb number sfn)) ⌝ }
+{
+    if rt != 2 {
+        return false;
+    }
+    number != sfn
+}
+
+// RT 1: a feature that is not current.
+fn not_current(rt: u8, flags: u8) -> bool
+    ensures { λ r. ⌜ r ≡ (eqb rt 1 && eqb (current flags) 0) ⌝ }
+{
+    if rt != 1 {
+        return false;
+    }
+    flags % 2 == 0
+}
+
+fn head_rule(
+    rt: u8,
+    sfn: u16,
+    end: usize,
+    lo: u32,
+    at: usize,
+    number: u16,
+    flags: u8,
+    len: u8,
+) -> Refusal
+    requires { ⌜ at ≤ 65534 ⌝ }
+    ensures { λ r. ⌜ r ≡ headRule rt sfn end lo at number flags len ⌝ }
+{
+    if len % 4 != 0 {
+        return text::ADDITIONAL_BAD;
+    }
+    if (number as u32) < lo {
+        return text::FEATURE_BAD;
+    }
+    if other_feature(rt, sfn, number) {
+        return text::FEATURE_BAD;
+    }
+    if not_current(rt, flags) {
+        return text::NOT_CURRENT;
+    }
+    if end < at + 4 + len as usize {
+        return text::ENDS_BEYOND;
+    }
+    text::ACCEPTED
+}
+
+// ---- the walk
+
+// The header bytes at a place, judged.
+fn head_at(rt: u8, sfn: u16, end: usize, s: &[u8], lo: u32, at: usize) -> Head
+    requires { ⌜ at ≤ 65534 ⌝ }
+    ensures { λ r. ⌜ r ≡ headAt rt sfn end (now (s .entry)) lo at ⌝ }
+{
+    let number = fields::get2(s, at);
+    let flags = fields::byte(s, at + 2);
+    let len = fields::byte(s, at + 3);
+    let fault = head_rule(rt, sfn, end, lo, at, number, flags, len);
+    Head { number, len, fault }
+}
+
+// The walk over the descriptors of a response that ends at end, from sfn on.
+fn walk_over(rt: u8, sfn: u16, end: usize, s: &[u8]) -> Walk
+    requires { ⌜ (8 ≤ length (now s)) × (length (now s) ≤ 65534) ⌝ }
+    ensures { λ r. ⌜ r ≡ tally 0 8 0 (walk (length (now (s .entry))) rt sfn end (now (s .entry)) sfn 8) ⌝ }
+{
+    let mut at: usize = 8;
+    let mut lo = sfn as u32;
+    let mut count: u32 = 0;
+    let mut last: u16 = 0;
+    while at + 4 <= s.len() {
+        let head = head_at(rt, sfn, end, s, lo, at);
+        let fault = head.fault;
+        if fault.number != 0 {
+            return Walk {
+                fault,
+                count: 0,
+                end: 0,
+                last: 0,
+            };
+        }
+        let next = at + 4 + head.len as usize;
+        if s.len() < next {
+            return Walk {
+                fault: text::ACCEPTED,
+                count,
+                end: at,
+                last,
+            };
+        }
+        at = next;
+        lo = head.number as u32 + 1;
+        count += 1;
+        last = head.number;
+    }
+    Walk {
+        fault: text::ACCEPTED,
+        count,
+        end: at,
+        last,
+    }
+}
+
+// ---- the reading
+
+// A refusal, all else 0.
+fn refusing(fault: Refusal) -> Scanned
+    ensures { λ r. ⌜ r ≡ refusal fault ⌝ }
+{
+    Scanned {
+        reading: Reading {
+            refusal: fault,
+            profile: Profile(0),
+            data_length: 0,
+            count: 0,
+            end: 0,
+            complete: false,
+        },
+        last: Feature(0),
+    }
+}
+
+// The reading of a response to RT rt from sfn that may have at most limit bytes, and the number of its last whole descriptor.
+pub fn scan(limit: usize, rt: u8, sfn: Feature, s: &[u8]) -> Scanned
+    ensures { λ r. ⌜ r ≡ scanned limit rt (sfn .0) (now (s .entry)) ⌝ }
+{
+    let stated = fields::get4(s, 0);
+    let fault = header_rule(limit, rt, s.len(), stated);
+    if fault.number != 0 {
+        return refusing(fault);
+    }
+    let end = stated as usize + 4;
+    let walk = walk_over(rt, sfn.0, end, s);
+    let fault = walk.fault;
+    if fault.number != 0 {
+        return refusing(fault);
+    }
+    Scanned {
+        reading: Reading {
+            refusal: text::ACCEPTED,
+            profile: Profile(fields::get2(s, 6)),
+            data_length: stated,
+            count: walk.count,
+            end: walk.end,
+            complete: s.len() == end,
+        },
+        last: Feature(walk.last),
+    }
+}
+
+// The reading of a response to RT rt from sfn.
+pub fn read(rt: u8, sfn: Feature, s: &[u8]) -> Reading
+    ensures { λ r. ⌜ r ≡ reading 65534 rt (sfn .0) (now (s .entry)) ⌝ }
+{
+    let scan = scan(Header::RETURN_LIMIT, rt, sfn, s);
+    scan.reading
+}
+
+// ---- fresh or kept
+
+// The descriptor of a feature as a part of a response to RT 0 from 0, empty where the response is refused or does not have it whole.
+fn held_in(feature: Feature, s: &[u8]) -> &[u8]
+    ensures { λ r. ⌜ now r ≡ heldIn (feature .0) (now (s .entry)) ⌝ }
+{
+    let reading = read(0, Feature(0), s);
+    let end = reading.end;
+    let mut at: usize = 8;
+    while at < end {
+        let number = fields::get2(s, at);
+        let size = 4 + fields::byte(s, at + 3) as usize;
+        if number == feature.0 {
+            return fields::part(s, at, size);
+        }
+        if number > feature.0 {
+            return &s[..0];
+        }
+        at += size;
+    }
+    &s[..0]
+}
+
+// The descriptor of a feature, its header bytes and body, as a part of the fresh response if whole there, else of the kept one, else empty. Both are
+// responses to RT 0 from 0.
+pub fn held<'a>(feature: Feature, fresh: &'a [u8], kept: &'a [u8]) -> &'a [u8]
+    ensures { λ r. ⌜ now r ≡ heldOf (feature .0) (now (fresh .entry)) (now (kept .entry)) ⌝ }
+{
+    let part = held_in(feature, fresh);
+    if part.len() != 0 {
+        return part;
+    }
+    held_in(feature, kept)
+}

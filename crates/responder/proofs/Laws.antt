@@ -1,0 +1,190 @@
+-- The response by index, case by case and turn by turn: what the box's functions and loops need. Assumes nothing.
+use mathlib.Core.Path.{_≡_, refl, sym, ap, _∙_}
+use mathlib.Core.Bool.{Bool, true, false}
+use mathlib.Core.List.{List, [], _∷_, _++_}
+use Prim.Native.Nat.{ℕ, zero, suc, _+_, _-_, _*_, _≤_, _<_}
+use native.Mathlib.Nat.{add-zero, add-suc}
+use native.Mathlib.Numerals.{add-one}
+use native.Mathlib.Omega.{arith}
+use lib.ListN.{length}
+use lib.Dec.{ltb, eqb}
+use borrow.Author.Tests.{lt-ltb, le-ltb, eq-eqb, ne-eqb}
+use Rattle.base.specs.Lists.{Bytes}
+use Rattle.fields.proofs.Laws.{field-lt}
+use Rattle.lent.specs.Wrote.{Wrote}
+use Rattle.lent.proofs.Laws.{nowhere, then, kept}
+use Rattle.layout.specs.Layout.{featureCount, profileCount, entryAt, number, flags, bodyLength, offset, profile, current}
+use Rattle.sheet.specs.Check.{endBefore}
+use native.Mathlib.Decide.{decLe}
+use Rattle.responder.specs.Index.{First, Halved, wantedEnd, skips, entryBytes, piece, pieces, pieceSize, piecesSize, span, entriesSize, zeroBytes, zeroPart, zeroSize, currentFrom}
+
+-- ---- one entry
+
+module _ (rt : ℕ) (s : List ℕ) (i : ℕ) where
+  pub piece-none : skips rt (flags s i) ≡ true → piece rt s i ≡ []
+  unfolding piece
+  piece-none e = rw (e, piece)
+
+  pub piece-some : skips rt (flags s i) ≡ false → piece rt s i ≡ entryBytes s i
+  unfolding piece
+  piece-some e = rw (e, piece)
+
+  pub size-none : skips rt (flags s i) ≡ true → pieceSize rt s i ≡ 0
+  unfolding pieceSize
+  size-none e = rw (e, pieceSize)
+
+  pub size-some : skips rt (flags s i) ≡ false → pieceSize rt s i ≡ 4 + bodyLength s i
+  unfolding pieceSize
+  size-some e = rw (e, pieceSize)
+
+-- ---- a loop over entries, at index i from `from` on
+
+module _ (rt : ℕ) (s : List ℕ) (from i : ℕ) (h : from ≤ i) where
+  back : from + (i - from) ≡ i
+  back = omega arith
+
+  pub pieces-more : pieces rt s from (i + 1 - from) ≡ pieces rt s from (i - from) ++ piece rt s i
+  unfolding pieces
+  pieces-more =
+      ap (pieces rt s from) {x = i + 1 - from} {y = suc (i - from)} (omega arith)
+      ∙ ap (λ (k : ℕ). pieces rt s from (i - from) ++ piece rt s k) back
+
+  pub sizes-more : piecesSize rt s from (i + 1 - from) ≡ piecesSize rt s from (i - from) + pieceSize rt s i
+  unfolding piecesSize
+  sizes-more =
+      ap (piecesSize rt s from) {x = i + 1 - from} {y = suc (i - from)} (omega arith)
+      ∙ ap (λ (k : ℕ). piecesSize rt s from (i - from) + pieceSize rt s k) back
+
+pub pieces-start : (rt : ℕ) (s : List ℕ) (from : ℕ) → pieces rt s from (from - from) ≡ []
+unfolding pieces
+pieces-start rt s from = ap (pieces rt s from) {x = from - from} {y = 0} (omega arith)
+
+pub sizes-start : (rt : ℕ) (s : List ℕ) (from : ℕ) → piecesSize rt s from (from - from) ≡ 0
+unfolding piecesSize
+sizes-start rt s from = ap (piecesSize rt s from) {x = from - from} {y = 0} (omega arith)
+
+-- a full buffer takes no more entries
+full-more : {d e : List ℕ} {at w : ℕ} (rt : ℕ) (s : List ℕ) (from k j : ℕ) → Wrote d at (pieces rt s from k) w e → length e ≤ w → Wrote d at (pieces rt s from (k + j)) w e
+unfolding pieces
+full-more rt s from k zero v h = rw add-zero v
+full-more {d} {e} {at} {w} rt s from k (suc j) v h =
+    rw add-suc (then (full-more rt s from k j v h) (nowhere e w (piece rt s (from + (k + j))) h))
+
+pub full-stop : {d e : List ℕ} {at w : ℕ} (rt : ℕ) (s : List ℕ) (from to i : ℕ) → Wrote d at (pieces rt s from (i - from)) w e → length e ≤ w → i ≤ to → from ≤ i
+    → Wrote d at (pieces rt s from (to - from)) w e
+full-stop rt s from to i v h l m =
+    let k : to - from ≡ (i - from) + (to - i) = omega arith in
+    rw k (full-more rt s from (i - from) (to - i) v h)
+
+-- ---- which entries are wanted
+
+module _ (s : List ℕ) (n sfn r : ℕ) where
+  pub end-all : (rt : ℕ) → rt < 2 → wantedEnd rt s n sfn r ≡ n
+  unfolding wantedEnd
+  end-all zero h = refl
+  end-all (suc zero) h = refl
+  end-all (suc (suc rt)) h = absurd (omega arith)
+
+  pub end-none : (rt : ℕ) → 2 ≤ rt → n ≤ r → wantedEnd rt s n sfn r ≡ r
+  unfolding wantedEnd
+  end-none zero h l = absurd (omega arith)
+  end-none (suc zero) h l = absurd (omega arith)
+  end-none (suc (suc rt)) h l = rw (le-ltb r n l, wantedEnd)
+
+  pub end-one : (rt : ℕ) → 2 ≤ rt → r < n → number s r ≡ sfn → wantedEnd rt s n sfn r ≡ r + 1
+  unfolding wantedEnd
+  end-one zero h l e = absurd (omega arith)
+  end-one (suc zero) h l e = absurd (omega arith)
+  end-one (suc (suc rt)) h l e = rw (lt-ltb r n l, eq-eqb (number s r) sfn e, wantedEnd)
+
+  pub end-other : (rt : ℕ) → 2 ≤ rt → r < n → (number s r ≡ sfn → ⊥) → wantedEnd rt s n sfn r ≡ r
+  unfolding wantedEnd
+  end-other zero h l e = absurd (omega arith)
+  end-other (suc zero) h l e = absurd (omega arith)
+  end-other (suc (suc rt)) h l e = rw (lt-ltb r n l, ne-eqb (number s r) sfn e, wantedEnd)
+
+-- ---- sizes
+
+module _ (s : List ℕ) (from to : ℕ) where
+  pub sizes-current : (rt : ℕ) → rt ≡ 1 → entriesSize rt s from to ≡ piecesSize rt s from (to - from)
+  unfolding entriesSize
+  sizes-current rt e = rw (eq-eqb rt 1 e, entriesSize)
+
+  pub sizes-span : (rt : ℕ) → (rt ≡ 1 → ⊥) → entriesSize rt s from to ≡ span s from to
+  unfolding entriesSize
+  sizes-span rt e = rw (ne-eqb rt 1 e, entriesSize)
+
+-- ---- feature 0
+
+module _ (s : List ℕ) (sfn : ℕ) where
+  pub zero-sent : sfn ≡ 0 → zeroPart s sfn ≡ zeroBytes s
+  unfolding zeroPart
+  zero-sent e = rw (eq-eqb sfn 0 e, zeroPart)
+
+  pub zero-left : (sfn ≡ 0 → ⊥) → zeroPart s sfn ≡ []
+  unfolding zeroPart
+  zero-left e = rw (ne-eqb sfn 0 e, zeroPart)
+
+  pub zero-size-sent : sfn ≡ 0 → zeroSize s sfn ≡ 4 + 4 * profileCount s
+  unfolding zeroSize
+  zero-size-sent e = rw (eq-eqb sfn 0 e, zeroSize)
+
+  pub zero-size-left : (sfn ≡ 0 → ⊥) → zeroSize s sfn ≡ 0
+  unfolding zeroSize
+  zero-size-left e = rw (ne-eqb sfn 0 e, zeroSize)
+
+-- ---- the current profile: a loop at index i of p
+
+module _ (s : List ℕ) where
+  pub current-here : (i k : ℕ) → current s i ≡ 1 → currentFrom s i (suc k) ≡ profile s i
+  unfolding currentFrom
+  current-here i k e = rw (eq-eqb (current s i) 1 e, currentFrom)
+
+  pub current-on : (i k : ℕ) → (current s i ≡ 1 → ⊥) → currentFrom s i (suc k) ≡ currentFrom s (suc i) k
+  unfolding currentFrom
+  current-on i k e = rw (ne-eqb (current s i) 1 e, currentFrom)
+
+  pub current-found : (p i r : ℕ) → currentFrom s 0 p ≡ currentFrom s i (p - i) → i < p → current s i ≡ 1 → r ≡ profile s i → r ≡ currentFrom s 0 p
+  current-found p i r e h k q =
+      q ∙ sym (e ∙ ap (currentFrom s i) {x = p - i} {y = suc (p - suc i)} (omega arith) ∙ current-here i (p - suc i) k)
+
+  pub current-more : (p i : ℕ) → currentFrom s 0 p ≡ currentFrom s i (p - i) → i < p → (current s i ≡ 1 → ⊥) → currentFrom s 0 p ≡ currentFrom s (i + 1) (p - (i + 1))
+  current-more p i e h k =
+      e ∙ ap (currentFrom s i) {x = p - i} {y = suc (p - suc i)} (omega arith) ∙ current-on i (p - suc i) k ∙ rw add-one
+
+  pub current-end : (p i : ℕ) → currentFrom s 0 p ≡ currentFrom s i (p - i) → p ≤ i → 0 ≡ currentFrom s 0 p
+  unfolding currentFrom
+  current-end p i e h = sym (e ∙ ap (currentFrom s i) {x = p - i} {y = 0} (omega arith))
+
+-- ---- bisection: a range that closes in on the first entry wanted
+
+pub record Closing (s : List ℕ) (n sfn low high : ℕ) : Type 0 where
+  pub ordered : low ≤ high
+  pub within : high ≤ n
+  pub before : 0 < low → number s (low - 1) < sfn
+  pub behind : high < n → sfn ≤ number s high
+
+pub closing-start : (s : List ℕ) (n sfn : ℕ) → Closing s n sfn 0 n
+closing-start s n sfn = record { ordered = omega arith; within = omega arith; before = λ h. absurd (omega arith); behind = λ h. absurd (omega arith) }
+
+pub closing-more : {s : List ℕ} {n sfn low high l h : ℕ} → Closing s n sfn low high → Halved s sfn low high l h → Closing s n sfn l h
+closing-more {s} {n} {sfn} {low} {high} {l} {h} c r = record {
+  ordered = r .ordered;
+  within = omega (arith, r .below, c .within);
+  before = λ p. elim (decLe (suc low) l) [ yes q ↦ r .before q | no q ↦ (let e : l ≡ low = omega (arith, r .above) in rw e (c .before (omega arith))) ];
+  behind = λ p. elim (decLe (suc h) high) [ yes q ↦ r .behind q | no q ↦ (let e : h ≡ high = omega (arith, r .below) in rw e (c .behind (omega arith))) ];
+}
+
+pub closing-end : {s : List ℕ} {n sfn low high : ℕ} → Closing s n sfn low high → high ≤ low → First s n sfn low
+closing-end {s} {n} {sfn} {low} {high} c h = record {
+  within = omega (arith, c .ordered, c .within);
+  before = c .before;
+  behind = λ p. let e : low ≡ high = omega (arith, c .ordered) in rw e (c .behind (omega arith));
+}
+
+-- ---- an end of a body takes little more than four bytes
+
+pub end-low : (s : List ℕ) (i : ℕ) → Bytes s → endBefore s i < 4294967552
+unfolding endBefore offset bodyLength featureCount profileCount
+end-low s zero b = omega (arith, field-lt 2 s 0 b, field-lt 2 s 2 b)
+end-low s (suc i) b = omega (arith, field-lt 4 s (entryAt i + 4) b, b (entryAt i + 3))

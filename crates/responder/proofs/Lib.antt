@@ -1,0 +1,9 @@
+-- Laws that this crate's proofs and those above it cite.
+pub mod Laws
+pub mod Entries
+pub mod Zero
+pub mod Chosen
+pub mod Sizes
+pub mod Full
+pub mod Answers
+pub mod FromPlan

@@ -1,0 +1,27 @@
+-- `responder::respond_accepted` meets its contract: the command's refusal, or what is sent.
+use mathlib.Core.Path.{_≡_, sym, ap, _∙_}
+use Rattle.text.specs.declared.Command.{Command}
+use Rattle.text.specs.Command.{commandOf, commandFault}
+use Rattle.responder.specs.Answer.{requested, commanded}
+use Rattle.responder.proofs.Answers.{unless-none, unless-fault}
+use borrow.Author.Needs.{needs}
+use Rattle.responder.proofs.respond_accepted.Statement.{statement}
+use Rattle.responder.proofs.respond_accepted.Tie as tie
+
+returns : tie.Need-returns
+unfolding commanded
+returns c =
+    let a = c .before .before .before .before .before .before .args in
+    rw (← c .before .before .fault .ensures) (unless-fault (c .before .before .fault .result) _ (a .out .now) (c .if1 .taken))
+
+returns-2 : tie.Need-returns-2
+unfolding commanded commandOf
+returns-2 c =
+    let a = c .before .before .before .before .before .before .before .before .before .before .before .args in
+    c .before .before .send .ensures
+    ∙ ap (λ (k : Command). requested (a .s .now) (k .rt) (k .sfn .0) (k .allocation) (a .out .now)) (c .before .before .before .before .read .ensures)
+    ∙ sym (unless-none (commandFault (a .command .now)) _ (a .out .now) (sym (ap (λ r. r .number) (c .before .before .before .before .before .before .before .fault .ensures)) ∙ c .before .before .before .before .before .if1 .left))
+
+pub respond-accepted-spec : {M : Type 1} → statement M
+respond-accepted-spec =
+    tie.close (tie.spec (λ c κs. search needs) returns (λ c κs. search needs) (λ c κs. search needs) (λ c. search needs) returns-2)

@@ -1,0 +1,16 @@
+-- `responder::skipped` meets its contract.
+use Rattle.text.proofs.First.{tests}
+use Rattle.responder.specs.Index.{skips}
+use Rattle.responder.proofs.skipped.Statement.{statement}
+use Rattle.responder.proofs.skipped.Tie as tie
+
+returns : tie.Need-returns
+unfolding skips
+returns c = search tests
+
+returns-2 : tie.Need-returns-2
+unfolding skips
+returns-2 c = search tests
+
+pub skipped-spec : {M : Type 1} → statement M
+skipped-spec = tie.close (tie.spec returns returns-2)

@@ -1,0 +1,328 @@
+// The box: a sheet, a command and a lent buffer in; the refusal or the count of bytes sent out.
+ghost use mathlib.Core.Path.{_≡_};
+ghost use mathlib.Core.List.{_++_};
+ghost use Prim.Native.Nat.{_+_, _-_, _*_, _≤_, _<_, min};
+ghost use Rattle.lent.specs.Wrote.{Wrote};
+ghost use Rattle.text.specs.Response.{header};
+ghost use Rattle.layout.specs.Layout.{profileCount};
+ghost use Rattle.sheet.specs.Check.{Accepted};
+ghost use Rattle.responder.specs.Answer.{outcome, requested, commanded, answered};
+ghost use Rattle.responder.specs.Index.{First, Halved, wantedEnd, skips, entryBytes, piece, pieces, pieceSize, piecesSize, span, entriesSize, zeroBytes, zeroPart, zeroSize, currentFrom, Planned, fullBytes};
+use text::Command;
+use text::Feature;
+use text::Header;
+use text::Profile;
+use text::Refusal;
+
+// What a command is answered: the refusal or none, and how many bytes were sent.
+pub struct Reply {
+    pub refusal: Refusal,
+    pub count: usize,
+}
+
+// ---- which entries are wanted
+
+struct Range {
+    low: u16,
+    high: u16,
+}
+
+// The half of a range where the first entry numbered sfn or more is.
+fn halved(s: &[u8], sfn: u16, low: u16, high: u16) -> Range
+    requires { ⌜ low < high ⌝ }
+    ensures { λ r. ⌜ Halved (now (s .entry)) sfn low high (r .low) (r .high) ⌝ }
+{
+    let middle = low + (high - low) / 2;
+    let feature = layout::feature_at(s, middle);
+    if feature.0 < sfn {
+        return Range {
+            low: middle + 1,
+            high: high,
+        };
+    }
+    Range {
+        low: low,
+        high: middle,
+    }
+}
+
+// The first of n entries numbered sfn or more, n if there is none.
+fn first_from(s: &[u8], n: u16, sfn: u16) -> u16
+    ensures { λ r. ⌜ First (now (s .entry)) n sfn r ⌝ }
+{
+    let mut low: u16 = 0;
+    let mut high = n;
+    while low < high {
+        let half = halved(s, sfn, low, high);
+        low = half.low;
+        high = half.high;
+    }
+    low
+}
+
+// The end of the wanted entries that start at from.
+fn wanted_end(s: &[u8], rt: u8, n: u16, sfn: u16, from: u16) -> u16
+    ensures { λ r. ⌜ r ≡ wantedEnd rt (now (s .entry)) n sfn from ⌝ }
+{
+    if rt < 2 {
+        return n;
+    }
+    if n <= from {
+        return from;
+    }
+    let feature = layout::feature_at(s, from);
+    if feature.0 == sfn {
+        return from + 1;
+    }
+    from
+}
+
+// RT 1 passes over what is not current.
+fn skipped(rt: u8, flags: u8) -> bool
+    ensures { λ r. ⌜ r ≡ skips rt flags ⌝ }
+{
+    if rt != 1 {
+        return false;
+    }
+    flags % 2 == 0
+}
+
+// ---- how many bytes they are
+
+fn piece_size(s: &[u8], rt: u8, i: u16) -> usize
+    ensures { λ r. ⌜ (r ≡ pieceSize rt (now (s .entry)) i) × (r < 260) ⌝ }
+{
+    if skipped(rt, layout::flags_at(s, i)) {
+        return 0;
+    }
+    4 + layout::length_at(s, i) as usize
+}
+
+fn pieces_size(s: &[u8], rt: u8, from: u16, to: u16) -> usize
+    ensures { λ r. ⌜ (r ≡ piecesSize rt (now (s .entry)) from (to - from)) × (r ≤ 259 * (to - from)) ⌝ }
+{
+    let mut size: usize = 0;
+    let mut i = from;
+    while i < to {
+        size += piece_size(s, rt, i);
+        i += 1;
+    }
+    size
+}
+
+// a - b, 0 where b is larger.
+fn difference(a: usize, b: usize) -> usize
+    ensures { λ r. ⌜ r ≡ a - b ⌝ }
+{
+    if a < b {
+        return 0;
+    }
+    a - b
+}
+
+// From the offsets, with no look at the entries between.
+fn span_size(s: &[u8], from: u16, to: u16) -> usize
+    ensures { λ r. ⌜ (r ≡ span (now (s .entry)) from to) × (r < 5000000000) ⌝ }
+{
+    let start = sheet::end_before(s, from);
+    let end = sheet::end_before(s, to);
+    let bodies = difference(end, start);
+    4 * difference(to as usize, from as usize) + bodies
+}
+
+fn entries_size(s: &[u8], rt: u8, from: u16, to: u16) -> usize
+    ensures { λ r. ⌜ (r ≡ entriesSize rt (now (s .entry)) from to) × (r < 5000000000) ⌝ }
+{
+    if rt == 1 {
+        return pieces_size(s, rt, from, to);
+    }
+    span_size(s, from, to)
+}
+
+fn zero_size(s: &[u8], sfn: u16) -> usize
+    ensures { λ r. ⌜ (r ≡ zeroSize (now (s .entry)) sfn) × (r < 300000) ⌝ }
+{
+    if sfn == 0 {
+        return 4 + 4 * (layout::profile_count(s) as usize);
+    }
+    0
+}
+
+struct Plan {
+    from: u16,
+    to: u16,
+    size: usize,
+}
+
+// The entries that a request takes, and how many bytes stand behind the header.
+fn planned(s: &[u8], rt: u8, sfn: u16) -> Plan
+    ensures { λ r. ⌜ Planned (now (s .entry)) rt sfn r ⌝ }
+{
+    let n = layout::feature_count(s);
+    let from = first_from(s, n, sfn);
+    let to = wanted_end(s, rt, n, sfn, from);
+    let zero = zero_size(s, sfn);
+    let rest = entries_size(s, rt, from, to);
+    Plan {
+        from: from,
+        to: to,
+        size: zero + rest,
+    }
+}
+
+// ---- the bytes, as far as the buffer has room
+
+fn put_entry(out: &mut [u8], at: usize, s: &[u8], i: u16) -> usize
+    ensures { λ r. ⌜ Wrote (now (out .entry)) at (entryBytes (now (s .entry)) i) r (now (out .exit)) ⌝ }
+{
+    let feature = layout::feature_at(s, i);
+    let length = layout::length_at(s, i);
+    let body = fields::part(s, layout::offset_at(s, i) as usize, length as usize);
+    let a = lent::put2(out, at, feature.0);
+    let b = lent::put(out, a, layout::flags_at(s, i));
+    let c = lent::put(out, b, length);
+    lent::copy(out, c, body)
+}
+
+fn put_piece(out: &mut [u8], at: usize, s: &[u8], rt: u8, i: u16) -> usize
+    ensures { λ r. ⌜ Wrote (now (out .entry)) at (piece rt (now (s .entry)) i) r (now (out .exit)) ⌝ }
+{
+    if skipped(rt, layout::flags_at(s, i)) {
+        return at;
+    }
+    put_entry(out, at, s, i)
+}
+
+// Stops where the buffer is full.
+fn put_pieces(out: &mut [u8], at: usize, s: &[u8], rt: u8, from: u16, to: u16) -> usize
+    ensures { λ r. ⌜ Wrote (now (out .entry)) at (pieces rt (now (s .entry)) from (to - from)) r (now (out .exit)) ⌝ }
+{
+    let mut next = at;
+    let mut i = from;
+    while i < to {
+        if out.len() <= next {
+            return next;
+        }
+        next = put_piece(out, next, s, rt, i);
+        i += 1;
+    }
+    next
+}
+
+// Feature 0, straight from the profiles.
+fn put_zero(out: &mut [u8], at: usize, s: &[u8]) -> usize
+    ensures { λ r. ⌜ Wrote (now (out .entry)) at (zeroBytes (now (s .entry))) r (now (out .exit)) ⌝ }
+{
+    let length = 4 * (layout::profile_count(s) as usize) % 256;
+    let a = lent::put2(out, at, 0);
+    let b = lent::put(out, a, 3);
+    let c = lent::put(out, b, length as u8);
+    lent::copy(out, c, layout::profiles_part(s))
+}
+
+fn put_zero_part(out: &mut [u8], at: usize, s: &[u8], sfn: u16) -> usize
+    ensures { λ r. ⌜ Wrote (now (out .entry)) at (zeroPart (now (s .entry)) sfn) r (now (out .exit)) ⌝ }
+{
+    if sfn == 0 {
+        return put_zero(out, at, s);
+    }
+    at
+}
+
+fn put_header(out: &mut [u8], at: usize, h: Header) -> usize
+    ensures { λ r. ⌜ Wrote (now (out .entry)) at (header (h .data_length) (h .profile .0)) r (now (out .exit)) ⌝ }
+{
+    let profile = h.profile;
+    let a = lent::put4(out, at, h.data_length);
+    let b = lent::put2(out, a, 0);
+    lent::put2(out, b, profile.0)
+}
+
+// The first listed profile that is current, 0 if none.
+fn current_profile(s: &[u8], p: u16) -> Profile
+    ensures { λ r. ⌜ r .0 ≡ currentFrom (now (s .entry)) 0 p ⌝ }
+{
+    let mut i: u16 = 0;
+    while i < p {
+        if layout::current_at(s, i) == 1 {
+            return layout::profile_at(s, i);
+        }
+        i += 1;
+    }
+    Profile(0)
+}
+
+// The whole response.
+fn put_full(out: &mut [u8], s: &[u8], rt: u8, sfn: u16, from: u16, to: u16, h: Header) -> usize
+    ensures { λ r. ⌜ Wrote (now (out .entry)) 0 (fullBytes (now (s .entry)) rt sfn from to (h .data_length) (h .profile .0)) r (now (out .exit)) ⌝ }
+{
+    let a = put_header(out, 0, h);
+    let b = put_zero_part(out, a, s, sfn);
+    put_pieces(out, b, s, rt, from, to)
+}
+
+// ---- the answers
+
+fn least(a: usize, b: usize) -> usize
+    ensures { λ r. ⌜ r ≡ min a b ⌝ }
+{
+    if a < b {
+        return a;
+    }
+    b
+}
+
+// Answers a request from a sheet that is accepted, with no check of it.
+pub fn send(s: &[u8], rt: u8, sfn: Feature, a: u16, out: &mut [u8]) -> Reply
+    requires { ⌜ Accepted (now s) ⌝ }
+    ensures { λ r. ⌜ outcome r (now (out .exit)) ≡ requested (now (s .entry)) rt (sfn .0) a (now (out .entry)) ⌝ }
+{
+    let plan = planned(s, rt, sfn.0);
+    let limit = least(
+        least(a as usize, Header::RETURN_LIMIT),
+        Header::LENGTH + plan.size,
+    );
+    if out.len() < limit {
+        return Reply {
+            refusal: text::BUFFER_SHORT,
+            count: 0,
+        };
+    }
+    let profile = current_profile(s, layout::profile_count(s));
+    let header = Header::new((plan.size + 4) as u32, profile);
+    let count = put_full(&mut out[..limit], s, rt, sfn.0, plan.from, plan.to, header);
+    Reply {
+        refusal: text::ACCEPTED,
+        count: count,
+    }
+}
+
+// Answers a command from a sheet that is accepted, with no check of it: what a box does that has checked its sheet once.
+pub fn respond_accepted(s: &[u8], command: &[u8], out: &mut [u8]) -> Reply
+    requires { ⌜ Accepted (now s) ⌝ }
+    ensures { λ r. ⌜ outcome r (now (out .exit)) ≡ commanded (now (s .entry)) (now (command .entry)) (now (out .entry)) ⌝ }
+{
+    let fault = Command::fault(command);
+    if fault.number != 0 {
+        return Reply {
+            refusal: fault,
+            count: 0,
+        };
+    }
+    let c = Command::read(command);
+    send(s, c.rt, c.sfn, c.allocation, out)
+}
+
+// Answers a command from any sheet.
+pub fn respond(s: &[u8], command: &[u8], out: &mut [u8]) -> Reply
+    ensures { λ r. ⌜ outcome r (now (out .exit)) ≡ answered (now (s .entry)) (now (command .entry)) (now (out .entry)) ⌝ }
+{
+    let fault = sheet::check(s);
+    if fault.number != 0 {
+        return Reply {
+            refusal: fault,
+            count: 0,
+        };
+    }
+    respond_accepted(s, command, out)
+}
