@@ -2,3 +2,4 @@
 pub mod Sending
 pub mod Readings
 pub mod Stars
+pub mod Decides

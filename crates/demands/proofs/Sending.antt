@@ -1,19 +1,23 @@
 -- Demand 2, first half: "For each accepted sheet and command the bytes sent are exactly those the T10 text defines, cut at the allocation
 -- length or 65,534." Assumes nothing.
 use mathlib.Core.Path.{_≡_, refl, sym, ap, _∙_}
+use mathlib.Core.Logic.{_⊎_}
 use mathlib.Core.List.{List, [], _++_}
 use Prim.Native.Nat.{ℕ, zero, suc, _+_, _-_, _≤_, _<_, min}
 use lib.ListN.{length, take, drop}
 use Rattle.base.specs.Lists.{Bytes}
+use Rattle.fields.specs.Field.{field, spell}
 use Rattle.text.specs.declared.Refusal.{Refusal}
 use Rattle.text.specs.First.{refuse, accept, _orElse_}
 use Rattle.text.specs.Command.{opcodeOf, rtOf, sfnOf, allocationOf, commandFault}
-use Rattle.text.specs.Response.{selected, dataLength, full, sent}
+use Rattle.text.specs.Response.{selected, currentProfile, dataLength, full, sent}
 use Rattle.text.proofs.First.{if-true, if-false}
 use Rattle.text.proofs.Sizes.{length-full, dataLength-full}
-use Rattle.text.proofs.Sent.{sent-prefix, length-sent, sent-dataLength, sent-none, sent-65532, sent-65536}
+use Rattle.text.proofs.Profiles.{Off, FirstOn, current-cases}
+use Rattle.text.proofs.Sent.{sent-prefix, length-sent, sent-dataLength, sent-profile, sent-none, sent-65532, sent-65536}
 use Rattle.sheet.specs.Check.{verdict, Accepted}
 use Rattle.sheet.specs.Meaning.{meaning}
+use Rattle.sheet.proofs.Meaning.{meaning-fine}
 use Rattle.responder.specs.Answer.{Outcome, outcome, refusing, sending, unless, roomRule, requested, commanded, answered}
 use Rattle.responder.proofs.Answers.{unless-none, unless-fault}
 use borrow.Author.Tests.{lt-ltb, le-ltb}
@@ -66,7 +70,7 @@ prefix rt sfn a s = (sent-prefix rt sfn a (meaning s), length-sent rt sfn a (mea
 
 -- Data Length is the full length less 4, and stands in the first four bytes whatever the allocation length that lets them through.
 pub data-length : (rt sfn a : ℕ) (s : List ℕ) → 4 ≤ a
-    → (take 4 (sent rt sfn a (meaning s)) ≡ Rattle.fields.specs.Field.spell 4 (dataLength (selected rt sfn (meaning s))))
+    → (take 4 (sent rt sfn a (meaning s)) ≡ spell 4 (dataLength (selected rt sfn (meaning s))))
     × (dataLength (selected rt sfn (meaning s)) ≡ length (full rt sfn (meaning s)) - 4)
 data-length rt sfn a s h = (sent-dataLength rt sfn a (meaning s) h, dataLength-full rt sfn (meaning s))
 
@@ -76,3 +80,10 @@ pub limits : (rt sfn : ℕ) (s : List ℕ)
     × (length (full rt sfn (meaning s)) ≡ 65532 → sent rt sfn 65535 (meaning s) ≡ full rt sfn (meaning s))
     × (length (full rt sfn (meaning s)) ≡ 65536 → length (sent rt sfn 65535 (meaning s)) ≡ 65534)
 limits rt sfn s = (sent-none rt sfn (meaning s), sent-65532 rt sfn (meaning s), sent-65536 rt sfn (meaning s))
+
+-- The Current Profile is the first listed profile that is current, 0 if none is, and stands in bytes 6 and 7 of what is sent.
+pub current-profile : (s : List ℕ) → (Off (meaning s .profiles) × (currentProfile (meaning s .profiles) ≡ 0)) ⊎ FirstOn (meaning s .profiles)
+current-profile s = current-cases (meaning s .profiles)
+
+pub current-sent : (rt sfn a : ℕ) (s : List ℕ) → Bytes s → Accepted s → 8 ≤ a → field 2 (sent rt sfn a (meaning s)) 6 ≡ currentProfile (meaning s .profiles)
+current-sent rt sfn a s b ok h = sent-profile rt sfn a (meaning s) (meaning-fine s b ok .sound) h

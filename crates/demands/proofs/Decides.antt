@@ -1,0 +1,151 @@
+-- Each public function's own contract, as the toolchain generates it, asks nothing and decides the whole outcome: every returned field, and
+-- every byte of lent memory. One line a function. Assumes nothing.
+use mathlib.Core.Path.{_≡_, refl, ap}
+use mathlib.Core.List.{List}
+use Prim.Native.Nat.{ℕ}
+use denote.Ref.{now}
+use Rattle.base.proofs.Decided.{Decided, DecidedAs, decides, joined, _&_}
+use Rattle.lent.proofs.Laws.{same}
+use Rattle.responder.specs.Answer.{Outcome}
+use Rattle.fields.proofs.byte as byte
+use Rattle.fields.proofs.get2 as get2
+use Rattle.fields.proofs.get3 as get3
+use Rattle.fields.proofs.get4 as get4
+use Rattle.fields.proofs.part as part
+use Rattle.lent.proofs.put as put
+use Rattle.lent.proofs.put2 as put2
+use Rattle.lent.proofs.put4 as put4
+use Rattle.lent.proofs.copy as copy
+use Rattle.lent.proofs.note as note
+use Rattle.lent.proofs.clear as clear
+use Rattle.lent.proofs.clear_list as clear-list
+use Rattle.text.proofs.Command.fault as command-fault
+use Rattle.text.proofs.Command.read as command-read
+use Rattle.text.proofs.Header.new as header-new
+use Rattle.layout.proofs.feature_count as feature-count
+use Rattle.layout.proofs.profile_count as profile-count
+use Rattle.layout.proofs.bodies_at as bodies-at
+use Rattle.layout.proofs.feature_at as feature-at
+use Rattle.layout.proofs.flags_at as flags-at
+use Rattle.layout.proofs.length_at as length-at
+use Rattle.layout.proofs.offset_at as offset-at
+use Rattle.layout.proofs.profile_at as profile-at
+use Rattle.layout.proofs.current_at as current-at
+use Rattle.layout.proofs.last_at as last-at
+use Rattle.layout.proofs.profiles_part as profiles-part
+use Rattle.sheet.proofs.end_before as end-before
+use Rattle.sheet.proofs.check as check
+use Rattle.responder.proofs.respond as respond
+use Rattle.reading.proofs.scan as scan
+use Rattle.reading.proofs.read as read
+use Rattle.reading.proofs.held as held
+
+-- ---- fields
+
+pub byte-decided : Decided byte.ended (λ M. byte.clauses) (λ M. byte.spec)
+byte-decided x = decides (x .𝓤) (λ o o′ p q. (joined p q, refl))
+
+pub get2-decided : Decided get2.ended (λ M. get2.clauses) (λ M. get2.spec)
+get2-decided x = decides (x .𝓤) (λ o o′ p q. (joined p q, refl))
+
+pub get3-decided : Decided get3.ended (λ M. get3.clauses) (λ M. get3.spec)
+get3-decided x = decides (x .𝓤) (λ o o′ p q. (joined p q, refl))
+
+pub get4-decided : Decided get4.ended (λ M. get4.clauses) (λ M. get4.spec)
+get4-decided x = decides (x .𝓤) (λ o o′ p q. (joined p q, refl))
+
+pub part-decided : DecidedAs part.ended (λ M. part.clauses) (λ M. part.spec) (λ κs r. now r)
+part-decided x = decides (x .𝓤) (λ o o′ p q. (joined p q, refl))
+
+-- ---- lent
+
+pub put-decided : Decided put.ended (λ M. put.clauses) (λ M. put.spec)
+put-decided x = decides (x .𝓤) (λ o o′ p q. (same p q .0, same p q .1 & refl))
+
+pub put2-decided : Decided put2.ended (λ M. put2.clauses) (λ M. put2.spec)
+put2-decided x = decides (x .𝓤) (λ o o′ p q. (same p q .0, same p q .1 & refl))
+
+pub put4-decided : Decided put4.ended (λ M. put4.clauses) (λ M. put4.spec)
+put4-decided x = decides (x .𝓤) (λ o o′ p q. (same p q .0, same p q .1 & refl))
+
+pub copy-decided : Decided copy.ended (λ M. copy.clauses) (λ M. copy.spec)
+copy-decided x = decides (x .𝓤) (λ o o′ p q. (same p q .0, same p q .1 & refl))
+
+pub note-decided : Decided note.ended (λ M. note.clauses) (λ M. note.spec)
+note-decided x = decides (x .𝓤) (λ o o′ p q. (same p q .0, same p q .1 & refl))
+
+pub clear-decided : Decided clear.ended (λ M. clear.clauses) (λ M. clear.spec)
+clear-decided x = decides (x .𝓤) (λ o o′ p q. (refl, joined p q & refl))
+
+pub clear-list-decided : Decided clear-list.ended (λ M. clear-list.clauses) (λ M. clear-list.spec)
+clear-list-decided x = decides (x .𝓤) (λ o o′ p q. (refl, joined p q & refl))
+
+-- ---- text
+
+pub command-fault-decided : Decided command-fault.ended (λ M. command-fault.clauses) (λ M. command-fault.spec)
+command-fault-decided x = decides (x .𝓤) (λ o o′ p q. (joined p q, refl))
+
+pub command-read-decided : Decided command-read.ended (λ M. command-read.clauses) (λ M. command-read.spec)
+command-read-decided x = decides (x .𝓤) (λ o o′ p q. (joined p q, refl))
+
+pub header-new-decided : Decided header-new.ended (λ M. header-new.clauses) (λ M. header-new.spec)
+header-new-decided x = decides (x .𝓤) (λ o o′ p q. (joined p q, refl))
+
+-- ---- layout
+
+pub feature-count-decided : Decided feature-count.ended (λ M. feature-count.clauses) (λ M. feature-count.spec)
+feature-count-decided x = decides (x .𝓤) (λ o o′ p q. (joined p q, refl))
+
+pub profile-count-decided : Decided profile-count.ended (λ M. profile-count.clauses) (λ M. profile-count.spec)
+profile-count-decided x = decides (x .𝓤) (λ o o′ p q. (joined p q, refl))
+
+pub bodies-at-decided : Decided bodies-at.ended (λ M. bodies-at.clauses) (λ M. bodies-at.spec)
+bodies-at-decided x = decides (x .𝓤) (λ o o′ p q. (joined p q, refl))
+
+pub flags-at-decided : Decided flags-at.ended (λ M. flags-at.clauses) (λ M. flags-at.spec)
+flags-at-decided x = decides (x .𝓤) (λ o o′ p q. (joined p q, refl))
+
+pub length-at-decided : Decided length-at.ended (λ M. length-at.clauses) (λ M. length-at.spec)
+length-at-decided x = decides (x .𝓤) (λ o o′ p q. (joined p q, refl))
+
+pub offset-at-decided : Decided offset-at.ended (λ M. offset-at.clauses) (λ M. offset-at.spec)
+offset-at-decided x = decides (x .𝓤) (λ o o′ p q. (joined p q, refl))
+
+pub current-at-decided : Decided current-at.ended (λ M. current-at.clauses) (λ M. current-at.spec)
+current-at-decided x = decides (x .𝓤) (λ o o′ p q. (joined p q, refl))
+
+pub last-at-decided : Decided last-at.ended (λ M. last-at.clauses) (λ M. last-at.spec)
+last-at-decided x = decides (x .𝓤) (λ o o′ p q. (joined p q, refl))
+
+pub feature-at-decided : Decided feature-at.ended (λ M. feature-at.clauses) (λ M. feature-at.spec)
+feature-at-decided x = decides (x .𝓤) (λ o o′ p q. ((λ i. record { 0 = joined p q i }), refl))
+
+pub profile-at-decided : Decided profile-at.ended (λ M. profile-at.clauses) (λ M. profile-at.spec)
+profile-at-decided x = decides (x .𝓤) (λ o o′ p q. ((λ i. record { 0 = joined p q i }), refl))
+
+pub profiles-part-decided : DecidedAs profiles-part.ended (λ M. profiles-part.clauses) (λ M. profiles-part.spec) (λ κs r. now r)
+profiles-part-decided x = decides (x .𝓤) (λ o o′ p q. (joined p q, refl))
+
+-- ---- sheet
+
+pub end-before-decided : Decided end-before.ended (λ M. end-before.clauses) (λ M. end-before.spec)
+end-before-decided x = decides (x .𝓤) (λ o o′ p q. (joined p q, refl))
+
+pub check-decided : Decided check.ended (λ M. check.clauses) (λ M. check.spec)
+check-decided x = decides (x .𝓤) (λ o o′ p q. (joined p q, refl))
+
+-- ---- responder
+
+pub respond-decided : Decided respond.ended (λ M. respond.clauses) (λ M. respond.spec)
+respond-decided x = decides (x .𝓤) (λ o o′ p q. (ap (λ (z : Outcome). z .reply) (joined p q), refl & refl & ap (λ (z : Outcome). z .buffer) (joined p q) & refl))
+
+-- ---- reading
+
+pub scan-decided : Decided scan.ended (λ M. scan.clauses) (λ M. scan.spec)
+scan-decided x = decides (x .𝓤) (λ o o′ p q. (joined p q, refl))
+
+pub read-decided : Decided read.ended (λ M. read.clauses) (λ M. read.spec)
+read-decided x = decides (x .𝓤) (λ o o′ p q. (joined p q, refl))
+
+pub held-decided : DecidedAs held.ended (λ M. held.clauses) (λ M. held.spec) (λ κs r. now r)
+held-decided x = decides (x .𝓤) (λ o o′ p q. (joined p q, refl))
