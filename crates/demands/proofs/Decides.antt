@@ -39,6 +39,10 @@ use Rattle.responder.proofs.respond as respond
 use Rattle.reading.proofs.scan as scan
 use Rattle.reading.proofs.read as read
 use Rattle.reading.proofs.held as held
+use Rattle.sweep.proofs.most as most
+use Rattle.sweep.proofs.Sweep.start as sweep-start
+use Rattle.sweep.proofs.Sweep.take as sweep-take
+use Rattle.sweep.proofs.take_response as take-response
 
 -- ---- fields
 
@@ -149,3 +153,17 @@ read-decided x = decides (x .𝓤) (λ o o′ p q. (joined p q, refl))
 
 pub held-decided : DecidedAs held.ended (λ M. held.clauses) (λ M. held.spec) (λ κs r. now r)
 held-decided x = decides (x .𝓤) (λ o o′ p q. (joined p q, refl))
+
+-- ---- sweep
+
+pub most-decided : Decided most.ended (λ M. most.clauses) (λ M. most.spec)
+most-decided x = decides (x .𝓤) (λ o o′ p q. (joined p q, refl))
+
+pub sweep-start-decided : Decided sweep-start.ended (λ M. sweep-start.clauses) (λ M. sweep-start.spec)
+sweep-start-decided x = decides (x .𝓤) (λ o o′ p q. (joined p q, refl))
+
+pub sweep-take-decided : Decided sweep-take.ended (λ M. sweep-take.clauses) (λ M. sweep-take.spec)
+sweep-take-decided x = decides (x .𝓤) (λ o o′ p q. (joined (p .0) (q .0), refl & refl & joined (p .1) (q .1) & refl))
+
+pub take-response-decided : Decided take-response.ended (λ M. take-response.clauses) (λ M. take-response.spec)
+take-response-decided x = decides (x .𝓤) (λ o o′ p q. (joined (p .0) (q .0), joined (p .1) (q .1) & refl & joined (p .2) (q .2) & refl))

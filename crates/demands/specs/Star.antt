@@ -3,6 +3,8 @@ use mathlib.Core.List.{List, [], _∷_, _++_}
 use Prim.Native.Nat.{ℕ}
 use lib.ListN.{take, replicate}
 use Rattle.responder.specs.Answer.{Outcome, answered}
+use Rattle.bench.specs.Bench as Swept
+use Rattle.bench.specs.Bench.{benched}
 use Rattle.demands.specs.Recorder.{sheetE, sheetE′, command}
 
 -- what a definition gives, and what the paper's line says, as numbers
@@ -17,6 +19,14 @@ shown o = o .reply .refusal .number ∷ o .reply .count ∷ take (o .reply .coun
 -- the box's answer to RT, SFN and allocation length, in a buffer of 64 bytes
 unfoldable pub asked : (s : List ℕ) (rt sfn a : ℕ) → List ℕ
 asked s rt sfn a = shown (answered s (command rt sfn a) (replicate 64 0xEE))
+
+-- a bench sweep in numbers: the refusal, and the starts that were written
+unfoldable pub started : Swept.Outcome → List ℕ
+started o = o .reply .refusal .number ∷ take (o .reply .commands) (o .starts)
+
+-- the bench sweep of a sheet with RT 0, with room for 64 bytes and 8 starts
+unfoldable pub swept : (s : List ℕ) (a : ℕ) → List ℕ
+swept s a = started (benched s 0 a (replicate 64 0xEE) (replicate 64 0xEE) (replicate 8 0xEE))
 
 unfoldable pub stars : List Star
 stars =
@@ -43,4 +53,8 @@ stars =
     ∷ record { gives = take 6 (asked sheetE′ 1 0 44); paper = 0 ∷ 40 ∷ 0 ∷ 0 ∷ 0 ∷ 36 ∷ [] }
     -- RT 3: 11
     ∷ record { gives = asked sheetE 3 0 44; paper = 11 ∷ 0 ∷ [] }
+    -- sweep, A 20: starts 0, 1, 2, 0020h. A 43: 0, 0020h. A 19: 23
+    ∷ record { gives = swept sheetE 20; paper = 0 ∷ 0 ∷ 1 ∷ 2 ∷ 0x0020 ∷ [] }
+    ∷ record { gives = swept sheetE 43; paper = 0 ∷ 0 ∷ 0x0020 ∷ [] }
+    ∷ record { gives = swept sheetE 19; paper = 23 ∷ [] }
     ∷ []

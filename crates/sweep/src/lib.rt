@@ -1,5 +1,12 @@
 // The driver's sweep: one response at a time.
+ghost use mathlib.Core.Path.{_≡_};
+ghost use mathlib.Core.Bool.{false};
+ghost use Prim.Native.Nat.{_-_, _<_};
+ghost use Rattle.sweep.specs.Sweep.{most, startRule, openRule, started, stepped, collecting};
+ghost use Rattle.sweep.specs.Numbers.{closedRule, cutRule, spaceRule, scanRule, refusing, moved};
+use reading::Scanned;
 use text::Feature;
+use text::Header;
 use text::Refusal;
 
 // A sweep so far. Any record may be handed in, one that no sweep reaches too.
@@ -16,4 +23,226 @@ pub struct Sweep {
 pub struct Step {
     pub refusal: Refusal,
     pub sweep: Sweep,
+}
+
+// The highest feature number: no start comes behind it.
+const LAST_FEATURE: u16 = 65535;
+
+// ---- the rules, on numbers
+
+fn start_rule(rt: u8, allocation: u16) -> Refusal
+    ensures { λ r. ⌜ r ≡ startRule rt allocation ⌝ }
+{
+    if rt > 1 {
+        return text::SWEEP_RT_BAD;
+    }
+    if (allocation as usize) < Header::LENGTH {
+        return text::ALLOCATION_SHORT;
+    }
+    text::ACCEPTED
+}
+
+// What is refused of a cut response of so many bytes, with so many whole descriptors, the last numbered last.
+fn cut_rule(complete: bool, received: usize, most: usize, count: u32, last: u16) -> Refusal
+    ensures { λ r. ⌜ r ≡ cutRule complete received most count last ⌝ }
+{
+    if complete {
+        return text::ACCEPTED;
+    }
+    if received < most {
+        return text::CUT_SHORT;
+    }
+    if count == 0 {
+        return text::NONE_WHOLE;
+    }
+    if last == LAST_FEATURE {
+        return text::CUT_AT_LAST;
+    }
+    text::ACCEPTED
+}
+
+// Size bytes behind those collected need room.
+fn space_rule(collected: usize, size: usize, room: usize) -> Refusal
+    ensures { λ r. ⌜ r ≡ spaceRule collected size room ⌝ }
+{
+    if room < collected {
+        return text::COLLECTED_FULL;
+    }
+    if room - collected < size {
+        return text::COLLECTED_FULL;
+    }
+    text::ACCEPTED
+}
+
+// C: the most bytes that a response to an allocation length has.
+pub fn most(allocation: u16) -> usize
+    ensures { λ r. ⌜ r ≡ most allocation ⌝ }
+{
+    if (allocation as usize) < Header::RETURN_LIMIT {
+        return allocation as usize;
+    }
+    Header::RETURN_LIMIT
+}
+
+// How many bytes stand behind the header, up to end.
+fn behind_header(end: usize) -> usize
+    ensures { λ r. ⌜ r ≡ end - 8 ⌝ }
+{
+    if end < Header::LENGTH {
+        return 0;
+    }
+    end - Header::LENGTH
+}
+
+impl Sweep {
+    // The most responses that a started sweep accepts.
+    pub const MOST_COMMANDS: u32 = 65536;
+
+    fn open_rule(self) -> Refusal
+        ensures { λ r. ⌜ r ≡ openRule self ⌝ }
+    {
+        if self.ended {
+            return text::SWEEP_ENDED;
+        }
+        if self.commands >= Sweep::MOST_COMMANDS {
+            return text::SWEEP_ENDED;
+        }
+        text::ACCEPTED
+    }
+
+    // What a record refuses whatever the response.
+    fn closed_rule(self) -> Refusal
+        ensures { λ r. ⌜ r ≡ closedRule self ⌝ }
+    {
+        let fault = start_rule(self.rt, self.allocation);
+        if fault.number != 0 {
+            return fault;
+        }
+        self.open_rule()
+    }
+
+    // What an open record refuses of a scan.
+    fn scan_rule(self, scan: Scanned, received: usize, room: usize) -> Refusal
+        ensures { λ r. ⌜ r ≡ scanRule self scan received room ⌝ }
+    {
+        let reading = scan.reading;
+        let last = scan.last;
+        let fault = reading.refusal;
+        if fault.number != 0 {
+            return fault;
+        }
+        let fault = cut_rule(
+            reading.complete,
+            received,
+            most(self.allocation),
+            reading.count,
+            last.0,
+        );
+        if fault.number != 0 {
+            return fault;
+        }
+        space_rule(self.collected, behind_header(reading.end), room)
+    }
+
+    // A refusal. A cut response with no whole descriptor ends the sweep, any other refusal leaves it as it was.
+    fn refused(self, fault: Refusal) -> Step
+        ensures { λ r. ⌜ r ≡ refusing fault self ⌝ }
+    {
+        let mut sweep = self;
+        if fault.number == text::NONE_WHOLE.number {
+            sweep.ended = true;
+            return Step {
+                refusal: fault,
+                sweep: sweep,
+            };
+        }
+        Step {
+            refusal: fault,
+            sweep: sweep,
+        }
+    }
+
+    // The record that an accepted scan gives, with so many bytes collected.
+    fn moved_on(self, scan: Scanned, collected: usize) -> Sweep
+        requires { ⌜ (self .commands < 65536) × (scan .reading .complete ≡ false → scan .last .0 ≡ 65535 → ⊥) ⌝ }
+        ensures { λ r. ⌜ r ≡ moved self scan collected ⌝ }
+    {
+        let reading = scan.reading;
+        let last = scan.last;
+        let mut sweep = self;
+        sweep.commands += 1;
+        sweep.collected = collected;
+        sweep.ended = reading.complete;
+        if reading.complete {
+            return sweep;
+        }
+        let next = Feature(last.0 + 1);
+        sweep.next = next;
+        sweep
+    }
+
+    // Starts a sweep.
+    pub fn start(rt: u8, allocation: u16) -> Step
+        ensures { λ r. ⌜ r ≡ started rt allocation ⌝ }
+    {
+        let fault = start_rule(rt, allocation);
+        if fault.number != 0 {
+            return Step {
+                refusal: fault,
+                sweep: Sweep {
+                    rt: 0,
+                    allocation: 0,
+                    next: Feature(0),
+                    commands: 0,
+                    collected: 0,
+                    ended: true,
+                },
+            };
+        }
+        Step {
+            refusal: fault,
+            sweep: Sweep {
+                rt: rt,
+                allocation: allocation,
+                next: Feature(0),
+                commands: 0,
+                collected: 0,
+                ended: false,
+            },
+        }
+    }
+
+    // Takes the response to the sweep's next command: its whole descriptors are added behind those collected.
+    pub fn take(self, response: &[u8], out: &mut [u8]) -> Step
+        ensures { λ r. ⌜ (r ≡ stepped self (now (response .entry)) (now (out .entry)))
+            × (now (out .exit) ≡ collecting self (now (response .entry)) (now (out .entry))) ⌝ }
+    {
+        let fault = self.closed_rule();
+        if fault.number != 0 {
+            return self.refused(fault);
+        }
+        let scan = reading::scan(most(self.allocation), self.rt, self.next, response);
+        let fault = self.scan_rule(scan, response.len(), out.len());
+        if fault.number != 0 {
+            return self.refused(fault);
+        }
+        let reading = scan.reading;
+        let whole = fields::part(response, Header::LENGTH, behind_header(reading.end));
+        let collected = lent::copy(out, self.collected, whole);
+        Step {
+            refusal: fault,
+            sweep: self.moved_on(scan, collected),
+        }
+    }
+}
+
+// The driver's entry with the record lent: the step on what it holds, and the record from then on put back.
+pub fn take_response(record: &mut Sweep, response: &[u8], out: &mut [u8]) -> Refusal
+    ensures { λ r. ⌜ (r ≡ stepped (now («record» .entry)) (now (response .entry)) (now (out .entry)) .refusal)
+        × (now («record» .exit) ≡ stepped (now («record» .entry)) (now (response .entry)) (now (out .entry)) .sweep)
+        × (now (out .exit) ≡ collecting (now («record» .entry)) (now (response .entry)) (now (out .entry))) ⌝ }
+{
+    let step = (*record).take(response, out);
+    *record = step.sweep;
+    step.refusal
 }

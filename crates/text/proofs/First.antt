@@ -38,6 +38,16 @@ pub orElse-fault : (a b : Refusal) → (a .number ≡ 0 → ⊥) → a orElse b 
 unfolding _orElse_
 orElse-fault a b h = pick-suc (a .number) a b h
 
+-- three in a row
+pub orElse-assoc : (a b c : Refusal) → ((a orElse b) orElse c) ≡ (a orElse b orElse c)
+orElse-assoc a b c = go (a .number) refl
+  where
+    go : (n : ℕ) → a .number ≡ n → ((a orElse b) orElse c) ≡ (a orElse b orElse c)
+    go zero e = ap (λ (x : Refusal). x orElse c) (orElse-none a b e) ∙ sym (orElse-none a (b orElse c) e)
+    go (suc n) e =
+        let k : a .number ≡ 0 → ⊥ = λ z. omega arith in
+        ap (λ (x : Refusal). x orElse c) (orElse-fault a b k) ∙ orElse-fault a c k ∙ sym (orElse-fault a (b orElse c) k)
+
 -- the tests on a way turned into the answer's case
 pub ruleset tests = (lt-ltb, le-ltb, le-leb, lt-leb, eq-eqb, ne-eqb, if-true, if-false, orElse-none, orElse-fault)
 

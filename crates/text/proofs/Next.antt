@@ -1,5 +1,5 @@
 -- The next start of a sweep, one above the last number that was received whole, wants just what is left. Assumes nothing.
-use mathlib.Core.Path.{_≡_, sym, ap, _∙_}
+use mathlib.Core.Path.{_≡_, refl, sym, ap, _∙_}
 use mathlib.Core.List.{List, [], _∷_, _++_}
 use Prim.Native.Nat.{ℕ, _+_, _≤_, _<_}
 use native.Mathlib.Omega.{arith}
@@ -64,3 +64,12 @@ module _ {m : Drive} (good : Sound m) (rt room sfn : ℕ) (some : 0 < length (wh
       go : {n : ℕ} (ys : List Desc) → 0 < length ys → Asc n ys → All Good ys → n < 65536
       go [] l a g = absurd (omega arith)
       go (y ∷ ys) l a g = omega (arith, a .0, g .0 .number-low)
+
+-- ---- the last number of two lists
+
+pub last-append : (xs ys : List Desc) → 0 < length ys → lastNumber (xs ++ ys) ≡ lastNumber ys
+unfolding lastNumber
+last-append [] ys h = refl
+last-append (x ∷ []) [] h = absurd (omega arith)
+last-append (x ∷ []) (y ∷ ys) h = refl
+last-append (x ∷ e ∷ xs) ys h = last-append (e ∷ xs) ys h

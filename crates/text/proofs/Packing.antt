@@ -7,7 +7,7 @@ use native.Mathlib.Omega.{arith}
 use lib.ListN.{length, length-append}
 use borrow.Author.Tests.{le-leb, lt-leb}
 use Rattle.base.specs.Lists.{flat, All}
-use Rattle.base.proofs.Lists.{all-left, all-right}
+use Rattle.base.proofs.Lists.{all-append, all-left, all-right}
 use Rattle.text.specs.Drive.{Desc}
 use Rattle.text.specs.Response.{bytes}
 use Rattle.text.specs.Packing.{size, total, whole, rest, groups, joined, cuts}
@@ -203,3 +203,43 @@ module _ (room : ℕ) where
       let r : Packed n (d ∷ ds) = packed n (d ∷ ds) a (omega (arith, cuts-length (room - size d) ds)) in
       let k : length (groups room n (d ∷ ds)) - 1 ≡ cuts room room (d ∷ ds) = omega (arith, r .count) in
       (r .all, rw k (cuts-bound d ds a))
+
+-- ---- what rounds take fits
+
+total-each : (room : ℕ) (ds : List Desc) → total ds ≤ room → All (Fits room) ds
+unfolding total
+total-each room [] h = tt
+total-each room (d ∷ ds) h = (omega arith, total-each room ds (omega arith))
+
+pub whole-fits : (room : ℕ) (ds : List Desc) → All (Fits room) (whole room ds)
+whole-fits room ds = total-each room (whole room ds) (whole-total room ds)
+
+-- where nothing fits the first does not
+pub whole-none : (room : ℕ) (d : Desc) (ds : List Desc) → whole room (d ∷ ds) ≡ [] → room < size d
+whole-none room d ds e = ⊎-elim
+    (λ (h : size d ≤ room). absurd (cons≢nil (sym (whole-fit room d ds h) ∙ e)))
+    (λ (h : room < size d). h)
+    (le-or-lt (size d) room)
+
+module _ (room : ℕ) where
+  pub groups-some : (n : ℕ) (ds : List Desc) → 0 < n → 0 < length (groups room n ds)
+  groups-some zero ds h = absurd (omega arith)
+  groups-some (suc n) ds h = go (rest room ds) refl
+    where
+      go : (xs : List Desc) → rest room ds ≡ xs → 0 < length (groups room (suc n) ds)
+      go [] e = rw (groups-last room n ds e) (omega arith)
+      go (x ∷ xs) e = rw (groups-more room n ds x xs e) (omega arith)
+
+  pub groups-fit : (n : ℕ) (ds : List Desc) → All (Fits room) (joined (groups room n ds))
+  unfolding groups joined
+  groups-fit zero ds = tt
+  groups-fit (suc n) ds = go (rest room ds) refl (groups-fit n)
+    where
+      go : (xs : List Desc) → rest room ds ≡ xs → ((xs : List Desc) → All (Fits room) (joined (groups room n xs))) → All (Fits room) (joined (groups room (suc n) ds))
+      go [] e ih = rw (groups-last room n ds e) (all-append (Fits room) (whole room ds) [] (whole-fits room ds) tt)
+      go (x ∷ xs) e ih = rw (groups-more room n ds x xs e) (all-append (Fits room) (whole room ds) (joined (groups room n (x ∷ xs))) (whole-fits room ds) (ih (x ∷ xs)))
+
+-- ---- the bytes of what fits and of what is left
+
+pub flat-parts : (room : ℕ) (ds : List Desc) → length (flat bytes ds) ≡ length (flat bytes (whole room ds)) + length (flat bytes (rest room ds))
+flat-parts room ds = omega (arith, total-parts room ds, length-flat-bytes ds, length-flat-bytes (whole room ds), length-flat-bytes (rest room ds))

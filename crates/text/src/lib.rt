@@ -128,3 +128,20 @@ impl Header {
         }
     }
 }
+
+// A sweep's refusals.
+pub const SWEEP_RT_BAD: Refusal = Refusal { number: 21 };
+
+pub const ALLOCATION_SHORT: Refusal = Refusal { number: 22 };
+
+pub const NONE_WHOLE: Refusal = Refusal { number: 23 };
+
+pub const COLLECTED_FULL: Refusal = Refusal { number: 24 };
+
+pub const STARTS_FULL: Refusal = Refusal { number: 25 };
+
+pub const SWEEP_ENDED: Refusal = Refusal { number: 26 };
+
+pub const CUT_AT_LAST: Refusal = Refusal { number: 27 };
+
+pub const CUT_SHORT: Refusal = Refusal { number: 28 };

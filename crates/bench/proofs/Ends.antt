@@ -1,0 +1,193 @@
+-- How a run of rounds ends, against a drive that the text can speak of: it has taken all that is wanted from its start on, or it is refused 23, 24
+-- or 25, each with its ground. Assumes nothing.
+use mathlib.Core.Path.{_≡_, refl, sym, ap, _∙_}
+use mathlib.Core.Logic.{inl, inr, ⊎-elim}
+use mathlib.Core.List.{List, [], _∷_, _++_, append-nil, append-assoc}
+use Prim.Native.Nat.{ℕ, zero, suc, _+_, _≤_, _<_}
+use native.Mathlib.Numerals.{add-one}
+use native.Mathlib.Omega.{arith}
+use lib.ListN.{length, set, length-append, length-set}
+use lib.Seq.{sets, length-sets}
+use Rattle.base.specs.Lists.{flat, All}
+use Rattle.base.proofs.Lists.{flat-append, all-append}
+use Rattle.lent.proofs.Sets.{sets-append}
+use Rattle.text.specs.declared.Refusal.{Refusal}
+use Rattle.text.specs.First.{refuse, accept}
+use Rattle.text.specs.Drive.{Desc, Drive, Sound}
+use Rattle.text.specs.Response.{bytes, selected, sent}
+use Rattle.text.specs.Reading.{lastNumber}
+use Rattle.text.specs.Packing.{size, whole, joined}
+use Rattle.text.proofs.Selection.{le-or-lt}
+use Rattle.text.proofs.Sent.{length-sent}
+use Rattle.text.proofs.Packing.{whole-rest, rest-fits, whole-every, whole-fits, whole-none, groups-last, groups-some, flat-parts}
+use Rattle.text.proofs.Next.{selected-next}
+use Rattle.sweep.specs.Sweep.{most, takeFault, stepped}
+use Rattle.bench.specs.Bench.{State, state, Outcome, outcome, filled, refusing, succeeding, rounded, run}
+use Rattle.bench.specs.Swept.{room, Fits, lastOf, behind}
+use Rattle.bench.proofs.Run.{length-filled, filled-filled, run-ended, run-full, run-fault, run-round}
+use Rattle.bench.proofs.Round.{going, gone, fits, left, gain, later, plan, standing, Takes, take-narrow, take-fine, take-stuck, round-last, round-more}
+use Rattle.bench.proofs.Rounds.{startsOf, length-startsOf, behind-append, last-some, selected-split, selected-count, selected-bytes, plan-more}
+
+-- the outcome of a run that takes gs in its rounds, the first from f with c commands and k bytes before it
+unfoldable pub finished : (m : Drive) (rt a f c k : ℕ) (response out starts : List ℕ) → List (List Desc) → Outcome
+finished m rt a f c k response out starts gs =
+    outcome record { refusal = accept; commands = c + length gs; collected = k + length (flat bytes (joined gs)) }
+    (filled (sent rt (lastOf f (startsOf f gs)) a m) response)
+    (sets out k (flat bytes (joined gs)))
+    (sets starts c (startsOf f gs))
+
+module _ (m : Drive) (rt a : ℕ) (came : State) where
+  -- a run from f with room for n rounds
+  pub data Runs (n f c k : ℕ) (response out starts : List ℕ) (o : Outcome) : Type 0 where
+    done : o ≡ finished m rt a f c k response out starts (plan m rt a n f) → joined (plan m rt a n f) ≡ selected rt f m
+        → k + length (flat bytes (selected rt f m)) ≤ length out → c + length (plan m rt a n f) ≤ length starts → Runs n f c k response out starts o
+    stuck : o ≡ refusing (refuse 23) came → (xs : List Desc) (d : Desc) (ys : List Desc)
+        → selected rt f m ≡ xs ++ d ∷ ys → selected rt (behind f xs) m ≡ d ∷ ys → room a < size d → All (Fits a) xs → Runs n f c k response out starts o
+    tight : o ≡ refusing (refuse 24) came → length out < k + length (flat bytes (selected rt f m)) → Runs n f c k response out starts o
+    spent : o ≡ refusing (refuse 25) came → length starts < c + length (plan m rt a n f) → Runs n f c k response out starts o
+
+-- a round that takes g, and those behind it
+finished-more : (m : Drive) (rt a f c k : ℕ) (response out starts : List ℕ) (g : List Desc) (gs : List (List Desc))
+    → length (sent rt f a m) ≤ length response → 0 < length gs
+    → finished m rt a (lastNumber g + 1) (c + 1) (k + length (flat bytes g)) (filled (sent rt f a m) response) (sets out k (flat bytes g)) (set starts c f) gs
+    ≡ finished m rt a f c k response out starts (g ∷ gs)
+unfolding finished startsOf lastOf joined
+finished-more m rt a f c k response out starts g gs l h =
+    let t : ℕ = lastNumber g + 1 in
+    let p : 0 < length (startsOf t gs) = omega (arith, length-startsOf t gs) in
+    let i : c + 1 + length gs ≡ c + suc (length gs) = omega arith in
+    let j : k + length (flat bytes g) + length (flat bytes (joined gs)) ≡ k + length (flat bytes (g ++ joined gs)) =
+    omega (arith, ap length (flat-append bytes g (joined gs)), length-append (flat bytes g) (flat bytes (joined gs))) in
+    rw (
+      i,
+      j,
+      filled-filled (sent rt (lastOf t (startsOf t gs)) a m) (sent rt f a m) response l,
+      last-some t f (startsOf t gs) p,
+      ← sets-append out k (flat bytes g) (flat bytes (joined gs)),
+      ← flat-append bytes g (joined gs),
+      add-one c,
+    )
+
+module _ {m : Drive} (good : Sound m) (rt a : ℕ) (two : rt < 2) (eight : 8 ≤ a) (came : State) where
+  -- a round with room for its start, and room for n more rounds
+  module _ (n f c k : ℕ) (response out starts : List ℕ) (few : c ≤ 65535) (another : c < length starts) where
+    abbrev w : State
+    w = standing rt a f c k response out starts
+
+    refused-by : (r : Refusal) → (r .number ≡ 0 → ⊥) → takeFault (going rt a f c k) (sent rt f a m) (length out) ≡ r → run (suc n) m came w ≡ refusing r came
+    unfolding stepped
+    refused-by r h e = run-fault n m came w refl another (λ z. h (sym (ap (λ (r : Refusal). r .number) e) ∙ z)) ∙ ap (λ (r : Refusal). refusing r came) e
+
+    taken-by : takeFault (going rt a f c k) (sent rt f a m) (length out) ≡ accept → run (suc n) m came w ≡ run n m came (rounded m w)
+    unfolding stepped
+    taken-by e = run-round n m came w refl another (ap (λ (r : Refusal). r .number) e)
+
+    -- 24
+    ends-tight : Takes m rt a f → length out < k + gain m rt a f → Runs m rt a came n f c k response out starts (run (suc n) m came w)
+    ends-tight t h =
+        tight
+        (refused-by (refuse 24) (λ z. omega arith) (take-narrow good rt a f eight two c k few t (length out) h))
+        (omega (arith, flat-parts (room a) (selected rt f m)))
+
+    -- 23
+    ends-stuck : (x : Desc) (xs : List Desc) → fits m rt a f ≡ [] → left m rt a f ≡ x ∷ xs → Runs m rt a came n f c k response out starts (run (suc n) m came w)
+    unfolding behind
+    ends-stuck x xs e l =
+        let q : selected rt f m ≡ x ∷ xs = sym (whole-rest (room a) (selected rt f m)) ∙ ap (λ (r : List Desc). r ++ left m rt a f) e ∙ l in
+        stuck
+        (refused-by (refuse 23) (λ z. omega arith) (take-stuck good rt a f eight two c k few e (rw l (omega arith)) (length out)))
+        [] x xs q q
+        (whole-none (room a) x xs (ap (whole (room a)) (sym q) ∙ e))
+        tt
+
+  -- nothing is left
+  abbrev ended : (f c k : ℕ) (response out starts : List ℕ) → State
+  ended f c k response out starts = state (gone rt a f (c + 1) (k + gain m rt a f)) (filled (sent rt f a m) response) (sets out k (flat bytes (fits m rt a f))) (set starts c f)
+
+  finish : (n f c k : ℕ) (response out starts : List ℕ) → left m rt a f ≡ []
+      → succeeding (ended f c k response out starts) ≡ finished m rt a f c k response out starts (plan m rt a (suc n) f)
+  unfolding finished startsOf lastOf succeeding joined
+  finish n f c k response out starts e = rw (groups-last (room a) n (selected rt f m) e, append-nil)
+
+  all : (f : ℕ) → left m rt a f ≡ [] → fits m rt a f ≡ selected rt f m
+  all f e = whole-every (room a) (selected rt f m) (rest-fits (room a) (selected rt f m) e)
+
+  ends-last : (n f c k : ℕ) (response out starts : List ℕ) → c ≤ 65535 → c < length starts → left m rt a f ≡ []
+      → Runs m rt a came (suc n) f c k response out starts (run (suc (suc n)) m came (standing rt a f c k response out starts))
+  unfolding joined
+  ends-last n f c k response out starts few another e = ⊎-elim
+      (λ (h : k + gain m rt a f ≤ length out).
+      done
+      (taken-by (suc n) f c k response out starts few another (take-fine good rt a f eight two c k few (inl e) (length out) h)
+      ∙ ap (run (suc n) m came) (round-last good rt a f eight two c k few response out starts h e)
+      ∙ run-ended n m came (ended f c k response out starts) refl
+      ∙ finish n f c k response out starts e)
+      (rw (groups-last (room a) n (selected rt f m) e) (append-nil (fits m rt a f) ∙ all f e))
+      (omega (arith, ap (λ (r : List Desc). length (flat bytes r)) (all f e)))
+      (omega (arith, ap length (groups-last (room a) n (selected rt f m) e))))
+      (λ (h : length out < k + gain m rt a f). ends-tight (suc n) f c k response out starts few another (inl e) h)
+      (le-or-lt (k + gain m rt a f) (length out))
+
+  -- something is left: what comes of the rounds from the next start on comes of those from this one
+  module _ (f : ℕ) (x : Desc) (xs : List Desc) (l : left m rt a f ≡ x ∷ xs) (h : 0 < length (fits m rt a f)) where
+    onward : (n c k : ℕ) (response out starts : List ℕ) (o : Outcome) → 0 < n → length (sent rt f a m) ≤ length response
+        → Runs m rt a came n (later m rt a f) (c + 1) (k + gain m rt a f) (filled (sent rt f a m) response) (sets out k (flat bytes (fits m rt a f))) (set starts c f) o
+        → Runs m rt a came (suc n) f c k response out starts o
+    unfolding joined
+    onward n c k response out starts o p r (done e j b s) =
+        let gs : List (List Desc) = plan m rt a n (later m rt a f) in
+        let g : plan m rt a (suc n) f ≡ fits m rt a f ∷ gs = plan-more good rt a f two h x xs l n in
+        done
+        (e
+        ∙ finished-more m rt a f c k response out starts (fits m rt a f) gs r (groups-some (room a) n (selected rt (later m rt a f) m) p)
+        ∙ ap (finished m rt a f c k response out starts) (sym g))
+        (ap joined g ∙ ap (λ (r : List Desc). fits m rt a f ++ r) j ∙ sym (selected-split good rt a f two h))
+        (omega (arith, length-sets out k (flat bytes (fits m rt a f)), selected-bytes good rt a f two h))
+        (omega (arith, length-set starts c f, ap length g))
+    onward n c k response out starts o p r (stuck e ys d zs q t u b) =
+        stuck e (fits m rt a f ++ ys) d zs
+        (selected-split good rt a f two h ∙ ap (λ (r : List Desc). fits m rt a f ++ r) q ∙ sym (append-assoc (fits m rt a f) ys (d ∷ zs)))
+        (ap (λ (n : ℕ). selected rt n m) (sym (behind-append f (fits m rt a f) ys h)) ∙ t)
+        u
+        (all-append (Fits a) (fits m rt a f) ys (whole-fits (room a) (selected rt f m)) b)
+    onward n c k response out starts o p r (tight e q) =
+        tight e (omega (arith, length-sets out k (flat bytes (fits m rt a f)), selected-bytes good rt a f two h))
+    onward n c k response out starts o p r (spent e q) = spent e (omega (arith, length-set starts c f, ap length (plan-more good rt a f two h x xs l n)))
+
+  -- a run with a round for each wanted descriptor
+  abbrev Claim : (n : ℕ) → Type 0
+  Claim n =
+      (f c k : ℕ) (response out starts : List ℕ) → 0 < length (selected rt f m) → length (selected rt f m) ≤ n → c + length (selected rt f m) ≤ 65536
+      → most a ≤ length response → Runs m rt a came n f c k response out starts (run (suc n) m came (standing rt a f c k response out starts))
+
+  pub ends : (n : ℕ) → Claim n
+  ends zero f c k response out starts p q r s = absurd (omega arith)
+  ends (suc n) f c k response out starts p q r s = ⊎-elim
+      (λ (h : length starts ≤ c). spent (run-full (suc n) m came w refl h) (omega (arith, groups-some (room a) (suc n) (selected rt f m) (omega arith))))
+      (λ (h : c < length starts). go h (left m rt a f) refl (fits m rt a f) refl (ends n))
+      (le-or-lt (length starts) c)
+    where
+      w : State
+      w = standing rt a f c k response out starts
+
+      go : c < length starts → (xs : List Desc) → left m rt a f ≡ xs → (ys : List Desc) → fits m rt a f ≡ ys → Claim n
+          → Runs m rt a came (suc n) f c k response out starts (run (suc (suc n)) m came w)
+      go h [] e ys d ih = ends-last n f c k response out starts (omega arith) h e
+      go h (x ∷ xs) l [] d ih = ends-stuck (suc n) f c k response out starts (omega arith) h x xs d l
+      go h (x ∷ xs) l (y ∷ ys) d ih =
+          let i : 0 < length (fits m rt a f) = rw d (omega arith) in
+          let j : 0 < length (left m rt a f) = rw l (omega arith) in
+          let t : length (selected rt f m) ≡ length (fits m rt a f) + length (selected rt (later m rt a f) m) = selected-count good rt a f two i in
+          let u : length (selected rt (later m rt a f) m) ≡ length (left m rt a f) = ap length (selected-next good rt (room a) f i two) in
+          let v : length (sent rt f a m) ≤ length response = omega (arith, length-sent rt f a m) in
+          ⊎-elim
+          (λ (b : k + gain m rt a f ≤ length out).
+          rw (
+            taken-by (suc n) f c k response out starts (omega arith) h (take-fine good rt a f eight two c k (omega arith) (inr (j, i)) (length out) b),
+            round-more good rt a f eight two c k (omega arith) response out starts b j i,
+          )
+          (onward f x xs l i n c k response out starts _ (omega arith) v
+          (ih (later m rt a f) (c + 1) (k + gain m rt a f) (filled (sent rt f a m) response) (sets out k (flat bytes (fits m rt a f))) (set starts c f)
+          (omega arith) (omega arith) (omega arith) (omega (arith, length-filled (sent rt f a m) response v)))))
+          (λ (b : length out < k + gain m rt a f). ends-tight (suc n) f c k response out starts (omega arith) h (inr (j, i)) b)
+          (le-or-lt (k + gain m rt a f) (length out))

@@ -1,0 +1,147 @@
+-- A round against a drive that the text can speak of: what its record answers, and what it is afterwards. Assumes nothing.
+use mathlib.Core.Path.{_≡_, refl, sym, ap, _∙_}
+use mathlib.Core.Logic.{_⊎_, inl, inr, ⊎-elim}
+use mathlib.Core.Bool.{true, false}
+use mathlib.Core.List.{List, [], _∷_}
+use Prim.Native.Nat.{ℕ, _+_, _≤_, _<_}
+use native.Mathlib.Omega.{arith}
+use lib.Dec.{ltb}
+use lib.ListN.{length, set}
+use lib.Seq.{sets, sets-eq}
+use borrow.Author.Tests.{le-leb, lt-leb, le-ltb, lt-ltb, ne-eqb}
+use Rattle.base.specs.Lists.{flat}
+use Rattle.text.specs.First.{refuse, accept, _if_else_, pickZero, _orElse_}
+use Rattle.text.specs.Drive.{Desc, Drive, Sound}
+use Rattle.text.specs.Response.{bytes, selected, full, sent}
+use Rattle.text.specs.Reading.{Walked, lastNumber}
+use Rattle.text.specs.Packing.{whole, rest, groups}
+use Rattle.text.proofs.First.{if-true, if-false}
+use Rattle.text.proofs.Selection.{le-or-lt}
+use Rattle.text.proofs.Sent.{length-sent}
+use Rattle.text.proofs.Own.{walked-sent, readFault-sent, complete-sent, complete-none, cut-some}
+use Rattle.text.proofs.Next.{next-low}
+use Rattle.sweep.specs.declared.Sweep.{Sweep}
+use Rattle.sweep.specs.Sweep.{most, startRule, openRule, roomRule, takeFault, cut, empty, found, advanced, after, stepped, collecting}
+use Rattle.bench.specs.Bench.{State, state, filled, rounded}
+use Rattle.bench.specs.Swept.{room}
+
+-- a record that goes on, and one that has ended
+abbrev pub going : (rt a f c k : ℕ) → Sweep
+going rt a f c k = record { rt = rt; allocation = a; next = record { 0 = f }; commands = c; collected = k; ended = false }
+
+abbrev pub gone : (rt a f c k : ℕ) → Sweep
+gone rt a f c k = record { rt = rt; allocation = a; next = record { 0 = f }; commands = c; collected = k; ended = true }
+
+-- what a response to allocation length a from start f has whole, and what it leaves
+abbrev pub fits : (m : Drive) (rt a f : ℕ) → List Desc
+fits m rt a f = whole (room a) (selected rt f m)
+
+abbrev pub left : (m : Drive) (rt a f : ℕ) → List Desc
+left m rt a f = rest (room a) (selected rt f m)
+
+-- how many bytes it adds to those collected, and the next start behind it
+abbrev pub gain : (m : Drive) (rt a f : ℕ) → ℕ
+gain m rt a f = length (flat bytes (fits m rt a f))
+
+abbrev pub later : (m : Drive) (rt a f : ℕ) → ℕ
+later m rt a f = lastNumber (fits m rt a f) + 1
+
+-- what each of at most n rounds from f on takes
+abbrev pub plan : (m : Drive) (rt a n f : ℕ) → List (List Desc)
+plan m rt a n f = groups (room a) n (selected rt f m)
+
+-- a round that takes something, or leaves nothing
+abbrev pub Takes : (m : Drive) (rt a f : ℕ) → Type 0
+Takes m rt a f = (left m rt a f ≡ []) ⊎ ((0 < length (left m rt a f)) × (0 < length (fits m rt a f)))
+
+empty-not : (ds : List Desc) → 0 < length ds → empty ds ≡ false
+unfolding empty
+empty-not [] h = absurd (omega arith)
+empty-not (d ∷ ds) h = refl
+
+-- where a sweep with such a record stands
+abbrev pub standing : (rt a f c k : ℕ) (response out starts : List ℕ) → State
+standing rt a f c k response out starts = state (going rt a f c k) response out starts
+
+module _ {m : Drive} (good : Sound m) (rt a f : ℕ) (eight : 8 ≤ a) where
+  -- cut exactly if something is left
+  pub cut-none : left m rt a f ≡ [] → cut (sent rt f a m) ≡ false
+  unfolding cut
+  cut-none e = ⊎-elim
+      (λ (h : length (full rt f m) ≤ most a). rw (complete-sent good rt f a eight, le-leb (length (full rt f m)) (most a) h))
+      (λ (h : most a < length (full rt f m)). absurd (omega (arith, cut-some rt f a m eight h, ap length e)))
+      (le-or-lt (length (full rt f m)) (most a))
+
+  pub cut-yes : 0 < length (left m rt a f) → cut (sent rt f a m) ≡ true
+  unfolding cut
+  cut-yes l = ⊎-elim
+      (λ (h : length (full rt f m) ≤ most a). absurd (omega (arith, ap length (complete-none rt f a m eight h))))
+      (λ (h : most a < length (full rt f m)). rw (complete-sent good rt f a eight, lt-leb (length (full rt f m)) (most a) h))
+      (le-or-lt (length (full rt f m)) (most a))
+
+  -- then it has C bytes
+  pub cut-long : 0 < length (left m rt a f) → length (sent rt f a m) ≡ most a
+  cut-long l = ⊎-elim
+      (λ (h : length (full rt f m) ≤ most a). absurd (omega (arith, ap length (complete-none rt f a m eight h))))
+      (λ (h : most a < length (full rt f m)). omega (arith, length-sent rt f a m))
+      (le-or-lt (length (full rt f m)) (most a))
+
+  module _ (two : rt < 2) (c k : ℕ) (few : c ≤ 65535) where
+    found-sent : found (going rt a f c k) (sent rt f a m) ≡ fits m rt a f
+    unfolding found
+    found-sent = ap (λ (w : Walked). w .found) (walked-sent good rt f a eight)
+
+    -- neither 21, 22, 26 nor a number of the reading
+    take-room : (n : ℕ) → takeFault (going rt a f c k) (sent rt f a m) n ≡ roomRule (going rt a f c k) (sent rt f a m) (fits m rt a f) n
+    unfolding takeFault startRule openRule _if_else_ _orElse_ pickZero
+    take-room n =
+        let h : rt ≤ 1 = omega arith in
+        rw (le-ltb 1 rt h, le-ltb a 8 eight, le-ltb 65535 c few, readFault-sent good rt f a eight (most a) (omega arith) (omega arith), found-sent)
+
+    -- it is refused only for want of room
+    take-rule : Takes m rt a f → (n : ℕ) → takeFault (going rt a f c k) (sent rt f a m) n ≡ (refuse 24 if ltb n (k + gain m rt a f) else accept)
+    unfolding roomRule _if_else_
+    take-rule t n =
+        take-room n ∙ ⊎-elim
+        (λ (e : left m rt a f ≡ []). rw (cut-none e))
+        (λ (l : (0 < length (left m rt a f)) × (0 < length (fits m rt a f))).
+        let h : most a ≤ length (sent rt f a m) = omega (arith, cut-long (l .0)) in
+        rw (cut-yes (l .0), le-ltb (length (sent rt f a m)) (most a) h, empty-not (fits m rt a f) (l .1), ne-eqb (lastNumber (fits m rt a f)) 65535 (λ z. omega (arith, next-low good rt (room a) f (l .1) (l .0)))))
+        t
+
+    pub take-narrow : Takes m rt a f → (n : ℕ) → n < k + gain m rt a f → takeFault (going rt a f c k) (sent rt f a m) n ≡ refuse 24
+    take-narrow t n h = take-rule t n ∙ rw (lt-ltb n (k + gain m rt a f) h) (if-true (refuse 24) accept)
+
+    pub take-fine : Takes m rt a f → (n : ℕ) → k + gain m rt a f ≤ n → takeFault (going rt a f c k) (sent rt f a m) n ≡ accept
+    take-fine t n h = take-rule t n ∙ rw (le-ltb n (k + gain m rt a f) h) (if-false (refuse 24) accept)
+
+    -- a round that takes nothing and leaves something
+    pub take-stuck : fits m rt a f ≡ [] → 0 < length (left m rt a f) → (n : ℕ) → takeFault (going rt a f c k) (sent rt f a m) n ≡ refuse 23
+    unfolding roomRule _if_else_ empty
+    take-stuck e l n =
+        let h : most a ≤ length (sent rt f a m) = omega (arith, cut-long l) in
+        take-room n ∙ rw (cut-yes l, le-ltb (length (sent rt f a m)) (most a) h, e, empty)
+
+    module _ (out : List ℕ) (fine : Takes m rt a f) (space : k + gain m rt a f ≤ length out) where
+      pub stepped-fine : stepped (going rt a f c k) (sent rt f a m) out ≡ record { refusal = accept; sweep = advanced (going rt a f c k) (sent rt f a m) (fits m rt a f) }
+      unfolding stepped after
+      stepped-fine = rw (take-fine fine (length out) space, after, found-sent)
+
+      pub collecting-fine : collecting (going rt a f c k) (sent rt f a m) out ≡ sets out k (flat bytes (fits m rt a f))
+      unfolding collecting
+      collecting-fine =
+          rw (take-fine fine (length out) space, collecting, found-sent)
+          (sym (sets-eq (flat bytes (fits m rt a f)) out k space))
+
+    module _ (response out starts : List ℕ) (space : k + gain m rt a f ≤ length out) where
+      -- the last round
+      pub round-last : left m rt a f ≡ [] → rounded m (standing rt a f c k response out starts)
+          ≡ state (gone rt a f (c + 1) (k + gain m rt a f)) (filled (sent rt f a m) response) (sets out k (flat bytes (fits m rt a f))) (set starts c f)
+      unfolding rounded advanced
+      round-last e = rw (stepped-fine out (inl e) space, collecting-fine out (inl e) space, cut-none e)
+
+      -- a round with another behind it
+      pub round-more : 0 < length (left m rt a f) → 0 < length (fits m rt a f) → rounded m (standing rt a f c k response out starts)
+          ≡ standing rt a (later m rt a f) (c + 1) (k + gain m rt a f) (filled (sent rt f a m) response) (sets out k (flat bytes (fits m rt a f))) (set starts c f)
+      unfolding rounded advanced
+      round-more l h = rw (stepped-fine out (inr (l, h)) space, collecting-fine out (inr (l, h)) space, cut-yes l)

@@ -1,0 +1,104 @@
+-- What a loop over the rounds carries: the run from where it stands, with the fuel that its commands leave. Assumes nothing.
+use mathlib.Core.Path.{_≡_, refl, sym, ap, _∙_}
+use mathlib.Core.Bool.{Bool, true, false}
+use mathlib.Core.List.{List}
+use Prim.Native.Nat.{ℕ, zero, suc, _+_, _-_, _≤_}
+use native.Mathlib.Nat.{suc-add}
+use native.Mathlib.Omega.{arith}
+use lib.Dec.{leb, ltb}
+use lib.ListN.{length}
+use borrow.Author.Tests.{ltb-false}
+use Rattle.text.specs.Drive.{Drive}
+use Rattle.text.proofs.First.{if-zero, orElse-zero}
+use Rattle.sweep.specs.declared.Sweep.{Sweep}
+use Rattle.sweep.specs.Sweep.{fresh, openRule, takeFault, advanced, after, stepped}
+use Rattle.bench.specs.Bench.{State, Outcome, refusing, succeeding, unless, reply, roundFault, rounded, run, opened, runFrom}
+use Rattle.bench.proofs.Run.{unless-none, unless-fault, run-ended, run-turn}
+
+-- ---- a response that a record takes
+
+-- it has 65,535 commands or fewer
+taken-few : (w : Sweep) (s : List ℕ) (n : ℕ) → takeFault w s n .number ≡ 0 → w .commands ≤ 65535
+unfolding takeFault openRule
+taken-few w s n e =
+    let o = orElse-zero _ _ (orElse-zero _ _ e .1) .0 in
+    let c = if-zero 25 (ltb 65535 (w .commands)) _ (if-zero 25 (w .ended) _ o .1) .0 in
+    ltb-false 65535 (w .commands) c
+
+-- and then one more
+taken-more : (w : Sweep) (s out : List ℕ) → takeFault w s (length out) .number ≡ 0 → stepped w s out .sweep .commands ≡ w .commands + 1
+unfolding stepped after advanced
+taken-more w s out e = rw (e, after)
+
+-- ---- a round that nothing refuses
+
+module _ (m : Drive) (w : State) (f : roundFault m w .number ≡ 0) where
+  taken : takeFault (w .sweep) (reply m (w .sweep)) (length (w .collected)) .number ≡ 0
+  unfolding roundFault stepped
+  taken = if-zero 24 (leb (length (w .starts)) (w .sweep .commands)) _ f .1
+
+  pub round-few : w .sweep .commands ≤ 65535
+  round-few = taken-few (w .sweep) (reply m (w .sweep)) (length (w .collected)) taken
+
+  pub round-commands : rounded m w .sweep .commands ≡ w .sweep .commands + 1
+  unfolding rounded
+  round-commands = taken-more (w .sweep) (reply m (w .sweep)) (w .collected) taken
+
+  pub rounded-few : rounded m w .sweep .commands ≤ 65536
+  rounded-few = omega (arith, round-few, round-commands)
+
+-- ---- the fuel is enough
+
+-- more of it changes nothing
+pub run-enough : (j n : ℕ) (m : Drive) (came w : State) → w .sweep .commands ≤ 65536 → 65537 ≤ w .sweep .commands + n → run (n + j) m came w ≡ run n m came w
+run-enough j zero m came w h k = absurd (omega arith)
+run-enough j (suc n) m came w h k = rw suc-add (go (w .sweep .ended) refl (run-enough j n m came (rounded m w)))
+  where
+    go : (b : Bool) → w .sweep .ended ≡ b
+        → (rounded m w .sweep .commands ≤ 65536 → 65537 ≤ rounded m w .sweep .commands + n → run (n + j) m came (rounded m w) ≡ run n m came (rounded m w))
+        → run (suc (n + j)) m came w ≡ run (suc n) m came w
+    go true e ih = run-ended (n + j) m came w e ∙ sym (run-ended n m came w e)
+    go false e ih = run-turn (n + j) m came w e ∙ same (roundFault m w .number) refl ih ∙ sym (run-turn n m came w e)
+      where
+        same : (i : ℕ) → roundFault m w .number ≡ i
+            → (rounded m w .sweep .commands ≤ 65536 → 65537 ≤ rounded m w .sweep .commands + n → run (n + j) m came (rounded m w) ≡ run n m came (rounded m w))
+            → unless (roundFault m w) came (run (n + j) m came (rounded m w)) ≡ unless (roundFault m w) came (run n m came (rounded m w))
+        same zero q ih = ap (unless (roundFault m w) came) (ih (rounded-few m w q) (omega (arith, round-commands m w q)))
+        same (suc i) q ih =
+            unless-fault (roundFault m w) came (run (n + j) m came (rounded m w)) (λ z. omega arith)
+            ∙ sym (unless-fault (roundFault m w) came (run n m came (rounded m w)) (λ z. omega arith))
+
+-- ---- the loop
+
+-- the run from w on, with the fuel that its commands leave
+abbrev pub onwards : (m : Drive) (came w : State) → Outcome
+onwards m came w = run (65537 - w .sweep .commands) m came w
+
+-- where it starts
+pub onwards-start : (m : Drive) (rt a : ℕ) (response collected starts : List ℕ)
+    → runFrom m (opened rt a response collected starts) ≡ onwards m (opened rt a response collected starts) (opened rt a response collected starts)
+unfolding opened fresh
+onwards-start m rt a response collected starts = refl
+
+module _ (m : Drive) (came w : State) where
+  abbrev n : ℕ
+  n = 65536 - w .sweep .commands
+
+  fuel : w .sweep .commands ≤ 65536 → onwards m came w ≡ run (suc n) m came w
+  fuel h = ap (λ (k : ℕ). run k m came w) (omega arith)
+
+  -- the test says that it has ended
+  pub onwards-ended : w .sweep .commands ≤ 65536 → w .sweep .ended ≡ true → onwards m came w ≡ succeeding w
+  onwards-ended h e = fuel h ∙ run-ended n m came w e
+
+  -- a round is refused
+  pub onwards-fault : w .sweep .commands ≤ 65536 → w .sweep .ended ≡ false → (roundFault m w .number ≡ 0 → ⊥) → onwards m came w ≡ refusing (roundFault m w) came
+  onwards-fault h e f = fuel h ∙ run-turn n m came w e ∙ unless-fault (roundFault m w) came (run n m came (rounded m w)) f
+
+  -- or not: a further turn
+  pub onwards-round : w .sweep .ended ≡ false → roundFault m w .number ≡ 0 → onwards m came w ≡ onwards m came (rounded m w)
+  onwards-round e f =
+      fuel (omega (arith, round-few m w f))
+      ∙ run-turn n m came w e
+      ∙ unless-none (roundFault m w) came (run n m came (rounded m w)) f
+      ∙ ap (λ (k : ℕ). run k m came (rounded m w)) (omega (arith, round-commands m w f))

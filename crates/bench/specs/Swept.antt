@@ -1,0 +1,116 @@
+-- What demand 3 says of a bench sweep: what it asks for, what it promises, and how the sweep of an accepted sheet can end. Assumes nothing:
+-- these are definitions.
+use mathlib.Core.Path.{_≡_}
+use mathlib.Core.Logic.{_⊎_}
+use mathlib.Core.Bool.{Bool, true, false}
+use mathlib.Core.List.{List, [], _∷_, _++_}
+use Prim.Native.Nat.{ℕ, _+_, _-_, _*_, _≤_, _<_}
+use lib.ListN.{length, take, drop}
+use Rattle.base.specs.Lists.{flat, All}
+use Rattle.text.specs.First.{refuse, accept}
+use Rattle.text.specs.Drive.{Desc, Drive, Asc}
+use Rattle.text.specs.Response.{bytes, selected, sent}
+use Rattle.text.specs.Reading.{wholes, lastNumber}
+use Rattle.text.specs.Packing.{size, total, groups, joined}
+use Rattle.sweep.specs.Sweep.{most, cut}
+use Rattle.bench.specs.Bench.{Outcome, filled, refusing, opened}
+
+-- C - 8: the room behind the header of a response to allocation length a
+abbrev pub room : ℕ → ℕ
+room a = most a - 8
+
+-- a descriptor that has room in a response
+abbrev pub Fits : ℕ → Desc → Type 0
+Fits a d = size d ≤ room a
+
+-- ---- what is asked for
+
+-- a sweep of the drive m with RT rt and allocation length a, into these three buffers
+pub record Premises (m : Drive) (rt a : ℕ) (response collected starts : List ℕ) : Type 0 where
+  -- RT 0 or RT 1, and C is 8 or more
+  pub kind : rt < 2
+  pub eight : 8 ≤ a
+  -- each wanted descriptor has at most C - 8 bytes
+  pub small : All (Fits a) (selected rt 0 m)
+  -- room in the response buffer: C bytes
+  pub response-room : most a ≤ length response
+  -- room in the collecting buffer: all wanted descriptors
+  pub collected-room : total (selected rt 0 m) ≤ length collected
+  -- room in the list of starts: a start for each round, where each round takes as many whole descriptors as C - 8 bytes hold
+  pub starts-room : length (groups (room a) 65536 (selected rt 0 m)) ≤ length starts
+
+-- ---- what is promised
+
+-- the last of a list, z if it is empty; whether there is one
+unfoldable pub lastOf : ℕ → List ℕ → ℕ
+lastOf z [] = z
+lastOf z (t ∷ ts) = lastOf t ts
+
+unfoldable pub some : List ℕ → Bool
+some [] = false
+some (t ∷ ts) = true
+
+-- a round from start t that takes the descriptors g, where out has the collected bytes, `before` of them from the rounds before
+pub record Round (m : Drive) (rt a : ℕ) (out : List ℕ) (before t : ℕ) (g : List Desc) (more : Bool) : Type 0 where
+  -- exactly the whole descriptors that the reading of what is sent for this start and allocation length finds
+  pub took : g ≡ wholes (most a) rt t (sent rt t a m)
+  -- their bytes stand behind those of the rounds before
+  pub stands : take (length (flat bytes g)) (drop before out) ≡ flat bytes g
+  -- another round follows exactly if the response is cut
+  pub goes : cut (sent rt t a m) ≡ more
+
+-- round by round: the first start is f, each further one is the last number taken plus 1
+abbrev pub Honest : (m : Drive) (rt a : ℕ) (out : List ℕ) (before f : ℕ) (starts : List ℕ) (taken : List (List Desc)) → Type 0
+Honest m rt a out before f [] [] = Unit {0}
+Honest m rt a out before f [] (g ∷ gs) = ⊥
+Honest m rt a out before f (t ∷ ts) [] = ⊥
+Honest m rt a out before f (t ∷ ts) (g ∷ gs) =
+    (t ≡ f) × Round m rt a out before t g (some ts) × Honest m rt a out (before + length (flat bytes g)) (lastNumber g + 1) ts gs
+
+-- o is a successful sweep
+pub record Swept (m : Drive) (rt a : ℕ) (response collected starts : List ℕ) (o : Outcome) : Type 0 where
+  -- the starts, and what each round took
+  pub asked : List ℕ
+  pub taken : List (List Desc)
+  -- nothing was refused
+  pub fine : o .reply .refusal ≡ accept
+  -- the command count is the number of starts; they stand at the front of their list, and behind them all is as before
+  pub commands : o .reply .commands ≡ length asked
+  pub noted : o .starts ≡ asked ++ drop (length asked) starts
+  -- the collected bytes are those of the wanted descriptors; they stand at the front of their buffer, and behind them all is as before
+  pub count : o .reply .collected ≡ length (flat bytes (selected rt 0 m))
+  pub exact : o .collected ≡ flat bytes (selected rt 0 m) ++ drop (length (flat bytes (selected rt 0 m))) collected
+  -- round by round, from start 0 on
+  pub honest : Honest m rt a (o .collected) 0 0 asked taken
+  -- together the rounds took each wanted descriptor once, ascending
+  pub once : joined taken ≡ selected rt 0 m
+  pub ascending : Asc 0 (joined taken)
+  -- the response buffer holds the last response, and zeros behind it
+  pub last : o .response ≡ filled (sent rt (lastOf 0 asked) a m) response
+  -- k commands for D bytes: (k - 1) * (C - 8) < 2 * D
+  pub few : (o .reply .commands - 1) * room a < 2 * o .reply .collected
+
+-- ---- how it can end, whatever the room
+
+-- the next start behind the descriptors that were collected: the last number plus 1, f if there are none
+unfoldable pub behind : ℕ → List Desc → ℕ
+behind f [] = f
+behind f (d ∷ ds) = lastNumber (d ∷ ds) + 1
+
+-- success, or one of four refusals with its ground
+pub data Ended (m : Drive) (rt a : ℕ) (response collected starts : List ℕ) (o : Outcome) : Type 0 where
+  swept : Swept m rt a response collected starts o → Ended m rt a response collected starts o
+  -- 12: the response buffer has fewer than C bytes
+  short : o ≡ refusing (refuse 12) (opened rt a response collected starts) → length response < most a → Ended m rt a response collected starts o
+  -- 23: xs were collected, d is the first descriptor that is wanted from the next start on, and it has more than C - 8 bytes; it is the first such one
+  long : o ≡ refusing (refuse 23) (opened rt a response collected starts) → (xs : List Desc) (d : Desc) (ys : List Desc)
+      → selected rt 0 m ≡ xs ++ d ∷ ys → selected rt (behind 0 xs) m ≡ d ∷ ys → room a < size d → All (Fits a) xs → Ended m rt a response collected starts o
+  -- 24: the collecting buffer has no room for all wanted descriptors
+  narrow : o ≡ refusing (refuse 24) (opened rt a response collected starts) → length collected < total (selected rt 0 m) → Ended m rt a response collected starts o
+  -- 25: the list of starts has no room for all rounds
+  many : o ≡ refusing (refuse 25) (opened rt a response collected starts) → length starts < length (groups (room a) 65536 (selected rt 0 m))
+      → Ended m rt a response collected starts o
+
+-- the numbers that this leaves
+abbrev pub Numbers : ℕ → Type 0
+Numbers k = (k ≡ 0) ⊎ ((k ≡ 12) ⊎ ((k ≡ 23) ⊎ ((k ≡ 24) ⊎ (k ≡ 25))))

@@ -1,0 +1,72 @@
+-- Demand 3: "A sweep of one unchanging sheet collects each wanted descriptor once, ascending, byte for byte, and with D bytes in k commands
+-- (k - 1)(C - 8) < 2D." What it asks for, with the room for each buffer, is `Premises`, and what it promises `Swept`, both in
+-- crates/bench/specs/Swept.antt; `benched` is the contract of `bench::bench`. Assumes nothing.
+use mathlib.Core.Path.{_≡_, refl}
+use mathlib.Core.Bool.{Bool, true, false, _&&_, false≢true}
+use mathlib.Core.List.{List, [], _∷_}
+use Prim.Native.Nat.{ℕ, zero, suc, _≤_, _<_}
+use native.Mathlib.Omega.{arith}
+use lib.Dec.{ltb}
+use lib.ListN.{replicate}
+use borrow.Author.Tests.{ltb-true}
+use Rattle.base.specs.Lists.{each, flat, keep, Bytes}
+use Rattle.fields.specs.Field.{field, spell}
+use Rattle.text.specs.First.{_if_else_, pickZero, _orElse_, firstOf}
+use Rattle.text.specs.Drive.{profileBytes}
+use Rattle.text.specs.Response.{feature0, all, wants, selected}
+use Rattle.text.specs.Packing.{total, whole, rest, groups}
+use Rattle.layout.specs.Layout as layout
+use Rattle.sheet.specs.Check.{Accepted, profileRule, sameProfile, profileFault, numberBefore, endBefore, flagsRule, entryRule, entryFault, counted, verdict}
+use Rattle.sheet.specs.Meaning.{desc, listed, meaning}
+use Rattle.bench.specs.Bench.{benched}
+use Rattle.bench.specs.Swept.{Premises, Swept, Ended}
+use Rattle.bench.proofs.Demand as bench
+use Rattle.demands.specs.Recorder.{sheetE}
+
+pub demand3 : (s : List ℕ) (rt a : ℕ) (response collected starts : List ℕ) → Bytes s → Accepted s → Premises (meaning s) rt a response collected starts
+    → Swept (meaning s) rt a response collected starts (benched s rt a response collected starts)
+demand3 = bench.demand3
+
+-- Without the premises on size and room, the sweep of an accepted sheet with RT 0 or 1 and an allocation length of 8 or more ends with success
+-- or with 12, 23, 24 or 25, each with its ground: with 23, the first wanted descriptor not collected yet is too long.
+pub ends : (s : List ℕ) (rt a : ℕ) (response collected starts : List ℕ) → Bytes s → Accepted s → rt < 2 → 8 ≤ a
+    → Ended (meaning s) rt a response collected starts (benched s rt a response collected starts)
+ends = bench.ended
+
+-- ---- the premises can be met: sheet E, allocation length 20
+
+low : List ℕ → Bool
+low [] = true
+low (b ∷ s) = ltb b 256 && low s
+
+both : (a b : Bool) → (a && b) ≡ true → (a ≡ true) × (b ≡ true)
+both true b e = (refl, e)
+both false b e = absurd (false≢true e)
+
+bytes-low : (s : List ℕ) → low s ≡ true → Bytes s
+unfolding low
+bytes-low [] e i = omega arith
+bytes-low (b ∷ s) e zero = ltb-true b 256 (both (ltb b 256) (low s) e .0)
+bytes-low (b ∷ s) e (suc i) = bytes-low s (both (ltb b 256) (low s) e .1) i
+
+bytesE : Bytes sheetE
+unfolding sheetE low
+bytesE = bytes-low sheetE refl
+
+acceptedE : Accepted sheetE
+unfolding each field _if_else_ pickZero _orElse_ firstOf layout.featureCount layout.profileCount layout.number layout.flags layout.bodyLength layout.offset layout.profile layout.current layout.last profileRule sameProfile profileFault numberBefore endBefore flagsRule entryRule entryFault counted verdict sheetE
+acceptedE = refl
+
+premisesE : Premises (meaning sheetE) 0 20 (replicate 20 0) (replicate 36 0) (replicate 4 0)
+unfolding each flat keep field spell profileBytes feature0 all wants selected total whole rest groups layout.featureCount layout.profileCount layout.number layout.flags layout.bodyLength layout.offset layout.profile layout.current desc listed meaning sheetE
+premisesE = record {
+  kind = omega arith;
+  eight = omega arith;
+  small = omega arith;
+  response-room = omega arith;
+  collected-room = omega arith;
+  starts-room = omega arith;
+}
+
+pub sweptE : Swept (meaning sheetE) 0 20 (replicate 20 0) (replicate 36 0) (replicate 4 0) (benched sheetE 0 20 (replicate 20 0) (replicate 36 0) (replicate 4 0))
+sweptE = demand3 sheetE 0 20 (replicate 20 0) (replicate 36 0) (replicate 4 0) bytesE acceptedE premisesE

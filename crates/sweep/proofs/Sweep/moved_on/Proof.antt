@@ -1,0 +1,18 @@
+-- `sweep::Sweep::moved_on` meets its contract: a complete response keeps the next start, a cut one moves it.
+use native.Mathlib.Omega.{arith}
+use Rattle.sweep.proofs.Numbers.{moved-complete, moved-cut}
+use borrow.Author.Needs.{needs}
+use Rattle.sweep.proofs.Sweep.moved_on.Statement.{statement}
+use Rattle.sweep.proofs.Sweep.moved_on.Tie as tie
+
+returns : tie.Need-returns
+returns c = search moved-complete
+
+add-t9 : tie.Need-add-t9
+add-t9 c = omega (arith, c .before .before .before .before .before .pre .1 (c .before .if1 .left))
+
+returns-2 : tie.Need-returns-2
+returns-2 c = search moved-cut
+
+pub moved-on-spec : {M : Type 1} → statement M
+moved-on-spec = tie.close (tie.spec (λ c. search needs) returns add-t9 returns-2)

@@ -1,0 +1,32 @@
+-- A sweep over any responses, one after the other. Assumes nothing: these are definitions.
+use mathlib.Core.List.{List, [], _∷_}
+use Prim.Native.Nat.{ℕ, zero, suc, _+_}
+use Rattle.base.specs.Lists.{Bytes}
+use Rattle.sweep.specs.declared.Sweep.{Sweep}
+use Rattle.sweep.specs.Sweep.{stepped}
+
+-- a response, honest or lying, and the collecting buffer that it is taken with
+pub record Offer : Type 0 where
+  pub response : List ℕ
+  pub buffer : List ℕ
+
+-- what a driver receives is bytes
+abbrev pub Received : Offer → Type 0
+Received o = Bytes (o .response)
+
+-- the record after one of them, and after all
+unfoldable pub taking : Sweep → Offer → Sweep
+taking w o = stepped w (o .response) (o .buffer) .sweep
+
+unfoldable pub run : Sweep → List Offer → Sweep
+run w [] = w
+run w (o ∷ os) = run (taking w o) os
+
+-- 1 where a response is accepted, 0 where it is refused; and how many of all are accepted
+unfoldable pub ifNone : ℕ → ℕ
+ifNone zero = 1
+ifNone (suc e) = 0
+
+unfoldable pub accepted : Sweep → List Offer → ℕ
+accepted w [] = 0
+accepted w (o ∷ os) = ifNone (stepped w (o .response) (o .buffer) .refusal .number) + accepted (taking w o) os
