@@ -7,3 +7,4 @@ pub mod Rounds
 pub mod Ends
 pub mod Honest
 pub mod Demand
+pub mod Loop

@@ -1,4 +1,14 @@
 // The bench sweep: the driver's sweep run against the box of one sheet.
+ghost use mathlib.Core.Path.{_≡_};
+ghost use Prim.Native.Nat.{_≤_};
+ghost use lib.ListN.{length};
+ghost use Rattle.sheet.specs.Check.{Accepted};
+ghost use Rattle.sheet.specs.Meaning.{meaning};
+ghost use Rattle.sweep.specs.Sweep.{most};
+ghost use Rattle.bench.specs.Bench.{state, outcome, benched};
+ghost use Rattle.bench.specs.Loop.{openFault, refused, Rounded, Ran};
+use sweep::Step;
+use sweep::Sweep;
 use text::Refusal;
 
 // What a bench sweep answers: the refusal or none, how many commands were sent (starts written), and how many bytes were collected.
@@ -6,4 +16,122 @@ pub struct Benched {
     pub refusal: Refusal,
     pub commands: u32,
     pub collected: usize,
+}
+
+// What is refused before any round, where the response buffer has so many bytes.
+fn first_fault(s: &[u8], rt: u8, a: u16, space: usize) -> Refusal
+    ensures { λ r. ⌜ r ≡ openFault (now (s .entry)) rt a space ⌝ }
+{
+    let fault = sheet::check(s);
+    if fault.number != 0 {
+        return fault;
+    }
+    let step = Sweep::start(rt, a);
+    let fault = step.refusal;
+    if fault.number != 0 {
+        return fault;
+    }
+    if space < sweep::most(a) {
+        return text::BUFFER_SHORT;
+    }
+    text::ACCEPTED
+}
+
+// One round against a sheet that is accepted: the start is noted, the box is asked, the driver takes just the bytes sent.
+fn one_round(
+    s: &[u8],
+    w: Sweep,
+    response: &mut [u8],
+    collected: &mut [u8],
+    starts: &mut [u16],
+) -> Step
+    requires { ⌜ Accepted (now s) × (most (w .allocation) ≤ length (now response)) ⌝ }
+    ensures { λ r. ⌜ Rounded (meaning (now (s .entry))) (state w (now (response .entry)) (now (collected .entry)) (now (starts .entry)))
+        (r .refusal) (state (r .sweep) (now (response .exit)) (now (collected .exit)) (now (starts .exit))) ⌝ }
+{
+    let at = w.commands as usize;
+    if starts.len() <= at {
+        return Step {
+            refusal: text::STARTS_FULL,
+            sweep: w,
+        };
+    }
+    let next = w.next;
+    lent::note(starts, at, next.0);
+    lent::clear(response);
+    let reply = responder::send(s, w.rt, next, w.allocation, response);
+    let count = reply.count;
+    w.take(&response[..count], collected)
+}
+
+// Round after round, until the sweep has ended or a round is refused.
+fn all_rounds(
+    s: &[u8],
+    w: Sweep,
+    response: &mut [u8],
+    collected: &mut [u8],
+    starts: &mut [u16],
+) -> Step
+    requires { ⌜ Accepted (now s) × (most (w .allocation) ≤ length (now response)) × (w .commands ≡ 0) ⌝ }
+    ensures { λ r. ⌜ Ran (meaning (now (s .entry))) (state w (now (response .entry)) (now (collected .entry)) (now (starts .entry)))
+        (r .refusal) (state (r .sweep) (now (response .exit)) (now (collected .exit)) (now (starts .exit))) ⌝ }
+{
+    let mut sweep = w;
+    while !sweep.ended {
+        let step = one_round(s, sweep, response, collected, starts);
+        let fault = step.refusal;
+        if fault.number != 0 {
+            return step;
+        }
+        sweep = step.sweep;
+    }
+    Step {
+        refusal: text::ACCEPTED,
+        sweep: sweep,
+    }
+}
+
+// A refusal: its number, both counts 0, all three buffers set to zero.
+fn refuse(fault: Refusal, response: &mut [u8], collected: &mut [u8], starts: &mut [u16]) -> Benched
+    ensures { λ r. ⌜ outcome r (now (response .exit)) (now (collected .exit)) (now (starts .exit))
+        ≡ refused fault (now (response .entry)) (now (collected .entry)) (now (starts .entry)) ⌝ }
+{
+    lent::clear(response);
+    lent::clear(collected);
+    lent::clear_list(starts);
+    Benched {
+        refusal: fault,
+        commands: 0,
+        collected: 0,
+    }
+}
+
+// The bench sweep of any sheet: it is checked once, and then round follows round. A refusal leaves all three buffers zero throughout.
+pub fn bench(
+    s: &[u8],
+    rt: u8,
+    a: u16,
+    response: &mut [u8],
+    collected: &mut [u8],
+    starts: &mut [u16],
+) -> Benched
+    ensures { λ r. ⌜ outcome r (now (response .exit)) (now (collected .exit)) (now (starts .exit))
+        ≡ benched (now (s .entry)) rt a (now (response .entry)) (now (collected .entry)) (now (starts .entry)) ⌝ }
+{
+    let fault = first_fault(s, rt, a, response.len());
+    if fault.number != 0 {
+        return refuse(fault, response, collected, starts);
+    }
+    let start = Sweep::start(rt, a);
+    let end = all_rounds(s, start.sweep, response, collected, starts);
+    let fault = end.refusal;
+    if fault.number != 0 {
+        return refuse(fault, response, collected, starts);
+    }
+    let w = end.sweep;
+    Benched {
+        refusal: fault,
+        commands: w.commands,
+        collected: w.collected,
+    }
 }

@@ -2,9 +2,13 @@
 use mathlib.Core.List.{List, [], _∷_, _++_}
 use Prim.Native.Nat.{ℕ}
 use lib.ListN.{take, replicate}
+use Rattle.text.specs.Drive.{bit}
+use Rattle.text.specs.Response.{sent}
+use Rattle.sheet.specs.Meaning.{meaning}
 use Rattle.responder.specs.Answer.{Outcome, answered}
 use Rattle.bench.specs.Bench as Swept
 use Rattle.bench.specs.Bench.{benched}
+use Rattle.checks.specs.Judge.{Said, judged}
 use Rattle.demands.specs.Recorder.{sheetE, sheetE′, command}
 
 -- what a definition gives, and what the paper's line says, as numbers
@@ -27,6 +31,10 @@ started o = o .reply .refusal .number ∷ take (o .reply .commands) (o .starts)
 -- the bench sweep of a sheet with RT 0, with room for 64 bytes and 8 starts
 unfoldable pub swept : (s : List ℕ) (a : ℕ) → List ℕ
 swept s a = started (benched s 0 a (replicate 64 0xEE) (replicate 64 0xEE) (replicate 8 0xEE))
+
+-- a judgement in numbers: the number, whether it conforms, and the missing feature if one is named
+unfoldable pub told : Said → List ℕ
+told j = j .number ∷ bit (j .conforms) ∷ j .missing
 
 unfoldable pub stars : List Star
 stars =
@@ -57,4 +65,6 @@ stars =
     ∷ record { gives = swept sheetE 20; paper = 0 ∷ 0 ∷ 1 ∷ 2 ∷ 0x0020 ∷ [] }
     ∷ record { gives = swept sheetE 43; paper = 0 ∷ 0 ∷ 0x0020 ∷ [] }
     ∷ record { gives = swept sheetE 19; paper = 23 ∷ [] }
+    -- profile 0012h: lowest missing 0002h
+    ∷ record { gives = told (judged 0x0012 (sent 0 0 44 (meaning sheetE))); paper = 0 ∷ 0 ∷ 0x0002 ∷ [] }
     ∷ []

@@ -145,3 +145,26 @@ pub const SWEEP_ENDED: Refusal = Refusal { number: 26 };
 pub const CUT_AT_LAST: Refusal = Refusal { number: 27 };
 
 pub const CUT_SHORT: Refusal = Refusal { number: 28 };
+
+// The checks' refusals and findings.
+pub const RESPONSE_CUT: Refusal = Refusal { number: 29 };
+
+pub const CORE_MISSING: Refusal = Refusal { number: 30 };
+
+pub const BODY_LENGTH_BAD: Refusal = Refusal { number: 31 };
+
+pub const FLAGS_NOT_BOTH: Refusal = Refusal { number: 32 };
+
+pub const FLAGS_RESERVED: Refusal = Refusal { number: 33 };
+
+pub const PERSISTENT_ALONE: Refusal = Refusal { number: 34 };
+
+pub const PERSISTENT_BARRED: Refusal = Refusal { number: 35 };
+
+pub const BITS_RESERVED: Refusal = Refusal { number: 36 };
+
+pub const CUE_LENGTH: Refusal = Refusal { number: 37 };
+
+pub const PROFILE_ZERO: Refusal = Refusal { number: 39 };
+
+pub const NO_TABLE: Refusal = Refusal { number: 40 };

@@ -1,0 +1,243 @@
+-- A response passes the check of its descriptors exactly when it has none of the faults. Assumes nothing.
+use borrow.Author.Tests.{ltb-false, le-ltb, leb-true, le-leb, eqb-true, eqb-false, eq-eqb, ne-eqb, not-false}
+use mathlib.Core.Path.{_≡_, refl, sym, ap, _∙_}
+use mathlib.Core.Bool.{Bool, true, false, not, _&&_}
+use mathlib.Core.List.{List, [], _∷_}
+use Prim.Native.Nat.{ℕ, _*_, _/_, _%_, _≤_, _<_}
+use native.Mathlib.Nat.{mod-lt}
+use native.Mathlib.Omega.{arith}
+use lib.Bits.{bitAnd}
+use lib.Dec.{eqb}
+use lib.ListN.{length}
+use Rattle.base.specs.Lists.{All}
+use Rattle.base.proofs.Lists.{all-map}
+use Rattle.fields.specs.Field.{field}
+use Rattle.text.specs.declared.Refusal.{Refusal}
+use Rattle.text.specs.First.{refuse, accept}
+use Rattle.text.specs.Flags.{reserved, version, persistent, current}
+use Rattle.text.specs.Drive.{Desc}
+use Rattle.text.proofs.First.{if-zero, orElse-zero, orElse-none, first-all, first-accept}
+use Rattle.checks.specs.declared.legal.Length.{Length}
+use Rattle.checks.specs.declared.legal.Length.the-variants.{Any, Exactly, Counted}
+use Rattle.checks.specs.declared.Finding.{Finding}
+use Rattle.checks.specs.Legal.{rowOf}
+use Rattle.checks.specs.Rules.{byteOf, flagsRule, wrongLength, flagsShort, flagsBarred, rowRule, reservedRule, reservedAt, cueRule, profileAt, profilesFault, bodyFault, descFault}
+use Rattle.checks.specs.Input.{descs, reported}
+use Rattle.checks.specs.Check.{finding, firstFault, checkedAll, checked}
+use Rattle.checks.specs.Faultless.{Fits, Faultless, Passes}
+use Rattle.checks.proofs.Bools.{and-false, false-and, and-true, true-and, or-false, false-or}
+use Rattle.checks.proofs.Calls.{if-yes, if-no, not-yes, not-no}
+use Rattle.checks.proofs.Pick.{pick-here, pick-past, pick-never}
+use Rattle.checks.proofs.Findings.{next-none, next-zero, core-there}
+
+-- ---- a bit is 0 or 1
+
+module _ (n : ℕ) where
+  bit-low : n % 2 < 2
+  bit-low = mod-lt n (omega arith)
+
+  bit-one : eqb (n % 2) 0 ≡ false → n % 2 ≡ 1
+  bit-one e = let k : n % 2 ≡ 0 → ⊥ = eqb-false _ _ e in omega (arith, bit-low)
+
+  bit-zero : eqb (n % 2) 1 ≡ false → n % 2 ≡ 0
+  bit-zero e = let k : n % 2 ≡ 1 → ⊥ = eqb-false _ _ e in omega (arith, bit-low)
+
+-- ---- 33 and 34
+
+record Flagged (f : ℕ) : Type 0 where
+  reserved-zero : reserved f ≡ 0
+  version-zero : version f ≡ 0
+  current-too : persistent f ≡ 1 → current f ≡ 1
+
+flags-good : (f : ℕ) → flagsRule f .number ≡ 0 → Flagged f
+unfolding flagsRule
+flags-good f e =
+    let a = if-zero _ _ _ e in
+    let b = if-zero _ _ _ (a .1) in
+    let c = if-zero _ _ _ (b .1) in
+    record {
+      reserved-zero = eqb-true _ _ (not-false _ (a .0));
+      version-zero = eqb-true _ _ (not-false _ (b .0));
+      current-too = λ p. bit-one f (and-false _ _ (c .0) (eq-eqb _ _ p));
+    }
+
+flags-accept : (f : ℕ) → Flagged f → flagsRule f ≡ accept
+unfolding flagsRule
+flags-accept f g =
+    if-no _ _ _ (not-no _ (eq-eqb _ _ (g .reserved-zero)))
+    ∙ if-no _ _ _ (not-no _ (eq-eqb _ _ (g .version-zero)))
+    ∙ if-no _ _ _ (false-and _ _ (λ p. let h : current f ≡ 1 = g .current-too (eqb-true _ _ p) in ne-eqb (current f) 0 (λ z. absurd (omega arith))))
+
+-- ---- 31, 32 and 35
+
+length-good : (l : Length) (body : List ℕ) → wrongLength l (byteOf body 7) (length body) ≡ false → Fits l body
+unfolding wrongLength
+length-good Any body e = tt
+length-good (Exactly k) body e = eqb-true _ _ (not-false _ e)
+length-good Counted body e = let a = or-false _ _ e in (ltb-false _ _ (a .0), ltb-false _ _ (a .1))
+
+length-accept : (l : Length) (body : List ℕ) → Fits l body → wrongLength l (byteOf body 7) (length body) ≡ false
+unfolding wrongLength
+length-accept Any body h = refl
+length-accept (Exactly k) body h = not-no _ (eq-eqb _ _ h)
+length-accept Counted body h = false-or _ _ (le-ltb _ _ (h .0)) (le-ltb _ _ (h .1))
+
+module _ (n f : ℕ) where
+  both-good : flagsShort n f ≡ false → n ≤ 0x0003 → (persistent f ≡ 1) × (current f ≡ 1)
+  unfolding flagsShort
+  both-good e h =
+      let a = and-true _ _ (not-false _ (and-false _ _ e (le-leb n 0x0003 h))) in
+      (eqb-true _ _ (a .0), eqb-true _ _ (a .1))
+
+  both-accept : (n ≤ 0x0003 → (persistent f ≡ 1) × (current f ≡ 1)) → flagsShort n f ≡ false
+  unfolding flagsShort
+  both-accept g =
+      false-and _ _ (λ h. let a = g (leb-true n 0x0003 h) in not-no _ (true-and _ _ (eq-eqb _ _ (a .0)) (eq-eqb _ _ (a .1))))
+
+module _ (b r : Bool) (f : ℕ) where
+  free-good : flagsBarred b r f ≡ false → b ≡ true → r ≡ true → persistent f ≡ 0
+  unfolding flagsBarred
+  free-good e h k = bit-zero (f / 2) (and-false (b && r) _ e (true-and b r h k))
+
+  free-accept : (b ≡ true → r ≡ true → persistent f ≡ 0) → flagsBarred b r f ≡ false
+  unfolding flagsBarred
+  free-accept g =
+      false-and (b && r) _
+      (λ h.
+      let a = and-true b r h in
+      let z : persistent f ≡ 0 = g (a .0) (a .1) in
+      ne-eqb (persistent f) 1 (λ o. absurd (omega arith)))
+
+-- ---- 36, 37 and 39
+
+module _ (byte mask : ℕ) where
+  bits-good : reservedRule byte mask .number ≡ 0 → bitAnd byte mask ≡ byte
+  unfolding reservedRule
+  bits-good e = eqb-true _ _ (not-false _ (if-zero _ _ _ e .0))
+
+  bits-accept : bitAnd byte mask ≡ byte → reservedRule byte mask ≡ accept
+  unfolding reservedRule
+  bits-accept h = if-no _ _ _ (not-no _ (eq-eqb _ _ h))
+
+module _ (number byte4 length : ℕ) where
+  cue-good : cueRule number byte4 length .number ≡ 0 → number ≡ 0x002E → byte4 / 32 % 2 ≡ 0 → length ≡ 0
+  unfolding cueRule
+  cue-good e h k =
+      eqb-true _ _ (not-false _ (and-false _ _ (if-zero _ _ _ e .0) (true-and _ _ (eq-eqb _ _ h) (eq-eqb _ _ k))))
+
+  cue-accept : (number ≡ 0x002E → byte4 / 32 % 2 ≡ 0 → length ≡ 0) → cueRule number byte4 length ≡ accept
+  unfolding cueRule
+  cue-accept g =
+      if-no _ _ _ (false-and _ _ (λ h. let a = and-true _ _ h in not-no _ (eq-eqb _ _ (g (eqb-true _ _ (a .0)) (eqb-true _ _ (a .1))))))
+
+module _ (number : ℕ) (body : List ℕ) where
+  profiles-good : profilesFault number body .number ≡ 0 → number ≡ 0x0000 → (i : ℕ) → i < length body / 4 → 0 < field 2 body (4 * i)
+  unfolding profilesFault profileAt
+  profiles-good e h i l =
+      let a = first-all (profileAt body) (length body / 4) (ap (λ (r : Refusal). r .number) (sym (if-no _ _ _ (not-no _ (eq-eqb _ _ h)))) ∙ e) i l in
+      let z : field 2 body (4 * i) ≡ 0 → ⊥ = eqb-false _ _ (if-zero _ _ _ a .0) in
+      omega arith
+
+  profiles-accept : (number ≡ 0x0000 → (i : ℕ) → i < length body / 4 → 0 < field 2 body (4 * i)) → profilesFault number body ≡ accept
+  unfolding profilesFault profileAt
+  profiles-accept g = go (eqb number 0x0000) refl
+    where
+      go : (t : Bool) → eqb number 0x0000 ≡ t → profilesFault number body ≡ accept
+      go false e = if-yes _ _ _ (not-yes _ e)
+      go true e =
+          if-no _ _ _ (not-no _ e)
+          ∙ first-accept (profileAt body) 0 (length body / 4)
+          (λ j l m.
+          let z : 0 < field 2 body (4 * j) = g (eqb-true _ _ e) j (omega arith) in
+          ap (λ (r : Refusal). r .number) (if-no (refuse 39) accept _ (ne-eqb (field 2 body (4 * j)) 0 (λ o. absurd (omega arith)))))
+
+-- ---- a descriptor
+
+zero-of : {r : Refusal} → r ≡ accept → r .number ≡ 0
+zero-of e = ap (λ (r : Refusal). r .number) e
+
+module _ (removable : Bool) (d : Desc) where
+  desc-good : descFault removable d .number ≡ 0 → Faultless removable d
+  unfolding descFault rowRule bodyFault reservedAt
+  desc-good e =
+      let a = orElse-zero _ _ e in
+      let b = orElse-zero _ _ (a .1) in
+      let f = flags-good (d .flags) (a .0) in
+      let r = if-zero _ _ _ (b .0) in
+      let t = if-zero _ _ _ (r .1) in
+      let u = if-zero _ _ _ (t .1) in
+      let v = orElse-zero _ _ (b .1) in
+      let w = orElse-zero _ _ (v .1) in
+      record {
+        reserved-zero = f .reserved-zero;
+        version-zero = f .version-zero;
+        current-too = f .current-too;
+        fits = length-good (rowOf (d .number) .length) (d .body) (r .0);
+        both = both-good (d .number) (d .flags) (t .0);
+        free = free-good (rowOf (d .number) .barred) removable (d .flags) (u .0);
+        clear = λ k l. bits-good _ _ (first-all (reservedAt (rowOf (d .number)) (d .body)) (length (d .body)) (v .0) k l);
+        cue = cue-good (d .number) (byteOf (d .body) 4) (field 3 (d .body) 1) (w .0);
+        numbered = profiles-good (d .number) (d .body) (w .1);
+      }
+
+  desc-accept : Faultless removable d → descFault removable d .number ≡ 0
+  unfolding descFault rowRule bodyFault reservedAt
+  desc-accept g =
+      let f = flags-accept (d .flags) (record { reserved-zero = g .reserved-zero; version-zero = g .version-zero; current-too = g .current-too }) in
+      let l = length-accept (rowOf (d .number) .length) (d .body) (g .fits) in
+      let b = both-accept (d .number) (d .flags) (g .both) in
+      let p = free-accept (rowOf (d .number) .barred) removable (d .flags) (g .free) in
+      let r = first-accept (reservedAt (rowOf (d .number)) (d .body)) 0 (length (d .body)) (λ k i j. zero-of (bits-accept _ _ (g .clear k (omega arith)))) in
+      let c = cue-accept (d .number) (byteOf (d .body) 4) (field 3 (d .body) 1) (g .cue) in
+      let n = profiles-accept (d .number) (d .body) (g .numbered) in
+      zero-of
+      (orElse-none _ _ (zero-of f)
+      ∙ orElse-none _ _ (zero-of (if-no _ _ _ l ∙ if-no _ _ _ b ∙ if-no _ _ _ p))
+      ∙ orElse-none _ _ (zero-of r)
+      ∙ orElse-none _ _ (zero-of c)
+      ∙ n)
+
+-- ---- a response
+
+module _ (removable : Bool) where
+  abbrev faulty : Desc → Bool
+  faulty d = not (eqb (descFault removable d .number) 0)
+
+  all-good : (ds : List Desc) → firstFault removable ds .refusal .number ≡ 0 → All (Faultless removable) ds
+  unfolding firstFault
+  all-good [] e = tt
+  all-good (d ∷ ds) e = go (eqb (descFault removable d .number) 0) refl (all-good ds)
+    where
+      go : (t : Bool) → eqb (descFault removable d .number) 0 ≡ t → (firstFault removable ds .refusal .number ≡ 0 → All (Faultless removable) ds)
+          → All (Faultless removable) (d ∷ ds)
+      go true f more =
+          (desc-good removable d (eqb-true _ _ f), more (ap (λ (x : Finding). x .refusal .number) (sym (pick-past faulty _ _ d ds (not-no _ f))) ∙ e))
+      go false f more =
+          absurd (eqb-false _ _ f (ap (λ (x : Finding). x .refusal .number) (sym (pick-here faulty _ _ d ds (not-yes _ f))) ∙ e))
+
+  all-accept : (ds : List Desc) → All (Faultless removable) ds → firstFault removable ds ≡ finding accept 0
+  unfolding firstFault
+  all-accept ds g =
+      pick-never faulty _ _ ds (all-map (Faultless removable) (λ d. faulty d ≡ false) (λ d h. not-no _ (eq-eqb _ _ (desc-accept removable d h))) ds g)
+
+module _ (s : List ℕ) where
+  pub passes-of : checked s .refusal .number ≡ 0 → Passes s
+  unfolding checked checkedAll
+  passes-of e =
+      let a = next-zero _ _ e in
+      let b = next-zero _ _ (a .1) in
+      let c = next-zero _ _ (b .1) in
+      record {
+        input = a .0;
+        list = not-false _ (if-zero _ _ _ (b .0) .0);
+        core = not-false _ (if-zero _ _ _ (c .0) .0);
+        each = all-good (reported 3 (descs s)) (descs s) (c .1);
+      }
+
+  pub of-passes : Passes s → checked s ≡ finding accept 0
+  unfolding checked checkedAll
+  of-passes g =
+      next-none _ _ (g .input)
+      ∙ core-there 0 _ _ (g .list)
+      ∙ core-there 1 _ _ (g .core)
+      ∙ all-accept (reported 3 (descs s)) (descs s) (g .each)

@@ -1,0 +1,63 @@
+-- Which case of a judgement it is, and that a judgement is known by what it says. Assumes nothing.
+use mathlib.Core.Path.{_≡_, refl, sym, ap, _∙_}
+use mathlib.Core.Bool.{true, false, true≢false}
+use mathlib.Core.List.{List, [], _∷_}
+use Prim.Native.Nat.{ℕ, zero, suc}
+use native.Mathlib.Omega.{arith}
+use lib.ListN.{length}
+use Rattle.text.specs.declared.Refusal.{Refusal}
+use Rattle.text.specs.First.{refuse}
+use Rattle.text.proofs.First.{orElse-none, orElse-fault}
+use Rattle.checks.specs.declared.Judgement.{Judgement}
+use Rattle.checks.specs.declared.Judgement.the-variants.{Conforms, Missing, Refused}
+use Rattle.checks.specs.Input.{inputFault, descs}
+use Rattle.checks.specs.Required.{hasTable}
+use Rattle.checks.specs.Judge.{Said, says, said, lowest, judgeFault, judged}
+use Rattle.checks.proofs.Calls.{if-yes, if-no, not-yes, not-no}
+
+module _ (p : ℕ) (s : List ℕ) where
+  refused-is : (r : Refusal) → r ≡ judgeFault p s → (r .number ≡ 0 → ⊥) → said (Refused r) ≡ judged p s
+  unfolding judged
+  refused-is r e k = go (r .number) refl
+    where
+      go : (n : ℕ) → r .number ≡ n → said (Refused r) ≡ judged p s
+      go zero f = absurd (k f)
+      go (suc n) f =
+          let g : judgeFault p s .number ≡ suc n = ap (λ (x : Refusal). x .number) (sym e) ∙ f in
+          rw (g, judged) (ap (λ (m : ℕ). says m false []) f)
+
+  pub judge-input : (r : Refusal) → r ≡ inputFault s → (r .number ≡ 0 → ⊥) → said (Refused r) ≡ judged p s
+  unfolding judgeFault
+  judge-input r e k =
+      refused-is r (e ∙ sym (orElse-fault (inputFault s) _ (λ z. k (ap (λ (x : Refusal). x .number) e ∙ z)))) k
+
+  module _ (r : Refusal) (e : r ≡ inputFault s) (k : r .number ≡ 0) where
+    none : inputFault s .number ≡ 0
+    none = ap (λ (x : Refusal). x .number) (sym e) ∙ k
+
+    pub judge-table : hasTable p ≡ false → said (Refused (refuse 40)) ≡ judged p s
+    unfolding judgeFault
+    judge-table t =
+        refused-is (refuse 40) (sym (orElse-none (inputFault s) _ none ∙ if-yes _ _ _ (not-yes _ t))) (λ z. absurd (omega arith))
+
+    pub judge-lowest : (x : Said) → hasTable p ≡ true → x ≡ lowest p (descs s) → x ≡ judged p s
+    unfolding judged judgeFault
+    judge-lowest x t l =
+        let g : judgeFault p s .number ≡ 0 =
+        ap (λ (x : Refusal). x .number) (orElse-none (inputFault s) _ none ∙ if-no _ _ _ (not-no _ t)) in
+        l ∙ sym (rw (g, judged))
+
+-- a judgement is known by what it says
+pub said-injective : (a b : Judgement) → said a ≡ said b → a ≡ b
+said-injective Conforms Conforms e = refl
+said-injective Conforms (Missing g) e = absurd (true≢false (ap (λ (x : Said). x .conforms) e))
+said-injective Conforms (Refused q) e = absurd (true≢false (ap (λ (x : Said). x .conforms) e))
+said-injective (Missing f) Conforms e = absurd (true≢false (sym (ap (λ (x : Said). x .conforms) e)))
+said-injective (Missing f) (Missing g) e =
+    let m : (f .0 ∷ []) ≡ (g .0 ∷ []) = ap (λ (x : Said). x .missing) e in
+    let h : f .0 ≡ g .0 = cc in
+    ap (λ (n : ℕ). Missing (record { 0 = n })) h
+said-injective (Missing f) (Refused q) e = absurd (omega (arith, ap (λ (x : Said). length (x .missing)) e))
+said-injective (Refused r) Conforms e = absurd (true≢false (sym (ap (λ (x : Said). x .conforms) e)))
+said-injective (Refused r) (Missing g) e = absurd (omega (arith, ap (λ (x : Said). length (x .missing)) e))
+said-injective (Refused r) (Refused q) e = ap (λ (n : ℕ). Refused (refuse n)) (ap (λ (x : Said). x .number) e)

@@ -1,0 +1,10 @@
+-- Laws that this crate's proofs and those above it cite.
+pub mod Pick
+pub mod Bools
+pub mod Calls
+pub mod Complete
+pub mod Findings
+pub mod Input
+pub mod Judgements
+pub mod Faultless
+pub mod Lowest

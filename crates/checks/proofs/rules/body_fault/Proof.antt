@@ -1,0 +1,23 @@
+-- `checks::rules::body_fault` meets its contract: each early return is a case of the rule.
+use Rattle.checks.proofs.Calls.{faults}
+use Rattle.checks.specs.Rules.{bodyFault}
+use borrow.Author.Needs.{needs}
+use Rattle.checks.proofs.rules.body_fault.Statement.{statement}
+use Rattle.checks.proofs.rules.body_fault.Tie as tie
+
+returns : tie.Need-returns
+unfolding bodyFault
+returns c = search faults
+
+returns-2 : tie.Need-returns-2
+unfolding bodyFault
+returns-2 c = search faults
+
+returns-3 : tie.Need-returns-3
+unfolding bodyFault
+returns-3 c = search faults
+
+pub body-fault-spec : {M : Type 1} → statement M
+body-fault-spec =
+    tie.close
+    (tie.spec (λ c κs. search needs) returns (λ c κs. search needs) returns-2 (λ c κs. search needs) returns-3)

@@ -1,0 +1,44 @@
+-- `checks::rules::first_fault` meets its contract: the loop carries what is left of the search.
+use borrow.Author.Needs.{needs}
+use Prim.Native.Nat.{_-_}
+use mathlib.Core.Bool.{not}
+use mathlib.Core.Path.{_≡_}
+use native.Mathlib.Omega.{arith}
+use lib.Dec.{eqb}
+use lib.ListN.{length}
+use Rattle.checks.specs.Pick.{pick}
+use Rattle.checks.specs.Input.{descs}
+use Rattle.checks.proofs.Complete.{from, walk-start, walk-found, walk-next, walk-end}
+use Rattle.checks.proofs.Calls.{call-some, call-zero}
+use Rattle.text.specs.First.{accept}
+use Rattle.text.specs.Reading.{numberAt, descAt}
+use Rattle.checks.specs.Rules.{descFault}
+use Rattle.checks.specs.Check.{finding, firstFault}
+use Rattle.checks.proofs.Findings.{finding-eq}
+use Rattle.checks.proofs.rules.first_fault.Statement.{statement}
+use Rattle.checks.proofs.rules.first_fault.Tie as tie
+
+abbrev Inv-loop : tie.InvT-loop
+Inv-loop removable s at₀ at = firstFault removable (descs s) ≡ pick (λ d. not (eqb (descFault removable d .number) 0)) (λ d. finding (descFault removable d) (d .number)) (finding accept 0) (from s at)
+
+abbrev μ-loop : tie.MeasureT-loop
+μ-loop removable s at₀ at = length s - at
+
+loop-holds : tie.Need-loop-holds Inv-loop μ-loop
+unfolding firstFault
+loop-holds c = search walk-start
+
+returns : tie.Need-returns Inv-loop μ-loop
+unfolding descAt numberAt
+returns c = search (walk-found, call-some, finding-eq)
+
+loop-again : tie.Need-loop-again Inv-loop μ-loop
+loop-again c = search (walk-next, call-zero)
+
+returns-2 : tie.Need-returns-2 Inv-loop μ-loop
+returns-2 c = search walk-end
+
+pub first-fault-spec : {M : Type 1} → statement M
+first-fault-spec =
+    tie.close
+    (tie.spec Inv-loop μ-loop loop-holds (λ c κs. search needs) (λ c κs. search needs) returns (λ c κs. search needs) (λ c. omega arith) loop-again returns-2)

@@ -1,0 +1,40 @@
+-- `checks::walk::reports` meets its contract: the loop carries what is left of the search.
+use borrow.Author.Needs.{needs}
+use Prim.Native.Nat.{_-_}
+use mathlib.Core.Path.{_≡_}
+use native.Mathlib.Omega.{arith}
+use lib.Dec.{eqb}
+use lib.ListN.{length}
+use Rattle.text.specs.Reading.{numberAt, descAt}
+use Rattle.checks.specs.Pick.{some}
+use Rattle.checks.specs.Input.{descs, reported}
+use Rattle.checks.proofs.Calls.{call-eq, call-ne}
+use Rattle.checks.proofs.Complete.{from, walk-start, walk-found, walk-next, walk-end}
+use Rattle.checks.proofs.walk.reports.Statement.{statement}
+use Rattle.checks.proofs.walk.reports.Tie as tie
+
+abbrev Inv-loop : tie.InvT-loop
+Inv-loop f s at₀ at = reported (f .0) (descs s) ≡ some (λ d. eqb (d .number) (f .0)) (from s at)
+
+abbrev μ-loop : tie.MeasureT-loop
+μ-loop f s at₀ at = length s - at
+
+loop-holds : tie.Need-loop-holds Inv-loop μ-loop
+unfolding reported
+loop-holds c = search walk-start
+
+returns : tie.Need-returns Inv-loop μ-loop
+unfolding descAt numberAt
+returns c = search (walk-found, call-eq)
+
+loop-again : tie.Need-loop-again Inv-loop μ-loop
+unfolding descAt numberAt
+loop-again c = search (walk-next, call-ne)
+
+returns-2 : tie.Need-returns-2 Inv-loop μ-loop
+returns-2 c = search walk-end
+
+pub reports-spec : {M : Type 1} → statement M
+reports-spec =
+    tie.close
+    (tie.spec Inv-loop μ-loop loop-holds (λ c κs. search needs) returns (λ c κs. search needs) (λ c. omega arith) loop-again returns-2)

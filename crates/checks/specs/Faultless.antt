@@ -1,0 +1,49 @@
+-- What a response without a fault is: each rule, said of every descriptor. Assumes nothing: these are definitions.
+use mathlib.Core.Path.{_≡_}
+use mathlib.Core.Bool.{Bool, true}
+use mathlib.Core.List.{List}
+use Prim.Native.Nat.{ℕ, _+_, _*_, _/_, _%_, _≤_, _<_}
+use lib.Bits.{bitAnd}
+use lib.ListN.{length, getD}
+use Rattle.base.specs.Lists.{All}
+use Rattle.fields.specs.Field.{field}
+use Rattle.text.specs.Flags.{reserved, version, persistent, current}
+use Rattle.text.specs.Drive.{Desc}
+use Rattle.checks.specs.declared.legal.Length.{Length}
+use Rattle.checks.specs.declared.legal.Length.the-variants.{Any, Exactly, Counted}
+use Rattle.checks.specs.Legal.{rowOf}
+use Rattle.checks.specs.Rules.{byteOf, maskAt}
+use Rattle.checks.specs.Input.{inputFault, descs, reported}
+
+-- a body is as long as its row says
+abbrev pub Fits : Length → List ℕ → Type 0
+Fits Any body = Unit {0}
+Fits (Exactly k) body = length body ≡ k
+Fits Counted body = (4 + byteOf body 7 ≤ length body) × (length body ≤ 4 + byteOf body 7 + 3)
+
+pub record Faultless (removable : Bool) (d : Desc) : Type 0 where
+  -- 33
+  pub reserved-zero : reserved (d .flags) ≡ 0
+  pub version-zero : version (d .flags) ≡ 0
+  -- 34
+  pub current-too : persistent (d .flags) ≡ 1 → current (d .flags) ≡ 1
+  -- 31
+  pub fits : Fits (rowOf (d .number) .length) (d .body)
+  -- 32
+  pub both : d .number ≤ 0x0003 → (persistent (d .flags) ≡ 1) × (current (d .flags) ≡ 1)
+  -- 35
+  pub free : rowOf (d .number) .barred ≡ true → removable ≡ true → persistent (d .flags) ≡ 0
+  -- 36
+  pub clear : (k : ℕ) → k < length (d .body)
+      → bitAnd (getD (d .body) k 0) (maskAt (rowOf (d .number) .length) (rowOf (d .number) .masks) (byteOf (d .body) 7) k) ≡ getD (d .body) k 0
+  -- 37
+  pub cue : d .number ≡ 0x002E → byteOf (d .body) 4 / 32 % 2 ≡ 0 → field 3 (d .body) 1 ≡ 0
+  -- 39
+  pub numbered : d .number ≡ 0x0000 → (i : ℕ) → i < length (d .body) / 4 → 0 < field 2 (d .body) (4 * i)
+
+-- the response is complete, features 0 and 1 are reported, and no descriptor has a fault
+pub record Passes (s : List ℕ) : Type 0 where
+  pub input : inputFault s .number ≡ 0
+  pub list : reported 0 (descs s) ≡ true
+  pub core : reported 1 (descs s) ≡ true
+  pub each : All (Faultless (reported 3 (descs s))) (descs s)

@@ -1,0 +1,41 @@
+-- Whether a response has what a profile requires. Assumes nothing: these are definitions.
+use mathlib.Core.Bool.{Bool, true, false, not}
+use mathlib.Core.List.{List, [], _∷_}
+use Prim.Native.Nat.{ℕ, zero, suc}
+use Rattle.text.specs.declared.Refusal.{Refusal}
+use Rattle.text.specs.First.{refuse, accept, _if_else_, _orElse_}
+use Rattle.text.specs.Drive.{Desc}
+use Rattle.checks.specs.declared.Judgement.{Judgement}
+use Rattle.checks.specs.declared.Judgement.the-variants.{Conforms, Missing, Refused}
+use Rattle.checks.specs.Pick.{pick}
+use Rattle.checks.specs.Input.{inputFault, descs}
+use Rattle.checks.specs.Required.{required, lacks, hasTable}
+
+-- what a judgement says: the number, whether the response conforms, and the missing feature where one is named
+pub record Said : Type 0 where
+  pub number : ℕ
+  pub conforms : Bool
+  pub missing : List ℕ
+
+abbrev pub says : ℕ → Bool → List ℕ → Said
+says n c m = record { number = n; conforms = c; missing = m }
+
+-- each case of the answer
+abbrev pub said : Judgement → Said
+said Conforms = says 0 true []
+said (Missing f) = says 0 false (f .0 ∷ [])
+said (Refused r) = says (r .number) false []
+
+-- the first line that is not met: lines of one profile ascend, so its feature is the lowest
+unfoldable pub lowest : (profile : ℕ) → List Desc → Said
+lowest p ds = pick (lacks p ds) (λ n. says 0 false (n .feature .0 ∷ [])) (says 0 true []) required
+
+-- what refuses a judgement: the reading's numbers, 29, then 40: no table for the profile
+unfoldable pub judgeFault : (profile : ℕ) → List ℕ → Refusal
+judgeFault p s =
+    inputFault s orElse
+    refuse 40 if not (hasTable p) else
+    accept
+
+unfoldable pub judged : (profile : ℕ) → List ℕ → Said
+judged p s = elim (judgeFault p s .number) [ zero ↦ lowest p (descs s) | suc k ↦ says (suc k) false [] ]

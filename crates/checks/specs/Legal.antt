@@ -1,0 +1,58 @@
+-- The paper's table of lengths and body bits. Assumes nothing: these are definitions.
+use mathlib.Core.Bool.{Bool, true, false}
+use mathlib.Core.List.{List, [], _∷_}
+use Prim.Native.Nat.{ℕ, suc, _+_, _-_, _^_}
+use lib.Dec.{eqb}
+use Rattle.checks.specs.declared.legal.Length.{Length}
+use Rattle.checks.specs.declared.legal.Length.the-variants.{Any, Exactly, Counted}
+use Rattle.checks.specs.declared.legal.Row.{Row}
+use Rattle.checks.specs.Pick.{pick}
+
+-- bit k of a byte; bits h to l; all and none
+abbrev pub bit : ℕ → ℕ
+bit k = 2 ^ k
+
+abbrev pub bits : ℕ → ℕ → ℕ
+bits h l = 2 ^ suc h - 2 ^ l
+
+abbrev pub all : ℕ
+all = bits 7 0
+
+abbrev pub none : ℕ
+none = 0
+
+abbrev pub four : ℕ → ℕ → ℕ → ℕ → List ℕ
+four a b c d = a ∷ b ∷ c ∷ d ∷ []
+
+abbrev pub free : Bool
+free = false
+
+abbrev pub barred : Bool
+barred = true
+
+abbrev pub row : ℕ → Length → List ℕ → Bool → Row
+row f l m b = record { feature = record { 0 = f }; length = l; masks = m; barred = b }
+
+-- feature, length, the bits that may be 1 in bytes 4 to 7 (and so in each four bytes of a longer body; of Counted only in the first four), and
+-- whether Persistent is barred where 0003h is reported
+unfoldable pub legal : List Row
+legal =
+    row 0x0000 Any (four all all (bit 0) none) free ∷
+    row 0x0001 (Exactly 4) (four all all all all) free ∷
+    row 0x0002 (Exactly 4) (four (bit 0) none none none) free ∷
+    row 0x0003 (Exactly 4) (four (bits 7 5 + bits 3 2 + bit 0) none none none) free ∷
+    row 0x001F (Exactly 0) (four none none none none) barred ∷
+    row 0x0020 (Exactly 4) (four all all all all) barred ∷
+    row 0x0021 Counted (four none none none all) barred ∷
+    row 0x0026 (Exactly 4) (four all all all all) barred ∷
+    row 0x002D (Exactly 4) (four (bits 2 0) none none none) barred ∷
+    row 0x002E (Exactly 4) (four (bits 5 0) all all all) barred ∷
+    row 0x002F (Exactly 4) (four (bit 2) none none none) barred ∷ []
+
+-- any other feature: any length, any bits
+unfoldable pub other : Row
+other = row 0xFFFF Any (four all all all all) free
+
+-- the row of a feature
+unfoldable pub rowOf : ℕ → Row
+rowOf f = pick (λ r. eqb (r .feature .0) f) (λ r. r) other legal

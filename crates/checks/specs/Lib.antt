@@ -1,0 +1,8 @@
+pub mod Pick
+pub mod Legal
+pub mod Rules
+pub mod Input
+pub mod Check
+pub mod Faultless
+pub mod Required
+pub mod Judge

@@ -1,0 +1,88 @@
+-- The rules for one descriptor, in the paper's order. Assumes nothing: these are definitions.
+use mathlib.Core.Bool.{Bool, true, false, not, _&&_, _||_}
+use mathlib.Core.List.{List}
+use Prim.Native.Nat.{ℕ, _+_, _-_, _*_, _/_, _%_}
+use lib.Bits.{bitAnd}
+use lib.Dec.{ltb, leb, eqb}
+use lib.ListN.{length, getD}
+use Rattle.fields.specs.Field.{field}
+use Rattle.text.specs.declared.Refusal.{Refusal}
+use Rattle.text.specs.First.{refuse, accept, _if_else_, _orElse_, firstOf}
+use Rattle.text.specs.Flags.{reserved, version, persistent, current}
+use Rattle.text.specs.Drive.{Desc}
+use Rattle.checks.specs.declared.legal.Length.{Length}
+use Rattle.checks.specs.declared.legal.Length.the-variants.{Any, Exactly, Counted}
+use Rattle.checks.specs.declared.legal.Row.{Row}
+use Rattle.checks.specs.Legal.{all, none, rowOf}
+
+-- byte k of a descriptor with this body, counted from the descriptor's start: byte 4 is the body's first
+abbrev pub byteOf : List ℕ → ℕ → ℕ
+byteOf body k = getD body (k - 4) 0
+
+-- 33: reserved flags or Version not 0. 34: Persistent without Current
+unfoldable pub flagsRule : (flags : ℕ) → Refusal
+flagsRule flags =
+    refuse 33 if not (eqb (reserved flags) 0) else
+    refuse 33 if not (eqb (version flags) 0) else
+    refuse 34 if eqb (persistent flags) 1 && eqb (current flags) 0 else
+    accept
+
+-- a body of len bytes is not as long as the row says; n is byte 7
+unfoldable pub wrongLength : Length → (n len : ℕ) → Bool
+wrongLength Any n len = false
+wrongLength (Exactly k) n len = not (eqb len k)
+wrongLength Counted n len = ltb len (4 + n) || ltb (4 + n + 3) len
+
+-- 0000h to 0003h without both flags
+unfoldable pub flagsShort : (number flags : ℕ) → Bool
+flagsShort number flags = leb number 0x0003 && not (eqb (persistent flags) 1 && eqb (current flags) 1)
+
+-- Persistent where the row bars it; removable says whether 0003h is reported
+unfoldable pub flagsBarred : (barred removable : Bool) (flags : ℕ) → Bool
+flagsBarred barred removable flags = barred && removable && eqb (persistent flags) 1
+
+-- 31: wrong length. 32: flags not both 1. 35: Persistent with 0003h reported
+unfoldable pub rowRule : Row → (removable : Bool) (number flags n len : ℕ) → Refusal
+rowRule row removable number flags n len =
+    refuse 31 if wrongLength (row .length) n len else
+    refuse 32 if flagsShort number flags else
+    refuse 35 if flagsBarred (row .barred) removable flags else
+    accept
+
+-- the bits of body byte k that may be 1; n is byte 7
+unfoldable pub maskAt : Length → (masks : List ℕ) (n k : ℕ) → ℕ
+maskAt Any masks n k = getD masks (k % 4) none
+maskAt (Exactly l) masks n k = getD masks (k % 4) none
+maskAt Counted masks n k = elim (ltb k 4) [ true ↦ getD masks k none | false ↦ elim (ltb k (4 + n)) [ true ↦ all | false ↦ none ] ]
+
+-- 36: a reserved body bit or pad byte not 0
+unfoldable pub reservedRule : (byte mask : ℕ) → Refusal
+reservedRule byte mask = refuse 36 if not (eqb (bitAnd byte mask) byte) else accept
+
+unfoldable pub reservedAt : Row → List ℕ → ℕ → Refusal
+reservedAt row body k = reservedRule (getD body k 0) (maskAt (row .length) (row .masks) (byteOf body 7) k)
+
+-- 37: SAO, bit 5 of byte 4, is 0 and the cue sheet length, bytes 5 to 7, is not
+unfoldable pub cueRule : (number byte4 cue : ℕ) → Refusal
+cueRule number byte4 cue = refuse 37 if eqb number 0x002E && eqb (byte4 / 32 % 2) 0 && not (eqb cue 0) else accept
+
+-- 39: profile number 0
+unfoldable pub profileAt : List ℕ → ℕ → Refusal
+profileAt body i = refuse 39 if eqb (field 2 body (4 * i)) 0 else accept
+
+unfoldable pub profilesFault : (number : ℕ) → List ℕ → Refusal
+profilesFault number body = accept if not (eqb number 0x0000) else firstOf (profileAt body) 0 (length body / 4)
+
+-- what the body breaks: 36 anywhere in it, then 37, then 39
+unfoldable pub bodyFault : Row → (number : ℕ) → List ℕ → Refusal
+bodyFault row number body =
+    firstOf (reservedAt row body) 0 (length body) orElse
+    cueRule number (byteOf body 4) (field 3 body 1) orElse
+    profilesFault number body
+
+-- the first fault of a descriptor
+unfoldable pub descFault : (removable : Bool) → Desc → Refusal
+descFault removable d =
+    flagsRule (d .flags) orElse
+    rowRule (rowOf (d .number)) removable (d .number) (d .flags) (byteOf (d .body) 7) (length (d .body)) orElse
+    bodyFault (rowOf (d .number)) (d .number) (d .body)

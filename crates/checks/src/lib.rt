@@ -1,0 +1,90 @@
+// The driver's checks of a response to RT 0 from 0: its descriptors, and what a profile requires of it.
+ghost use mathlib.Core.Path.{_≡_};
+ghost use Rattle.checks.specs.Input.{inputFault, descs};
+ghost use Rattle.checks.specs.Check.{checkedAll, checked};
+ghost use Rattle.checks.specs.Judge.{said, judged};
+
+mod legal;
+mod required;
+mod rules;
+mod walk;
+
+use text::Feature;
+use text::Profile;
+use text::Refusal;
+
+// What a check finds: the number, 0 where there is no fault, and the feature at fault.
+pub struct Finding {
+    pub refusal: Refusal,
+    pub feature: Feature,
+}
+
+// Whether a response has what a profile requires: it does, or this feature is the lowest that is missing, or this is why it was not judged.
+pub enum Judgement {
+    Conforms,
+    Missing(Feature),
+    Refused(Refusal),
+}
+
+// Why a response is not checked: the reading refuses it, or it is cut.
+fn input_fault(s: &[u8]) -> Refusal
+    ensures { λ r. ⌜ r ≡ inputFault (now (s .entry)) ⌝ }
+{
+    let reading = reading::read(0, Feature(0), s);
+    let fault = reading.refusal;
+    if fault.number != 0 {
+        return fault;
+    }
+    if !reading.complete {
+        return text::RESPONSE_CUT;
+    }
+    text::ACCEPTED
+}
+
+// The check of the descriptors of a complete response.
+fn check_all(s: &[u8]) -> Finding
+    requires { ⌜ inputFault (now s) .number ≡ 0 ⌝ }
+    ensures { λ r. ⌜ r ≡ checkedAll (descs (now (s .entry))) ⌝ }
+{
+    if !walk::reports(Feature(0), s) {
+        return Finding {
+            refusal: text::CORE_MISSING,
+            feature: Feature(0),
+        };
+    }
+    if !walk::reports(Feature(1), s) {
+        return Finding {
+            refusal: text::CORE_MISSING,
+            feature: Feature(1),
+        };
+    }
+    rules::first_fault(walk::reports(Feature(3), s), s)
+}
+
+// The check of the descriptors of a response: the first number, and the feature at fault.
+pub fn check_descriptors(s: &[u8]) -> Finding
+    ensures { λ r. ⌜ r ≡ checked (now (s .entry)) ⌝ }
+{
+    let fault = input_fault(s);
+    if fault.number != 0 {
+        return Finding {
+            refusal: fault,
+            feature: Feature(0),
+        };
+    }
+    check_all(s)
+}
+
+// Whether a response has what a profile requires.
+pub fn check_profile(profile: Profile, s: &[u8]) -> Judgement
+    ensures { λ r. ⌜ said r ≡ judged (profile .0) (now (s .entry)) ⌝ }
+{
+    let fault = input_fault(s);
+    if fault.number != 0 {
+        return Judgement::Refused(fault);
+    }
+    if !required::has_table(profile) {
+        return Judgement::Refused(text::NO_TABLE);
+    }
+    required::lowest_missing(profile, s)
+}

@@ -1,0 +1,222 @@
+// The table of required features, and what a response lacks of it.
+ghost use mathlib.Core.Path.{_≡_};
+ghost use Prim.Native.Nat.{_<_};
+ghost use lib.ListN.{length, getD};
+ghost use Rattle.text.specs.Reading.{descAt};
+ghost use Rattle.checks.specs.Pick.{some};
+ghost use Rattle.checks.specs.Input.{inputFault, descs};
+ghost use Rattle.checks.specs.Required.{required, line, givesRule, gives, lacks, hasTable};
+ghost use Rattle.checks.specs.Judge.{said, lowest};
+use super::Judgement;
+use super::walk;
+use text::Feature;
+use text::Profile;
+
+// A line: the profile needs the feature, with a body of at least so many bytes and with these bits of the body byte at this place set.
+pub struct Need {
+    pub profile: Profile,
+    pub feature: Feature,
+    pub least: u8,
+    pub place: u8,
+    pub mask: u8,
+}
+
+// Logical units not conforming to a standard profile.
+const NONE: Profile = Profile(0xFFFF);
+
+const DVD_RAM: Profile = Profile(0x0012);
+
+// The lines of a profile ascend. Of 0010h the Page Present bit, bit 0 of byte 10, is asked for.
+const REQUIRED: [Need; 15] = [
+    Need {
+        profile: NONE,
+        feature: Feature(0x0000),
+        least: 0,
+        place: 0,
+        mask: 0x00,
+    },
+    Need {
+        profile: NONE,
+        feature: Feature(0x0001),
+        least: 0,
+        place: 0,
+        mask: 0x00,
+    },
+    Need {
+        profile: DVD_RAM,
+        feature: Feature(0x0000),
+        least: 0,
+        place: 0,
+        mask: 0x00,
+    },
+    Need {
+        profile: DVD_RAM,
+        feature: Feature(0x0001),
+        least: 0,
+        place: 0,
+        mask: 0x00,
+    },
+    Need {
+        profile: DVD_RAM,
+        feature: Feature(0x0002),
+        least: 0,
+        place: 0,
+        mask: 0x00,
+    },
+    Need {
+        profile: DVD_RAM,
+        feature: Feature(0x0003),
+        least: 0,
+        place: 0,
+        mask: 0x00,
+    },
+    Need {
+        profile: DVD_RAM,
+        feature: Feature(0x0010),
+        least: 8,
+        place: 6,
+        mask: 0x01,
+    },
+    Need {
+        profile: DVD_RAM,
+        feature: Feature(0x001F),
+        least: 0,
+        place: 0,
+        mask: 0x00,
+    },
+    Need {
+        profile: DVD_RAM,
+        feature: Feature(0x0020),
+        least: 0,
+        place: 0,
+        mask: 0x00,
+    },
+    Need {
+        profile: DVD_RAM,
+        feature: Feature(0x0023),
+        least: 0,
+        place: 0,
+        mask: 0x00,
+    },
+    Need {
+        profile: DVD_RAM,
+        feature: Feature(0x0024),
+        least: 0,
+        place: 0,
+        mask: 0x00,
+    },
+    Need {
+        profile: DVD_RAM,
+        feature: Feature(0x0100),
+        least: 0,
+        place: 0,
+        mask: 0x00,
+    },
+    Need {
+        profile: DVD_RAM,
+        feature: Feature(0x0101),
+        least: 0,
+        place: 0,
+        mask: 0x00,
+    },
+    Need {
+        profile: DVD_RAM,
+        feature: Feature(0x0105),
+        least: 0,
+        place: 0,
+        mask: 0x00,
+    },
+    Need {
+        profile: DVD_RAM,
+        feature: Feature(0x0107),
+        least: 0,
+        place: 0,
+        mask: 0x00,
+    },
+];
+
+fn need_at(i: usize) -> Need
+    requires { ⌜ i < length required ⌝ }
+    ensures { λ r. ⌜ r ≡ getD required i (line 0 0) ⌝ }
+{
+    REQUIRED[i]
+}
+
+// Whether there is a table for the profile.
+pub fn has_table(profile: Profile) -> bool
+    ensures { λ r. ⌜ r ≡ hasTable (profile .0) ⌝ }
+{
+    let mut i = 0;
+    while i < REQUIRED.len() {
+        let need = need_at(i);
+        if need.profile.0 == profile.0 {
+            return true;
+        }
+        i += 1;
+    }
+    false
+}
+
+fn gives_rule(need: Need, len: usize, byte: u8) -> bool
+    ensures { λ r. ⌜ r ≡ givesRule need len byte ⌝ }
+{
+    if len < need.least as usize {
+        return false;
+    }
+    let kept = byte & need.mask;
+    kept == need.mask
+}
+
+// Whether the descriptor at a place is what a line asks for.
+fn gives_at(need: Need, s: &[u8], at: usize) -> bool
+    requires { ⌜ at < length (now s) ⌝ }
+    ensures { λ r. ⌜ r ≡ gives need (descAt (now (s .entry)) at) ⌝ }
+{
+    if fields::get2(s, at) != need.feature.0 {
+        return false;
+    }
+    let body = walk::body_at(s, at);
+    gives_rule(need, body.len(), fields::byte(body, need.place as usize))
+}
+
+fn given_in(need: Need, s: &[u8]) -> bool
+    requires { ⌜ inputFault (now s) .number ≡ 0 ⌝ }
+    ensures { λ r. ⌜ r ≡ some (gives need) (descs (now (s .entry))) ⌝ }
+{
+    let mut at = 8;
+    while at < s.len() {
+        if gives_at(need, s, at) {
+            return true;
+        }
+        at = walk::next_at(s, at);
+    }
+    false
+}
+
+// Whether a line is the profile's and no descriptor is what it asks for.
+fn lacking(profile: Profile, s: &[u8], need: Need) -> bool
+    requires { ⌜ inputFault (now s) .number ≡ 0 ⌝ }
+    ensures { λ r. ⌜ r ≡ lacks (profile .0) (descs (now (s .entry))) need ⌝ }
+{
+    if need.profile.0 != profile.0 {
+        return false;
+    }
+    !given_in(need, s)
+}
+
+// The lowest feature that a complete response lacks of a profile.
+pub fn lowest_missing(profile: Profile, s: &[u8]) -> Judgement
+    requires { ⌜ inputFault (now s) .number ≡ 0 ⌝ }
+    ensures { λ r. ⌜ said r ≡ lowest (profile .0) (descs (now (s .entry))) ⌝ }
+{
+    let mut i = 0;
+    while i < REQUIRED.len() {
+        let need = need_at(i);
+        if lacking(profile, s, need) {
+            let feature = need.feature;
+            return Judgement::Missing(feature);
+        }
+        i += 1;
+    }
+    Judgement::Conforms
+}

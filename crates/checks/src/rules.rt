@@ -1,0 +1,255 @@
+// The rules for one descriptor, and the first descriptor that breaks one.
+ghost use mathlib.Core.Path.{_≡_};
+ghost use Prim.Native.Nat.{_/_, _<_};
+ghost use lib.ListN.{length, getD};
+ghost use Rattle.fields.specs.Field.{field};
+ghost use Rattle.text.specs.First.{firstOf};
+ghost use Rattle.text.specs.Reading.{descAt};
+ghost use Rattle.checks.specs.Rules.{flagsRule, wrongLength, flagsShort, flagsBarred, rowRule, maskAt, reservedRule, reservedAt, cueRule, profileAt, profilesFault, bodyFault, descFault};
+ghost use Rattle.checks.specs.Input.{inputFault, descs};
+ghost use Rattle.checks.specs.Check.{firstFault};
+use super::Finding;
+use super::legal;
+use super::legal::Length;
+use super::legal::Row;
+use super::walk;
+use text::Feature;
+use text::Refusal;
+
+// ---- the rules, on numbers
+
+fn flags_rule(flags: u8) -> Refusal
+    ensures { λ r. ⌜ r ≡ flagsRule flags ⌝ }
+{
+    if flags / 64 != 0 {
+        return text::FLAGS_RESERVED;
+    }
+    if flags / 4 % 16 != 0 {
+        return text::FLAGS_RESERVED;
+    }
+    if flags / 2 % 2 != 1 {
+        return text::ACCEPTED;
+    }
+    if flags % 2 == 0 {
+        return text::PERSISTENT_ALONE;
+    }
+    text::ACCEPTED
+}
+
+fn wrong_length(length: Length, n: u8, len: usize) -> bool
+    ensures { λ r. ⌜ r ≡ wrongLength length n len ⌝ }
+{
+    match length {
+        Length::Any => false,
+        Length::Exactly(k) => len != k as usize,
+        Length::Counted => {
+            if len < 4 + n as usize {
+                return true;
+            }
+            4 + n as usize + 3 < len
+        }
+    }
+}
+
+fn flags_short(f: Feature, flags: u8) -> bool
+    ensures { λ r. ⌜ r ≡ flagsShort (f .0) flags ⌝ }
+{
+    if 0x0003 < f.0 {
+        return false;
+    }
+    if flags / 2 % 2 != 1 {
+        return true;
+    }
+    flags % 2 != 1
+}
+
+fn flags_barred(barred: bool, removable: bool, flags: u8) -> bool
+    ensures { λ r. ⌜ r ≡ flagsBarred barred removable flags ⌝ }
+{
+    if !barred {
+        return false;
+    }
+    if !removable {
+        return false;
+    }
+    flags / 2 % 2 == 1
+}
+
+fn row_rule(row: Row, removable: bool, f: Feature, flags: u8, n: u8, len: usize) -> Refusal
+    ensures { λ r. ⌜ r ≡ rowRule row removable (f .0) flags n len ⌝ }
+{
+    let length = row.length;
+    if wrong_length(length, n, len) {
+        return text::BODY_LENGTH_BAD;
+    }
+    if flags_short(f, flags) {
+        return text::FLAGS_NOT_BOTH;
+    }
+    if flags_barred(row.barred, removable, flags) {
+        return text::PERSISTENT_BARRED;
+    }
+    text::ACCEPTED
+}
+
+fn mask_at(row: Row, n: u8, k: usize) -> u8
+    ensures { λ r. ⌜ r ≡ maskAt (row .length) (row .masks) n k ⌝ }
+{
+    let length = row.length;
+    match length {
+        Length::Any => row.masks[k % 4],
+        Length::Exactly(_) => row.masks[k % 4],
+        Length::Counted => {
+            if k < 4 {
+                return row.masks[k];
+            }
+            if k < 4 + n as usize {
+                return 0xFF;
+            }
+            0
+        }
+    }
+}
+
+fn reserved_rule(byte: u8, mask: u8) -> Refusal
+    ensures { λ r. ⌜ r ≡ reservedRule byte mask ⌝ }
+{
+    let kept = byte & mask;
+    if kept != byte {
+        return text::BITS_RESERVED;
+    }
+    text::ACCEPTED
+}
+
+fn cue_rule(f: Feature, byte4: u8, cue: u32) -> Refusal
+    ensures { λ r. ⌜ r ≡ cueRule (f .0) byte4 cue ⌝ }
+{
+    if f.0 != 0x002E {
+        return text::ACCEPTED;
+    }
+    if byte4 / 32 % 2 != 0 {
+        return text::ACCEPTED;
+    }
+    if cue != 0 {
+        return text::CUE_LENGTH;
+    }
+    text::ACCEPTED
+}
+
+// ---- the rules, over a body
+
+fn reserved_at(row: Row, body: &[u8], k: usize) -> Refusal
+    ensures { λ r. ⌜ r ≡ reservedAt row (now (body .entry)) k ⌝ }
+{
+    let mask = mask_at(row, fields::byte(body, 3), k);
+    reserved_rule(fields::byte(body, k), mask)
+}
+
+fn reserved_fault(row: Row, body: &[u8]) -> Refusal
+    ensures { λ r. ⌜ r ≡ firstOf (reservedAt row (now (body .entry))) 0 (length (now (body .entry))) ⌝ }
+{
+    let mut k = 0;
+    while k < body.len() {
+        let fault = reserved_at(row, body, k);
+        if fault.number != 0 {
+            return fault;
+        }
+        k += 1;
+    }
+    text::ACCEPTED
+}
+
+fn profile_at(body: &[u8], i: usize) -> Refusal
+    requires { ⌜ i < length (now body) / 4 ⌝ }
+    ensures { λ r. ⌜ r ≡ profileAt (now (body .entry)) i ⌝ }
+{
+    if fields::get2(body, 4 * i) == 0 {
+        return text::PROFILE_ZERO;
+    }
+    text::ACCEPTED
+}
+
+fn profiles_fault(f: Feature, body: &[u8]) -> Refusal
+    ensures { λ r. ⌜ r ≡ profilesFault (f .0) (now (body .entry)) ⌝ }
+{
+    if f.0 != 0x0000 {
+        return text::ACCEPTED;
+    }
+    let n = body.len() / 4;
+    let mut i = 0;
+    while i < n {
+        let fault = profile_at(body, i);
+        if fault.number != 0 {
+            return fault;
+        }
+        i += 1;
+    }
+    text::ACCEPTED
+}
+
+fn cue_fault(f: Feature, body: &[u8]) -> Refusal
+    ensures { λ r. ⌜ r ≡ cueRule (f .0) (getD (now (body .entry)) 0 0) (field 3 (now (body .entry)) 1) ⌝ }
+{
+    cue_rule(f, fields::byte(body, 0), fields::get3(body, 1))
+}
+
+fn body_fault(row: Row, f: Feature, body: &[u8]) -> Refusal
+    ensures { λ r. ⌜ r ≡ bodyFault row (f .0) (now (body .entry)) ⌝ }
+{
+    let reserved = reserved_fault(row, body);
+    if reserved.number != 0 {
+        return reserved;
+    }
+    let cue = cue_fault(f, body);
+    if cue.number != 0 {
+        return cue;
+    }
+    profiles_fault(f, body)
+}
+
+// ---- the rules, at each descriptor
+
+// The first fault of a descriptor; removable says whether feature 0003h is reported.
+fn desc_fault(removable: bool, f: Feature, flags: u8, body: &[u8]) -> Refusal
+    ensures { λ r. ⌜ r ≡ descFault removable (record { number = f .0; flags = flags; body = now (body .entry) }) ⌝ }
+{
+    let fault = flags_rule(flags);
+    if fault.number != 0 {
+        return fault;
+    }
+    let row = legal::row_of(f);
+    let fault = row_rule(row, removable, f, flags, fields::byte(body, 3), body.len());
+    if fault.number != 0 {
+        return fault;
+    }
+    body_fault(row, f, body)
+}
+
+fn fault_at(removable: bool, s: &[u8], at: usize) -> Refusal
+    requires { ⌜ at < length (now s) ⌝ }
+    ensures { λ r. ⌜ r ≡ descFault removable (descAt (now (s .entry)) at) ⌝ }
+{
+    let f = Feature(fields::get2(s, at));
+    desc_fault(removable, f, fields::byte(s, at + 2), walk::body_at(s, at))
+}
+
+// The first descriptor of a complete response that has a fault.
+pub fn first_fault(removable: bool, s: &[u8]) -> Finding
+    requires { ⌜ inputFault (now s) .number ≡ 0 ⌝ }
+    ensures { λ r. ⌜ r ≡ firstFault removable (descs (now (s .entry))) ⌝ }
+{
+    let mut at = 8;
+    while at < s.len() {
+        let fault = fault_at(removable, s, at);
+        if fault.number != 0 {
+            return Finding {
+                refusal: fault,
+                feature: Feature(fields::get2(s, at)),
+            };
+        }
+        at = walk::next_at(s, at);
+    }
+    Finding {
+        refusal: text::ACCEPTED,
+        feature: Feature(0),
+    }
+}

@@ -1,0 +1,77 @@
+//! The bench sweep: runs a sweep against a sheet.
+
+use crate::command::{full_length, most_bytes, send, Request};
+use crate::numbers::*;
+use crate::sheet::Sheet;
+use crate::sweep::Record;
+
+/// What a bench sweep gives back; on a refusal both counts are 0.
+#[derive(Clone, Copy, Debug, PartialEq, Eq)]
+pub struct Outcome {
+    pub number: u8,
+    pub commands: usize,
+    pub collected: usize,
+}
+
+/// Sweeps the sheet; on a refusal all three buffers are set to zero.
+pub fn bench(
+    sheet: &[u8],
+    rt: u8,
+    allocation: u16,
+    response: &mut [u8],
+    collected: &mut [u8],
+    starts: &mut [u16],
+) -> Outcome {
+    match run(sheet, rt, allocation, response, collected, starts) {
+        Ok((commands, collected)) => Outcome { number: ACCEPTED, commands, collected },
+        Err(number) => {
+            response.fill(0);
+            collected.fill(0);
+            starts.fill(0);
+            Outcome { number, commands: 0, collected: 0 }
+        }
+    }
+}
+
+/// Runs the rounds; gives the count of starts written and of bytes collected.
+fn run(
+    sheet: &[u8],
+    rt: u8,
+    allocation: u16,
+    response: &mut [u8],
+    collected: &mut [u8],
+    starts: &mut [u16],
+) -> Result<(usize, usize), u8> {
+    let sheet = Sheet::accept(sheet)?;
+    let (number, mut record) = Record::start(rt, allocation);
+    accept(number)?;
+    if response.len() < most_bytes(allocation) {
+        return Err(BUFFER_SHORT);
+    }
+    // Each round collects a front part of what is left, so the full length is found once and shrinks.
+    let mut full = full_length(sheet, rt, record.next);
+    // After the first round only the bytes of the last response can differ from zero.
+    let mut dirty = response.len();
+    let mut commands = 0;
+    while !record.ended {
+        *starts.get_mut(commands).ok_or(STARTS_FULL)? = record.next.0;
+        commands += 1;
+        response[..dirty].fill(0);
+        let request = Request { rt, sfn: record.next, allocation };
+        let count = send(sheet, request, full, response)?;
+        let (number, after) = record.take(&response[..count], collected);
+        accept(number)?;
+        full -= after.collected - record.collected;
+        dirty = count;
+        record = after;
+    }
+    Ok((commands, record.collected))
+}
+
+/// Turns a number into a result, so that a refusal ends the run.
+fn accept(number: u8) -> Result<(), u8> {
+    if number == ACCEPTED {
+        return Ok(());
+    }
+    Err(number)
+}

@@ -1,0 +1,233 @@
+//! The driver's checks of a complete response: its descriptors, and a profile's required features.
+
+use crate::numbers::*;
+use crate::reading::{read, whole, Reading};
+use crate::wire::{be16, byte, part, Descriptor, Descriptors, Feature, Profile};
+
+const REMOVABLE_MEDIUM: Feature = Feature(0x0003);
+const RANDOM_READABLE: Feature = Feature(0x0010);
+const STREAMING_WRITABLE: Feature = Feature(0x0021);
+const CD_MASTERING: Feature = Feature(0x002E);
+
+/// The lengths a body may have.
+#[derive(Clone, Copy, Debug, PartialEq, Eq)]
+enum Length {
+    Any,
+    Exactly(usize),
+    /// 4 bytes, as many link sizes as byte 7 says, and up to 3 pad bytes.
+    LinkSizes,
+}
+
+/// The legal length of a feature's body, and which bits of every 4 bytes may be 1.
+struct Legal {
+    feature: Feature,
+    length: Length,
+    mask: [u8; 4],
+}
+
+/// One row of the table below.
+const fn legal(feature: u16, length: Length, mask: [u8; 4]) -> Legal {
+    Legal { feature: Feature(feature), length, mask }
+}
+
+/// Legal lengths and body bits; for 0021h the mask counts for the first 4 bytes only.
+const LEGAL: [Legal; 11] = [
+    legal(0x0000, Length::Any, [0xFF, 0xFF, 0x01, 0x00]),
+    legal(0x0001, Length::Exactly(4), [0xFF, 0xFF, 0xFF, 0xFF]),
+    legal(0x0002, Length::Exactly(4), [0x01, 0x00, 0x00, 0x00]),
+    legal(0x0003, Length::Exactly(4), [0xED, 0x00, 0x00, 0x00]),
+    legal(0x001F, Length::Exactly(0), [0x00, 0x00, 0x00, 0x00]),
+    legal(0x0020, Length::Exactly(4), [0xFF, 0xFF, 0xFF, 0xFF]),
+    legal(0x0021, Length::LinkSizes, [0x00, 0x00, 0x00, 0xFF]),
+    legal(0x0026, Length::Exactly(4), [0xFF, 0xFF, 0xFF, 0xFF]),
+    legal(0x002D, Length::Exactly(4), [0x07, 0x00, 0x00, 0x00]),
+    legal(0x002E, Length::Exactly(4), [0x3F, 0xFF, 0xFF, 0xFF]),
+    legal(0x002F, Length::Exactly(4), [0x04, 0x00, 0x00, 0x00]),
+];
+
+/// Features of the medium, which can't be Persistent where the medium can be removed.
+const OF_THE_MEDIUM: [u16; 7] = [0x001F, 0x0020, 0x0021, 0x0026, 0x002D, 0x002E, 0x002F];
+
+/// A profile and the features it needs, ascending.
+struct Required {
+    profile: Profile,
+    features: &'static [u16],
+}
+
+/// Required features of each profile that has a table.
+const REQUIRED: [Required; 2] = [
+    Required {
+        profile: Profile(0x0012),
+        features: &[
+            0x0000, 0x0001, 0x0002, 0x0003, 0x0010, 0x001F, 0x0020, 0x0023, 0x0024, 0x0100, 0x0101, 0x0105,
+            0x0107,
+        ],
+    },
+    Required { profile: Profile(0xFFFF), features: &[0x0000, 0x0001] },
+];
+
+/// What the profile check answers.
+#[derive(Clone, Copy, Debug, PartialEq, Eq)]
+pub enum ProfileAnswer {
+    /// A reading's number or 29.
+    Refused(u8),
+    /// 40: no table for the profile.
+    NoTable,
+    /// The lowest required feature that is missing.
+    Missing(Feature),
+    /// All required features are there.
+    Conforms,
+}
+
+impl ProfileAnswer {
+    /// The answer as number, whether a feature is missing, and which one.
+    pub fn fields(self) -> (u8, bool, Feature) {
+        match self {
+            ProfileAnswer::Refused(number) => (number, false, Feature(0)),
+            ProfileAnswer::NoTable => (NO_TABLE, false, Feature(0)),
+            ProfileAnswer::Missing(feature) => (ACCEPTED, true, feature),
+            ProfileAnswer::Conforms => (ACCEPTED, false, Feature(0)),
+        }
+    }
+}
+
+/// Reads a response to RT 0 from 0, which must be complete.
+fn read_complete(response: &[u8]) -> Result<Reading, u8> {
+    let reading = read(0, Feature(0), response, None);
+    if reading.number != ACCEPTED {
+        return Err(reading.number);
+    }
+    if !reading.complete {
+        return Err(CHECK_CUT);
+    }
+    Ok(reading)
+}
+
+/// The descriptor of a feature, if it is reported.
+fn reported<'a>(mut walk: Descriptors<'a>, feature: Feature) -> Option<Descriptor<'a>> {
+    walk.find(|descriptor| descriptor.feature == feature)
+}
+
+/// Checks the descriptors of a response; gives the first finding and its feature, or 0 and feature 0.
+pub fn check_descriptors(response: &[u8]) -> (u8, Feature) {
+    let reading = match read_complete(response) {
+        Ok(reading) => reading,
+        Err(number) => return (number, Feature(0)),
+    };
+    let walk = whole(response, &reading);
+    for needed in [Feature(0x0000), Feature(0x0001)] {
+        if reported(walk.clone(), needed).is_none() {
+            return (FINDING_MISSING, needed);
+        }
+    }
+    let removable = reported(walk.clone(), REMOVABLE_MEDIUM).is_some();
+    for descriptor in walk {
+        let finding = check_descriptor(descriptor, removable);
+        if finding != ACCEPTED {
+            return (finding, descriptor.feature);
+        }
+    }
+    (ACCEPTED, Feature(0))
+}
+
+/// Checks one descriptor in the paper's order; gives the first finding or 0.
+fn check_descriptor(descriptor: Descriptor, removable: bool) -> u8 {
+    let flags = descriptor.flags;
+    let persistent = flags & PERSISTENT != 0;
+    let current = flags & CURRENT != 0;
+    if flags & RESERVED_AND_VERSION != 0 {
+        return FINDING_FLAGS;
+    }
+    if persistent && !current {
+        return FINDING_PERSISTENT;
+    }
+    let Some(legal) = LEGAL.iter().find(|legal| legal.feature == descriptor.feature) else {
+        return ACCEPTED;
+    };
+    if !length_is_legal(legal, descriptor.body) {
+        return FINDING_LENGTH;
+    }
+    if descriptor.feature <= REMOVABLE_MEDIUM && !(persistent && current) {
+        return FINDING_NOT_BOTH;
+    }
+    if persistent && removable && OF_THE_MEDIUM.contains(&descriptor.feature.0) {
+        return FINDING_REMOVABLE;
+    }
+    if !reserved_is_zero(legal, descriptor.body) {
+        return FINDING_RESERVED;
+    }
+    if descriptor.feature == CD_MASTERING && cue_sheet_without_sao(descriptor.body) {
+        return FINDING_CUE_SHEET;
+    }
+    if descriptor.feature == Feature(0) && lists_profile_zero(descriptor.body) {
+        return FINDING_PROFILE;
+    }
+    ACCEPTED
+}
+
+/// Whether the body has the length its feature wants.
+fn length_is_legal(legal: &Legal, body: &[u8]) -> bool {
+    match legal.length {
+        Length::Any => true,
+        Length::Exactly(length) => body.len() == length,
+        // Without byte 7 there is no number of link sizes; with it, the pad is what fills 4 bytes.
+        Length::LinkSizes => body.len() >= 4 && body.len() == 4 + link_sizes(body).next_multiple_of(4),
+    }
+}
+
+/// The number of link sizes in the body of 0021h.
+fn link_sizes(body: &[u8]) -> usize {
+    usize::from(byte(body, 3))
+}
+
+/// Whether all reserved bits and pad bytes of a body of legal length are 0.
+fn reserved_is_zero(legal: &Legal, body: &[u8]) -> bool {
+    if legal.feature == STREAMING_WRITABLE {
+        let pad = part(body, 4 + link_sizes(body), body.len());
+        return fits_mask(part(body, 0, 4), legal.mask) && pad.iter().all(|&byte| byte == 0);
+    }
+    fits_mask(body, legal.mask)
+}
+
+/// Whether every 4 bytes have no bit outside the mask.
+fn fits_mask(body: &[u8], mask: [u8; 4]) -> bool {
+    body.iter().zip(mask.iter().cycle()).all(|(byte, mask)| byte & !mask == 0)
+}
+
+/// Whether SAO is 0 though the cue sheet length isn't.
+fn cue_sheet_without_sao(body: &[u8]) -> bool {
+    let sao = byte(body, 0) & 0x20 != 0;
+    !sao && part(body, 1, 4).iter().any(|&byte| byte != 0)
+}
+
+/// Whether a profile list holds profile 0.
+fn lists_profile_zero(body: &[u8]) -> bool {
+    body.chunks_exact(PROFILE_BYTES).any(|profile| be16(profile, 0) == 0)
+}
+
+/// Checks that a response reports all features a profile needs.
+pub fn check_profile(profile: Profile, response: &[u8]) -> ProfileAnswer {
+    let reading = match read_complete(response) {
+        Ok(reading) => reading,
+        Err(number) => return ProfileAnswer::Refused(number),
+    };
+    let Some(required) = REQUIRED.iter().find(|required| required.profile == profile) else {
+        return ProfileAnswer::NoTable;
+    };
+    let walk = whole(response, &reading);
+    for &feature in required.features {
+        if !reported(walk.clone(), Feature(feature)).is_some_and(counts) {
+            return ProfileAnswer::Missing(Feature(feature));
+        }
+    }
+    ProfileAnswer::Conforms
+}
+
+/// Whether a reported descriptor counts for a profile; Random Readable only with its page present.
+fn counts(descriptor: Descriptor) -> bool {
+    if descriptor.feature != RANDOM_READABLE {
+        return true;
+    }
+    // Byte 10 of the descriptor is byte 6 of its body.
+    descriptor.body.len() >= 8 && byte(descriptor.body, 6) & 0x01 != 0
+}

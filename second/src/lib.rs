@@ -1,0 +1,16 @@
+//! GET CONFIGURATION: the box that answers from a drive sheet and the driver that reads the answers.
+#![forbid(unsafe_code)]
+
+pub mod bench;
+pub mod checks;
+pub mod command;
+pub mod find;
+pub mod lister;
+pub mod numbers;
+pub mod reading;
+pub mod sheet;
+pub mod sweep;
+pub mod wire;
+
+#[cfg(test)]
+mod tests;

@@ -1,0 +1,236 @@
+//! The drive sheet: its check, its parts, what it means, and how to build one.
+
+use crate::numbers::*;
+use crate::wire::{be16, be32, byte, part, Descriptor, Feature, Profile};
+
+/// One entry of the contents.
+#[derive(Clone, Copy, Debug, PartialEq, Eq)]
+pub struct Entry {
+    pub feature: Feature,
+    pub flags: u8,
+    pub length: u8,
+    pub offset: u32,
+}
+
+impl Entry {
+    /// The entry in 8 bytes.
+    fn parse(bytes: &[u8]) -> Entry {
+        Entry {
+            feature: Feature(be16(bytes, 0)),
+            flags: byte(bytes, 2),
+            length: byte(bytes, 3),
+            offset: be32(bytes, 4),
+        }
+    }
+
+    /// Whether the Current bit is set.
+    pub fn is_current(self) -> bool {
+        self.flags & CURRENT != 0
+    }
+}
+
+/// A profile as the sheet lists it.
+#[derive(Clone, Copy, Debug, PartialEq, Eq)]
+pub struct ListedProfile {
+    pub number: Profile,
+    pub current: bool,
+}
+
+/// What an accepted sheet says: profiles in order, and the descriptors besides feature 0 in order.
+#[derive(Clone, Debug, PartialEq, Eq)]
+pub struct Meaning<'a> {
+    pub profiles: Vec<ListedProfile>,
+    pub descriptors: Vec<Descriptor<'a>>,
+}
+
+/// A sheet that was checked.
+#[derive(Clone, Copy, Debug)]
+pub struct Sheet<'a> {
+    bytes: &'a [u8],
+    contents: &'a [u8],
+    profiles: &'a [u8],
+}
+
+impl<'a> Sheet<'a> {
+    /// Checks the bytes; gives the sheet, or the number that refuses it.
+    pub fn accept(bytes: &'a [u8]) -> Result<Sheet<'a>, u8> {
+        match check(bytes) {
+            ACCEPTED => Ok(Sheet::assume_checked(bytes)),
+            number => Err(number),
+        }
+    }
+
+    /// A sheet from bytes that `check` accepted earlier; other bytes give a sheet without promise, but no panic.
+    pub fn assume_checked(bytes: &'a [u8]) -> Sheet<'a> {
+        let (profiles_at, bodies_at) = layout(bytes);
+        Sheet {
+            bytes,
+            contents: part(bytes, SHEET_HEADER_BYTES, profiles_at),
+            profiles: part(bytes, profiles_at, bodies_at),
+        }
+    }
+
+    /// The number of entries.
+    pub fn feature_count(self) -> usize {
+        self.contents.len() / ENTRY_BYTES
+    }
+
+    /// The number of profiles.
+    pub fn profile_count(self) -> usize {
+        self.profiles.len() / PROFILE_BYTES
+    }
+
+    /// The profiles' bytes, which are also the body of feature 0.
+    pub fn profile_bytes(self) -> &'a [u8] {
+        self.profiles
+    }
+
+    /// The length of the whole sheet.
+    pub fn length(self) -> usize {
+        self.bytes.len()
+    }
+
+    /// The entry with an index below the count.
+    pub fn entry(self, index: usize) -> Entry {
+        let at = index * ENTRY_BYTES;
+        Entry::parse(part(self.contents, at, at + ENTRY_BYTES))
+    }
+
+    /// The entries from one index up to another.
+    pub fn entries(self, from: usize, to: usize) -> impl Iterator<Item = Entry> + 'a {
+        let bytes = part(self.contents, from * ENTRY_BYTES, to * ENTRY_BYTES);
+        bytes.chunks_exact(ENTRY_BYTES).map(Entry::parse)
+    }
+
+    /// The profiles in their order.
+    pub fn listed(self) -> impl Iterator<Item = ListedProfile> + 'a {
+        self.profiles
+            .chunks_exact(PROFILE_BYTES)
+            .map(|bytes| ListedProfile { number: Profile(be16(bytes, 0)), current: byte(bytes, 2) != 0 })
+    }
+
+    /// The body of an entry.
+    pub fn body(self, entry: Entry) -> &'a [u8] {
+        let from = entry.offset as usize;
+        part(self.bytes, from, from.saturating_add(usize::from(entry.length)))
+    }
+
+    /// The index of the first entry whose number is the wanted one or higher; the count if there is none.
+    pub fn first_from(self, wanted: Feature) -> usize {
+        let mut low = 0;
+        let mut high = self.feature_count();
+        while low < high {
+            let middle = low + (high - low) / 2;
+            if self.entry(middle).feature < wanted {
+                low = middle + 1;
+            } else {
+                high = middle;
+            }
+        }
+        low
+    }
+
+    /// The first listed profile that is current; 0 if none is.
+    pub fn current_profile(self) -> Profile {
+        self.listed().find(|profile| profile.current).map_or(Profile(0), |profile| profile.number)
+    }
+
+    /// The sheet as profiles and descriptors.
+    pub fn meaning(self) -> Meaning<'a> {
+        let entries = self.entries(0, self.feature_count());
+        let descriptors = entries.map(|entry| Descriptor {
+            feature: entry.feature,
+            flags: entry.flags,
+            body: self.body(entry),
+        });
+        Meaning { profiles: self.listed().collect(), descriptors: descriptors.collect() }
+    }
+}
+
+/// Where the profiles start and where the bodies start, from the two counts.
+fn layout(bytes: &[u8]) -> (usize, usize) {
+    let profiles_at = SHEET_HEADER_BYTES + ENTRY_BYTES * usize::from(be16(bytes, 0));
+    let bodies_at = profiles_at + PROFILE_BYTES * usize::from(be16(bytes, 2));
+    (profiles_at, bodies_at)
+}
+
+/// Checks a sheet; gives 0, or the first of 1 to 8 that refuses it.
+pub fn check(bytes: &[u8]) -> u8 {
+    let (profiles_at, bodies_at) = layout(bytes);
+    if bytes.len() < SHEET_HEADER_BYTES || bytes.len() < bodies_at {
+        return SHEET_SHORT;
+    }
+    if usize::from(be16(bytes, 2)) > PROFILES_MOST {
+        return PROFILE_COUNT;
+    }
+    if !profiles_are_legal(part(bytes, profiles_at, bodies_at)) {
+        return PROFILE_BAD;
+    }
+    match check_entries(part(bytes, SHEET_HEADER_BYTES, profiles_at), bodies_at) {
+        Err(number) => number,
+        Ok(end) if end != bytes.len() => SHEET_END,
+        Ok(_) => ACCEPTED,
+    }
+}
+
+/// Whether every profile has a new number that isn't 0, a current byte of 0 or 1, and a zero byte.
+fn profiles_are_legal(profiles: &[u8]) -> bool {
+    for (index, profile) in profiles.chunks_exact(PROFILE_BYTES).enumerate() {
+        let number = be16(profile, 0);
+        let before = part(profiles, 0, index * PROFILE_BYTES);
+        let listed_before = before.chunks_exact(PROFILE_BYTES).any(|other| be16(other, 0) == number);
+        if number == 0 || listed_before || byte(profile, 2) > 1 || byte(profile, 3) != 0 {
+            return false;
+        }
+    }
+    true
+}
+
+/// Checks the entries in order; gives where the last body ends.
+fn check_entries(contents: &[u8], bodies_at: usize) -> Result<usize, u8> {
+    // No number is above itself, so starting at 0 also refuses feature 0.
+    let mut before = Feature(0);
+    let mut end = bodies_at;
+    for entry in contents.chunks_exact(ENTRY_BYTES).map(Entry::parse) {
+        if entry.feature <= before {
+            return Err(FEATURE_ORDER);
+        }
+        if entry.flags & RESERVED_AND_VERSION != 0 || entry.flags == PERSISTENT {
+            return Err(FLAGS_BAD);
+        }
+        if entry.length % 4 != 0 {
+            return Err(BODY_LENGTH);
+        }
+        if entry.offset as usize != end {
+            return Err(BODY_OFFSET);
+        }
+        before = entry.feature;
+        end += usize::from(entry.length);
+    }
+    Ok(end)
+}
+
+/// Builds a sheet's bytes; none if a count or a body length doesn't fit its field. `check` decides the rest.
+pub fn build(profiles: &[ListedProfile], descriptors: &[Descriptor]) -> Option<Vec<u8>> {
+    let feature_count = u16::try_from(descriptors.len()).ok()?;
+    let profile_count = u16::try_from(profiles.len()).ok()?;
+    let mut sheet = Vec::new();
+    sheet.extend_from_slice(&feature_count.to_be_bytes());
+    sheet.extend_from_slice(&profile_count.to_be_bytes());
+    let mut offset = SHEET_HEADER_BYTES + ENTRY_BYTES * descriptors.len() + PROFILE_BYTES * profiles.len();
+    for descriptor in descriptors {
+        let length = u8::try_from(descriptor.body.len()).ok()?;
+        sheet.extend_from_slice(&descriptor.feature.0.to_be_bytes());
+        sheet.extend_from_slice(&[descriptor.flags, length]);
+        sheet.extend_from_slice(&u32::try_from(offset).ok()?.to_be_bytes());
+        offset += descriptor.body.len();
+    }
+    for profile in profiles {
+        sheet.extend_from_slice(&profile.number.0.to_be_bytes());
+        sheet.extend_from_slice(&[u8::from(profile.current), 0]);
+    }
+    for descriptor in descriptors {
+        sheet.extend_from_slice(descriptor.body);
+    }
+    Some(sheet)
+}

@@ -1,0 +1,90 @@
+//! The driver's sweep: collects all descriptors of a drive, one response at a time.
+
+use crate::command::most_bytes;
+use crate::numbers::*;
+use crate::reading::read_and_last;
+use crate::wire::{part, Feature};
+
+/// The most commands so far with which a record takes another response.
+const COMMANDS_MOST: u32 = 65_535;
+
+/// Where a sweep stands.
+#[derive(Clone, Copy, Debug, PartialEq, Eq)]
+pub struct Record {
+    pub rt: u8,
+    pub allocation: u16,
+    pub next: Feature,
+    pub commands: u32,
+    pub collected: usize,
+    pub ended: bool,
+}
+
+impl Record {
+    /// The record that a refused start gives: ended, with all numbers 0.
+    pub fn refused() -> Record {
+        Record { rt: 0, allocation: 0, next: Feature(0), commands: 0, collected: 0, ended: true }
+    }
+
+    /// Starts a sweep; gives 0, 21 or 22, and the record.
+    pub fn start(rt: u8, allocation: u16) -> (u8, Record) {
+        match check_request(rt, allocation) {
+            ACCEPTED => (ACCEPTED, Record { rt, allocation, ended: false, ..Record::refused() }),
+            number => (number, Record::refused()),
+        }
+    }
+
+    /// Takes one response; gives the number and the next record, and adds the whole descriptors to the buffer.
+    pub fn take(self, response: &[u8], buffer: &mut [u8]) -> (u8, Record) {
+        let (descriptors, after) = match self.step(response) {
+            Ok(step) => step,
+            // Only 23 ends the sweep; every other refusal leaves the record as it was.
+            Err(NOTHING_WHOLE) => return (NOTHING_WHOLE, Record { ended: true, ..self }),
+            Err(number) => return (number, self),
+        };
+        let behind = buffer.get_mut(self.collected..);
+        let Some(room) = behind.and_then(|behind| behind.get_mut(..descriptors.len())) else {
+            return (COLLECTED_FULL, self);
+        };
+        room.copy_from_slice(descriptors);
+        (ACCEPTED, after.with_collected(descriptors.len()))
+    }
+
+    /// Checks all but 24; gives the descriptors to add and the record with its next start or its end set.
+    fn step(self, response: &[u8]) -> Result<(&[u8], Record), u8> {
+        let number = check_request(self.rt, self.allocation);
+        if number != ACCEPTED {
+            return Err(number);
+        }
+        if self.ended || self.commands > COMMANDS_MOST {
+            return Err(SWEEP_ENDED);
+        }
+        let most = most_bytes(self.allocation);
+        let (reading, last) = read_and_last(self.rt, self.next, response, Some(most))?;
+        let descriptors = part(response, HEADER_BYTES, reading.end);
+        if reading.complete {
+            return Ok((descriptors, Record { ended: true, ..self }));
+        }
+        if response.len() < most {
+            return Err(CUT_SHORT);
+        }
+        let last = last.ok_or(NOTHING_WHOLE)?;
+        let next = last.0.checked_add(1).ok_or(CUT_AFTER_LAST)?;
+        Ok((descriptors, Record { next: Feature(next), ..self }))
+    }
+
+    /// Counts one more command and the bytes it added, which fit the buffer.
+    fn with_collected(self, added: usize) -> Record {
+        Record { commands: self.commands + 1, collected: self.collected + added, ..self }
+    }
+}
+
+/// Checks 21, then 22.
+fn check_request(rt: u8, allocation: u16) -> u8 {
+    if rt > 1 {
+        return SWEEP_RT;
+    }
+    if usize::from(allocation) < HEADER_BYTES {
+        return SWEEP_ALLOCATION;
+    }
+    ACCEPTED
+}

@@ -1,0 +1,76 @@
+//! Tests, and what they share.
+
+mod cross;
+mod refusals;
+mod sheets;
+mod worked;
+
+use crate::command::{respond, Request};
+use crate::wire::Feature;
+
+/// Sheet E of the paper.
+pub const E: [u8; 52] = [
+    0x00, 0x04, 0x00, 0x02, //
+    0x00, 0x01, 0x03, 0x04, 0x00, 0x00, 0x00, 0x2C, //
+    0x00, 0x03, 0x03, 0x04, 0x00, 0x00, 0x00, 0x30, //
+    0x00, 0x1F, 0x01, 0x00, 0x00, 0x00, 0x00, 0x34, //
+    0x01, 0x05, 0x03, 0x00, 0x00, 0x00, 0x00, 0x34, //
+    0x00, 0x12, 0x01, 0x00, //
+    0x00, 0x10, 0x00, 0x00, //
+    0x00, 0x00, 0x00, 0x02, //
+    0x29, 0x00, 0x00, 0x00,
+];
+
+/// The full response of sheet E to RT 0 from 0.
+pub const E_FULL: [u8; 44] = [
+    0x00, 0x00, 0x00, 0x28, 0x00, 0x00, 0x00, 0x12, //
+    0x00, 0x00, 0x03, 0x08, 0x00, 0x12, 0x01, 0x00, 0x00, 0x10, 0x00, 0x00, //
+    0x00, 0x01, 0x03, 0x04, 0x00, 0x00, 0x00, 0x02, //
+    0x00, 0x03, 0x03, 0x04, 0x29, 0x00, 0x00, 0x00, //
+    0x00, 0x1F, 0x01, 0x00, //
+    0x01, 0x05, 0x03, 0x00,
+];
+
+/// What a byte that must not change is set to.
+pub const FILL: u8 = 0xA5;
+
+/// A command's bytes.
+pub fn command(rt: u8, sfn: u16, allocation: u16) -> [u8; 10] {
+    Request { rt, sfn: Feature(sfn), allocation }.bytes()
+}
+
+/// Asks for a response; gives the number and the bytes sent, and sees that no other byte changed.
+pub fn ask(sheet: &[u8], rt: u8, sfn: u16, allocation: u16) -> (u8, Vec<u8>) {
+    let mut out = vec![FILL; usize::from(allocation) + 16];
+    let (number, count) = respond(sheet, &command(rt, sfn, allocation), &mut out);
+    assert!(out[count..].iter().all(|&byte| byte == FILL));
+    out.truncate(count);
+    (number, out)
+}
+
+/// A complete response with the given descriptors' bytes.
+pub fn response(profile: u16, descriptors: &[u8]) -> Vec<u8> {
+    let mut bytes = (descriptors.len() as u32 + 4).to_be_bytes().to_vec();
+    bytes.extend_from_slice(&[0, 0]);
+    bytes.extend_from_slice(&profile.to_be_bytes());
+    bytes.extend_from_slice(descriptors);
+    bytes
+}
+
+/// A small generator of test numbers (xorshift).
+pub struct Numbers(pub u64);
+
+impl Numbers {
+    /// The next number.
+    pub fn next(&mut self) -> u64 {
+        self.0 ^= self.0 << 13;
+        self.0 ^= self.0 >> 7;
+        self.0 ^= self.0 << 17;
+        self.0
+    }
+
+    /// A number below a limit that isn't 0.
+    pub fn below(&mut self, limit: u64) -> u64 {
+        (self.next() >> 11) % limit
+    }
+}

@@ -1,0 +1,144 @@
+//! Damaged copies of sheet E, and sheets from their meaning.
+
+use super::E;
+use crate::numbers::*;
+use crate::sheet::{build, check, ListedProfile, Sheet};
+use crate::wire::{Descriptor, Feature, Profile};
+
+/// The number for a copy of E with one byte changed.
+fn with(at: usize, value: u8) -> u8 {
+    let mut sheet = E;
+    sheet[at] = value;
+    check(&sheet)
+}
+
+#[test]
+fn short_sheets() {
+    assert_eq!(check(&[]), SHEET_SHORT);
+    assert_eq!(check(&E[..3]), SHEET_SHORT);
+    assert_eq!(check(&E[..43]), SHEET_SHORT);
+    assert_eq!(with(0, 0x01), SHEET_SHORT);
+    // Too many profiles, but they are not there either.
+    assert_eq!(with(3, 64), SHEET_SHORT);
+    assert_eq!(check(&E[..44]), SHEET_END);
+}
+
+#[test]
+fn too_many_profiles() {
+    let mut sheet = vec![0, 0, 0, 64];
+    sheet.resize(4 + 4 * 64, 0);
+    assert_eq!(check(&sheet), PROFILE_COUNT);
+    // With 63 the profiles are looked at, and number 0 is refused.
+    sheet[3] = 63;
+    assert_eq!(check(&sheet), PROFILE_BAD);
+}
+
+#[test]
+fn bad_profiles() {
+    assert_eq!(with(37, 0x00), PROFILE_BAD);
+    assert_eq!(with(41, 0x12), PROFILE_BAD);
+    assert_eq!(with(38, 0x02), PROFILE_BAD);
+    assert_eq!(with(43, 0x01), PROFILE_BAD);
+    // The profiles come before the entries.
+    let mut sheet = E;
+    sheet[5] = 0;
+    sheet[43] = 1;
+    assert_eq!(check(&sheet), PROFILE_BAD);
+}
+
+#[test]
+fn bad_entries() {
+    assert_eq!(with(5, 0x00), FEATURE_ORDER);
+    assert_eq!(with(13, 0x01), FEATURE_ORDER);
+    assert_eq!(with(6, 0x43), FLAGS_BAD);
+    assert_eq!(with(6, 0x07), FLAGS_BAD);
+    assert_eq!(with(6, 0x02), FLAGS_BAD);
+    assert_eq!(with(7, 0x05), BODY_LENGTH);
+    assert_eq!(with(11, 0x2D), BODY_OFFSET);
+    assert_eq!(with(19, 0x2C), BODY_OFFSET);
+    assert_eq!(with(35, 0x30), BODY_OFFSET);
+    assert_eq!(with(8, 0x01), BODY_OFFSET);
+    // A longer first body moves the place where the second should start.
+    assert_eq!(with(7, 0x08), BODY_OFFSET);
+}
+
+#[test]
+fn bad_end() {
+    let mut longer = E.to_vec();
+    longer.push(0);
+    assert_eq!(check(&longer), SHEET_END);
+    assert_eq!(check(&E[..51]), SHEET_END);
+    assert_eq!(with(31, 0x04), SHEET_END);
+    assert_eq!(check(&[0, 0, 0, 0]), ACCEPTED);
+    assert_eq!(check(&[0, 0, 0, 0, 0]), SHEET_END);
+}
+
+#[test]
+fn meaning_of_e() {
+    let meaning = Sheet::accept(&E).unwrap().meaning();
+    let profiles = [
+        ListedProfile { number: Profile(0x0012), current: true },
+        ListedProfile { number: Profile(0x0010), current: false },
+    ];
+    let descriptors = [
+        Descriptor { feature: Feature(0x0001), flags: 3, body: &[0, 0, 0, 2] },
+        Descriptor { feature: Feature(0x0003), flags: 3, body: &[0x29, 0, 0, 0] },
+        Descriptor { feature: Feature(0x001F), flags: 1, body: &[] },
+        Descriptor { feature: Feature(0x0105), flags: 3, body: &[] },
+    ];
+    assert_eq!(meaning.profiles, profiles);
+    assert_eq!(meaning.descriptors, descriptors);
+    assert_eq!(build(&profiles, &descriptors).unwrap(), E);
+}
+
+#[test]
+fn the_longest_sheet() {
+    let body = [0xFF; 252];
+    let descriptors: Vec<Descriptor> =
+        (1..=65_535).map(|number| Descriptor { feature: Feature(number), flags: 3, body: &body }).collect();
+    let profiles: Vec<ListedProfile> =
+        (1..=63).map(|number| ListedProfile { number: Profile(number), current: false }).collect();
+    let sheet = build(&profiles, &descriptors).unwrap();
+    assert_eq!(sheet.len(), 17_039_356);
+    assert_eq!(check(&sheet), ACCEPTED);
+    let (number, bytes) = super::ask(&sheet, 0, 0, 65_535);
+    assert_eq!((number, bytes.len()), (ACCEPTED, 65_534));
+    assert_eq!(crate::wire::be32(&bytes, 0), 4 + 256 + 65_535 * 256);
+}
+
+#[test]
+fn the_first_current_profile_counts() {
+    let list = |current: [bool; 3]| {
+        let numbers = [0x0008, 0x0012, 0x0010];
+        let profiles: Vec<ListedProfile> =
+            (0..3).map(|i| ListedProfile { number: Profile(numbers[i]), current: current[i] }).collect();
+        let sheet = build(&profiles, &[]).unwrap();
+        Sheet::accept(&sheet).unwrap().current_profile()
+    };
+    assert_eq!(list([true, true, true]), Profile(0x0008));
+    assert_eq!(list([false, false, true]), Profile(0x0010));
+    assert_eq!(list([false, false, false]), Profile(0));
+}
+
+#[test]
+fn what_does_not_fit_is_not_built() {
+    let long = Descriptor { feature: Feature(1), flags: 0, body: &[0; 256] };
+    assert_eq!(build(&[], &[long]), None);
+    let many = vec![Descriptor { feature: Feature(1), flags: 0, body: &[] }; 65_536];
+    assert_eq!(build(&[], &many), None);
+}
+
+#[test]
+fn a_sheet_that_was_not_checked_does_no_harm() {
+    let mut out = [0; 512];
+    for length in 0..E.len() {
+        for at in 0..length {
+            let mut sheet = E[..length].to_vec();
+            sheet[at] = 0xFF;
+            for rt in 0..3 {
+                let sheet = Sheet::assume_checked(&sheet);
+                crate::command::respond_checked(sheet, &super::command(rt, 0, 512), &mut out);
+            }
+        }
+    }
+}
