@@ -1,6 +1,18 @@
--- Conjunctions and disjunctions of tests, taken apart and put together. Assumes nothing.
+-- Negations, conjunctions and disjunctions of tests, taken apart and put together. Assumes nothing.
 use mathlib.Core.Path.{_≡_, refl, sym}
-use mathlib.Core.Bool.{Bool, true, false, _&&_, _||_, true≢false}
+use mathlib.Core.Bool.{Bool, true, false, not, _&&_, _||_, true≢false}
+
+pub not-yes : (b : Bool) → b ≡ false → not b ≡ true
+not-yes b h = rw h
+
+pub not-no : (b : Bool) → b ≡ true → not b ≡ false
+not-no b h = rw h
+
+pub and-no : (a b : Bool) → a ≡ false → (a && b) ≡ false
+and-no a b h = rw h
+
+pub and-yes : (a b : Bool) → a ≡ true → (a && b) ≡ b
+and-yes a b h = rw h
 
 pub and-false : (a b : Bool) → (a && b) ≡ false → a ≡ true → b ≡ false
 and-false a b e h = rw h at e

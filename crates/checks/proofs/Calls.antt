@@ -1,11 +1,12 @@
 -- What a call gave, a bool or a number, said of the definition that its contract cites. Assumes nothing.
 use borrow.Author.Tests.{eq-eqb, ne-eqb}
 use mathlib.Core.Path.{_≡_, sym, ap, _∙_}
-use mathlib.Core.Bool.{Bool, true, false, not, _&&_}
+use mathlib.Core.Bool.{Bool, true, false, not}
 use Prim.Native.Nat.{ℕ}
 use lib.Dec.{eqb}
 use Rattle.text.specs.declared.Refusal.{Refusal}
 use Rattle.text.specs.First.{_if_else_}
+use Rattle.checks.proofs.Bools.{not-yes, not-no}
 use Rattle.text.proofs.First.{if-true, if-false, orElse-none, orElse-fault}
 
 pub if-yes : (x y : Refusal) (b : Bool) → b ≡ true → (x if b else y) ≡ x
@@ -13,12 +14,6 @@ if-yes x y b h = rw h (if-true x y)
 
 pub if-no : (x y : Refusal) (b : Bool) → b ≡ false → (x if b else y) ≡ y
 if-no x y b h = rw h (if-false x y)
-
-pub not-yes : (b : Bool) → b ≡ false → not b ≡ true
-not-yes b h = rw h
-
-pub not-no : (b : Bool) → b ≡ true → not b ≡ false
-not-no b h = rw h
 
 pub call-true : (a b : Bool) → a ≡ b → a ≡ true → b ≡ true
 call-true a b e h = sym e ∙ h
@@ -45,13 +40,6 @@ call-some r a e h = not-yes _ (ne-eqb (a .number) 0 (call-fault r a e h))
 
 pub call-zero : (r a : Refusal) → r ≡ a → r .number ≡ 0 → not (eqb (a .number) 0) ≡ false
 call-zero r a e h = not-no _ (eq-eqb (a .number) 0 (call-none r a e h))
-
--- a conjunction, by its first part
-pub and-no : (a b : Bool) → a ≡ false → (a && b) ≡ false
-and-no a b h = rw h
-
-pub and-yes : (a b : Bool) → a ≡ true → (a && b) ≡ b
-and-yes a b h = rw h
 
 -- the tests on a way are bools that calls gave, or refusals
 pub ruleset calls = (if-yes, if-no, not-yes, not-no, call-true, call-false)

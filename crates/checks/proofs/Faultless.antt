@@ -25,8 +25,8 @@ use Rattle.checks.specs.Rules.{byteOf, flagsRule, wrongLength, flagsShor
 use Rattle.checks.specs.Input.{descs, reported}
 use Rattle.checks.specs.Check.{finding, firstFault, checkedAll, checked}
 use Rattle.checks.specs.Faultless.{Fits, Faultless, Passes}
-use Rattle.checks.proofs.Bools.{and-false, false-and, and-true, true-and, or-false, false-or}
-use Rattle.checks.proofs.Calls.{if-yes, if-no, not-yes, not-no}
+use Rattle.checks.proofs.Bools.{not-yes, not-no, and-false, false-and, and-true, true-and, or-false, false-or}
+use Rattle.checks.proofs.Calls.{if-yes, if-no}
 use Rattle.checks.proofs.Pick.{pick-here, pick-past, pick-never}
 use Rattle.checks.proofs.Findings.{next-none, next-zero, core-there}
 

@@ -7,7 +7,8 @@ use Rattle.text.specs.declared.Refusal.{Refusal}
 use Rattle.text.specs.First.{refuse, accept, _if_else_}
 use Rattle.checks.specs.declared.Finding.{Finding}
 use Rattle.checks.specs.Check.{finding, _orNext_}
-use Rattle.checks.proofs.Calls.{if-yes, if-no, not-yes, not-no, call-fault}
+use Rattle.checks.proofs.Bools.{not-yes, not-no}
+use Rattle.checks.proofs.Calls.{if-yes, if-no, call-fault}
 
 -- no number: the next one counts
 pub next-none : (a b : Finding) → a .refusal .number ≡ 0 → a orNext b ≡ b

@@ -13,7 +13,8 @@ use Rattle.checks.specs.declared.Judgement.the-variants.{Conforms, Missi
 use Rattle.checks.specs.Input.{inputFault, descs}
 use Rattle.checks.specs.Required.{hasTable}
 use Rattle.checks.specs.Judge.{Said, says, said, lowest, judgeFault, judged}
-use Rattle.checks.proofs.Calls.{if-yes, if-no, not-yes, not-no}
+use Rattle.checks.proofs.Bools.{not-yes, not-no}
+use Rattle.checks.proofs.Calls.{if-yes, if-no}
 
 module _ (p : ℕ) (s : List ℕ) where
   refused-is : (r : Refusal) → r ≡ judgeFault p s → (r .number ≡ 0 → ⊥) → said (Refused r) ≡ judged p s

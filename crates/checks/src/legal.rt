@@ -21,6 +21,7 @@ pub struct Row {
     pub barred: bool,
 }
 
+// Any bit may be 1.
 const FREE: [u8; 4] = [0xFF, 0xFF, 0xFF, 0xFF];
 
 const LEGAL: [Row; 11] = [
@@ -100,6 +101,7 @@ const OTHER: Row = Row {
     barred: false,
 };
 
+// Row i.
 fn row_at(i: usize) -> Row
     requires { ⌜ i < length legal ⌝ }
     ensures { λ r. ⌜ r ≡ getD legal i other ⌝ }

@@ -12,7 +12,8 @@ use super::walk;
 use text::Feature;
 use text::Profile;
 
-// A line: the profile needs the feature, with a body of at least so many bytes and with these bits of the body byte at this place set.
+// A line: the profile needs the feature, with a body of at least so many bytes and with these bits set in the body byte at this place, which is
+// the descriptor's byte 4 further on.
 pub struct Need {
     pub profile: Profile,
     pub feature: Feature,
@@ -22,21 +23,21 @@ pub struct Need {
 }
 
 // Logical units not conforming to a standard profile.
-const NONE: Profile = Profile(0xFFFF);
+const NON_STANDARD: Profile = Profile(0xFFFF);
 
 const DVD_RAM: Profile = Profile(0x0012);
 
 // The lines of a profile ascend. Of 0010h the Page Present bit, bit 0 of byte 10, is asked for.
 const REQUIRED: [Need; 15] = [
     Need {
-        profile: NONE,
+        profile: NON_STANDARD,
         feature: Feature(0x0000),
         least: 0,
         place: 0,
         mask: 0x00,
     },
     Need {
-        profile: NONE,
+        profile: NON_STANDARD,
         feature: Feature(0x0001),
         least: 0,
         place: 0,
@@ -135,6 +136,7 @@ const REQUIRED: [Need; 15] = [
     },
 ];
 
+// Line i.
 fn need_at(i: usize) -> Need
     requires { ⌜ i < length required ⌝ }
     ensures { λ r. ⌜ r ≡ getD required i (line 0 0) ⌝ }
@@ -157,6 +159,7 @@ pub fn has_table(profile: Profile) -> bool
     false
 }
 
+// Whether a body of len bytes, with this byte at the line's place, is what the line asks for.
 fn gives_rule(need: Need, len: usize, byte: u8) -> bool
     ensures { λ r. ⌜ r ≡ givesRule need len byte ⌝ }
 {
@@ -179,6 +182,7 @@ fn gives_at(need: Need, s: &[u8], at: usize) -> bool
     gives_rule(need, body.len(), fields::byte(body, need.place as usize))
 }
 
+// Whether some descriptor is what a line asks for.
 fn given_in(need: Need, s: &[u8]) -> bool
     requires { ⌜ inputFault (now s) .number ≡ 0 ⌝ }
     ensures { λ r. ⌜ r ≡ some (gives need) (descs (now (s .entry))) ⌝ }

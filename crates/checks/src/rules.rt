@@ -18,6 +18,7 @@ use text::Refusal;
 
 // ---- the rules, on numbers
 
+// 33 and 34: the flags alone.
 fn flags_rule(flags: u8) -> Refusal
     ensures { λ r. ⌜ r ≡ flagsRule flags ⌝ }
 {
@@ -36,6 +37,7 @@ fn flags_rule(flags: u8) -> Refusal
     text::ACCEPTED
 }
 
+// Whether a body of len bytes is not as long as its row says; n is byte 7.
 fn wrong_length(length: Length, n: u8, len: usize) -> bool
     ensures { λ r. ⌜ r ≡ wrongLength length n len ⌝ }
 {
@@ -51,6 +53,7 @@ fn wrong_length(length: Length, n: u8, len: usize) -> bool
     }
 }
 
+// Whether a feature up to 0003h lacks one of its flags.
 fn flags_short(f: Feature, flags: u8) -> bool
     ensures { λ r. ⌜ r ≡ flagsShort (f .0) flags ⌝ }
 {
@@ -63,6 +66,7 @@ fn flags_short(f: Feature, flags: u8) -> bool
     flags % 2 != 1
 }
 
+// Whether Persistent is set where the row and a removable medium bar it.
 fn flags_barred(barred: bool, removable: bool, flags: u8) -> bool
     ensures { λ r. ⌜ r ≡ flagsBarred barred removable flags ⌝ }
 {
@@ -75,6 +79,7 @@ fn flags_barred(barred: bool, removable: bool, flags: u8) -> bool
     flags / 2 % 2 == 1
 }
 
+// 31, 32 and 35: what a row says of length and flags.
 fn row_rule(row: Row, removable: bool, f: Feature, flags: u8, n: u8, len: usize) -> Refusal
     ensures { λ r. ⌜ r ≡ rowRule row removable (f .0) flags n len ⌝ }
 {
@@ -91,6 +96,7 @@ fn row_rule(row: Row, removable: bool, f: Feature, flags: u8, n: u8, len: usize)
     text::ACCEPTED
 }
 
+// The bits of body byte k that may be 1; n is byte 7.
 fn mask_at(row: Row, n: u8, k: usize) -> u8
     ensures { λ r. ⌜ r ≡ maskAt (row .length) (row .masks) n k ⌝ }
 {
@@ -110,6 +116,7 @@ fn mask_at(row: Row, n: u8, k: usize) -> u8
     }
 }
 
+// 36: a bit that may not be 1.
 fn reserved_rule(byte: u8, mask: u8) -> Refusal
     ensures { λ r. ⌜ r ≡ reservedRule byte mask ⌝ }
 {
@@ -120,6 +127,7 @@ fn reserved_rule(byte: u8, mask: u8) -> Refusal
     text::ACCEPTED
 }
 
+// 37: a cue sheet length without SAO.
 fn cue_rule(f: Feature, byte4: u8, cue: u32) -> Refusal
     ensures { λ r. ⌜ r ≡ cueRule (f .0) byte4 cue ⌝ }
 {
@@ -137,6 +145,7 @@ fn cue_rule(f: Feature, byte4: u8, cue: u32) -> Refusal
 
 // ---- the rules, over a body
 
+// 36 at body byte k.
 fn reserved_at(row: Row, body: &[u8], k: usize) -> Refusal
     ensures { λ r. ⌜ r ≡ reservedAt row (now (body .entry)) k ⌝ }
 {
@@ -144,6 +153,7 @@ fn reserved_at(row: Row, body: &[u8], k: usize) -> Refusal
     reserved_rule(fields::byte(body, k), mask)
 }
 
+// 36 anywhere in a body.
 fn reserved_fault(row: Row, body: &[u8]) -> Refusal
     ensures { λ r. ⌜ r ≡ firstOf (reservedAt row (now (body .entry))) 0 (length (now (body .entry))) ⌝ }
 {
@@ -158,6 +168,7 @@ fn reserved_fault(row: Row, body: &[u8]) -> Refusal
     text::ACCEPTED
 }
 
+// 39 at profile i.
 fn profile_at(body: &[u8], i: usize) -> Refusal
     requires { ⌜ i < length (now body) / 4 ⌝ }
     ensures { λ r. ⌜ r ≡ profileAt (now (body .entry)) i ⌝ }
@@ -168,6 +179,7 @@ fn profile_at(body: &[u8], i: usize) -> Refusal
     text::ACCEPTED
 }
 
+// 39 anywhere in the profile list.
 fn profiles_fault(f: Feature, body: &[u8]) -> Refusal
     ensures { λ r. ⌜ r ≡ profilesFault (f .0) (now (body .entry)) ⌝ }
 {
@@ -186,12 +198,14 @@ fn profiles_fault(f: Feature, body: &[u8]) -> Refusal
     text::ACCEPTED
 }
 
+// 37 of a body.
 fn cue_fault(f: Feature, body: &[u8]) -> Refusal
     ensures { λ r. ⌜ r ≡ cueRule (f .0) (getD (now (body .entry)) 0 0) (field 3 (now (body .entry)) 1) ⌝ }
 {
     cue_rule(f, fields::byte(body, 0), fields::get3(body, 1))
 }
 
+// 36, then 37, then 39 of a body.
 fn body_fault(row: Row, f: Feature, body: &[u8]) -> Refusal
     ensures { λ r. ⌜ r ≡ bodyFault row (f .0) (now (body .entry)) ⌝ }
 {
@@ -224,6 +238,7 @@ fn desc_fault(removable: bool, f: Feature, flags: u8, body: &[u8]) -> Refusal
     body_fault(row, f, body)
 }
 
+// The first fault of the descriptor at a place.
 fn fault_at(removable: bool, s: &[u8], at: usize) -> Refusal
     requires { ⌜ at < length (now s) ⌝ }
     ensures { λ r. ⌜ r ≡ descFault removable (descAt (now (s .entry)) at) ⌝ }

@@ -40,6 +40,12 @@ use Rattle.reading.proofs.scan as scan
 use Rattle.reading.proofs.read as read
 use Rattle.reading.proofs.held as held
 use Rattle.sweep.proofs.most as most
+use Rattle.listing.proofs.list as list
+use Rattle.bench.specs.Bench as bench-specs
+use Rattle.bench.proofs.bench as bench
+use Rattle.checks.proofs.check_descriptors as check-descriptors
+use Rattle.checks.proofs.check_profile as check-profile
+use Rattle.checks.proofs.Judgements.{said-injective}
 use Rattle.sweep.proofs.Sweep.start as sweep-start
 use Rattle.sweep.proofs.Sweep.take as sweep-take
 use Rattle.sweep.proofs.take_response as take-response
@@ -167,3 +173,24 @@ sweep-take-decided x = decides (x .𝓤) (λ o o′ p q. (joined (p .0) (q .0), 
 
 pub take-response-decided : Decided take-response.ended (λ M. take-response.clauses) (λ M. take-response.spec)
 take-response-decided x = decides (x .𝓤) (λ o o′ p q. (joined (p .0) (q .0), joined (p .1) (q .1) & refl & joined (p .2) (q .2) & refl))
+
+-- ---- listing
+
+pub list-decided : Decided list.ended (λ M. list.clauses) (λ M. list.spec)
+list-decided x = decides (x .𝓤) (λ o o′ p q. (same p q .0, refl & same p q .1 & refl))
+
+-- ---- bench
+
+pub bench-decided : Decided bench.ended (λ M. bench.clauses) (λ M. bench.spec)
+bench-decided x = decides (x .𝓤) (λ o o′ p q. (
+  ap (λ (z : bench-specs.Outcome). z .reply) (joined p q),
+  refl & refl & refl & ap (λ (z : bench-specs.Outcome). z .response) (joined p q) & ap (λ (z : bench-specs.Outcome). z .collected) (joined p q) & ap (λ (z : bench-specs.Outcome). z .starts) (joined p q) & refl,
+))
+
+-- ---- checks
+
+pub check-descriptors-decided : Decided check-descriptors.ended (λ M. check-descriptors.clauses) (λ M. check-descriptors.spec)
+check-descriptors-decided x = decides (x .𝓤) (λ o o′ p q. (joined p q, refl))
+
+pub check-profile-decided : Decided check-profile.ended (λ M. check-profile.clauses) (λ M. check-profile.spec)
+check-profile-decided x = decides (x .𝓤) (λ o o′ p q. (said-injective (o .0) (o′ .0) (joined p q), refl))

@@ -16,6 +16,7 @@ use Rattle.text.proofs.Sizes.{length-bytes}
 use Rattle.text.proofs.Received.{Stand, length-descAt, wholes-stand, reading-end, reading-within}
 use Rattle.listing.specs.Listing.{lineOf, line}
 
+-- d is the memory lent, written from `at` on, and e what it is now; next is the index behind the lines, place the one behind the descriptors passed
 pub record Passed (s : List ℕ) (end : ℕ) (d : List ℕ) (at place next : ℕ) (e : List ℕ) : Type 0 where
   pub done : List Desc
   pub left : List Desc

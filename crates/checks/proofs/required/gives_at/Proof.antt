@@ -1,7 +1,8 @@
 -- `checks::required::gives_at` meets its contract.
 use Rattle.text.specs.Reading.{numberAt, descAt}
 use Rattle.checks.specs.Required.{gives}
-use Rattle.checks.proofs.Calls.{and-no, and-yes, call-eq, call-ne}
+use Rattle.checks.proofs.Bools.{and-no, and-yes}
+use Rattle.checks.proofs.Calls.{call-eq, call-ne}
 use borrow.Author.Needs.{needs}
 use Rattle.checks.proofs.required.gives_at.Statement.{statement}
 use Rattle.checks.proofs.required.gives_at.Tie as tie
