@@ -5,11 +5,11 @@ use Prim.Native.Nat.{ℕ, zero, suc, _+_, _≤_, min}
 use native.Mathlib.Nat.{mod-eq-of-lt}
 use native.Mathlib.Omega.{arith}
 use lib.ListN.{length, take, drop, length-append, length-take}
-use lib.Seq.{take-all, take-at, take-take, drop-at, getD-take}
+use lib.Seq.{take-all, take-at, take-take, drop-at}
 use Rattle.base.specs.Lists.{flat, Bytes}
 use Rattle.base.proofs.Lists.{bytes-one, bytes-append, bytes-take, bytes-flat, all-map, take-prefix}
 use Rattle.fields.specs.Field.{field, spell}
-use Rattle.fields.proofs.Laws.{length-spell, bytes-spell, field-spell, field-drop}
+use Rattle.fields.proofs.Laws.{length-spell, bytes-spell, field-spell, field-drop, field-take}
 use Rattle.text.specs.Drive.{Desc, Drive, Good, Sound}
 use Rattle.text.specs.Response.{bytes, selected, currentProfile, header, dataLength, full, sent}
 use Rattle.text.proofs.Selection.{selected-good}
@@ -92,12 +92,6 @@ pub sent-65536 : (rt sfn : ℕ) (m : Drive) → length (full rt sfn m) ≡ 65536
 sent-65536 rt sfn m e = sent-limit rt sfn 65535 m (omega arith) (omega arith)
 
 -- ---- the header is the same whatever the allocation length
-
--- a field of a front that holds it
-field-take : (w n : ℕ) (s : List ℕ) (at : ℕ) → at + w ≤ n → field w (take n s) at ≡ field w s at
-unfolding field
-field-take zero n s at h = refl
-field-take (suc w) n s at h = rw (field-take w n s at (omega arith), getD-take n s (at + w) 0 (omega arith))
 
 module _ (rt sfn a : ℕ) (m : Drive) where
   -- the header
