@@ -4,3 +4,4 @@ pub mod Readings
 pub mod Sweeping
 pub mod Stars
 pub mod Decides
+pub mod Checking
