@@ -7,6 +7,7 @@ use native.Mathlib.Omega.{arith}
 use lib.Dec.{ltb}
 use lib.ListN.{length, take, set, replicate}
 use borrow.Author.Tests.{ltb-false, not-true, not-false}
+use Rattle.base.specs.Lists.{Bytes}
 use Rattle.lent.specs.Wrote.{Wrote}
 use Rattle.lent.proofs.Laws.{kept}
 use Rattle.text.specs.declared.Refusal.{Refusal}
@@ -18,6 +19,8 @@ use Rattle.sheet.specs.Check.{Accepted}
 use Rattle.sheet.specs.Meaning.{meaning}
 use Rattle.responder.specs.declared.Reply.{Reply}
 use Rattle.responder.specs.Answer as box
+use Rattle.responder.specs.Trusting.{trusting}
+use Rattle.responder.proofs.Trusting.{trusting-accepted}
 use Rattle.sweep.specs.declared.Sweep.{Sweep}
 use Rattle.sweep.specs.declared.Step.{Step}
 use Rattle.sweep.specs.Sweep.{most, startRule, fresh, started, advanced, endedNow, stepped, collecting}
@@ -47,14 +50,14 @@ module _ (s : List ℕ) (rt a n : ℕ) (e : openFault s rt a n .number ≡ 0) wh
 
 -- ---- a round
 
--- the box is asked into a buffer with room for a response
-module _ (s : List ℕ) (rt f a : ℕ) (d : List ℕ) {blank : List ℕ} {r : Reply} {e : List ℕ} (room : most a ≤ length d) (clear : blank ≡ replicate (length d) 0) (q : box.outcome r e ≡ box.requested s rt f a blank) where
+-- the box of a sheet that is accepted is asked into a buffer with room for a response
+module _ (s : List ℕ) (b : Bytes s) (ok : Accepted s) (rt f a : ℕ) (d : List ℕ) {blank : List ℕ} {r : Reply} {e : List ℕ} (room : most a ≤ length d) (clear : blank ≡ replicate (length d) 0) (q : box.outcome r e ≡ trusting s rt f a blank) where
   abbrev due : List ℕ
   due = sent rt f a (meaning s)
 
   answers : box.outcome r e ≡ box.outcome record { refusal = accept; count = length due } (filled due d)
   unfolding zeros
-  answers = q ∙ ap (box.requested s rt f a) clear ∙ asked s rt f a d room
+  answers = q ∙ trusting-accepted s b ok rt f a blank ∙ ap (box.requested s rt f a) clear ∙ asked s rt f a d room
 
   pub asked-count : r .count ≡ length due
   asked-count = ap (λ (o : box.Outcome). o .reply .count) answers
@@ -83,21 +86,21 @@ round-short {m} {w} {response} {collected} {starts} h = record {
 
 -- the start is noted, the box is asked, the record takes the bytes sent
 module _ (s : List ℕ) (w : Sweep) (response collected starts : List ℕ) {blank e out noted : List ℕ} {r : Reply} {n : ℕ} {t : Step} where
-  pub round-asked : most (w .allocation) ≤ length response → w .commands < length starts → Wrote starts (w .commands) (w .next .0 ∷ []) n noted
-      → blank ≡ replicate (length response) 0 → box.outcome r e ≡ box.requested s (w .rt) (w .next .0) (w .allocation) blank
+  pub round-asked : Bytes s → Accepted s → most (w .allocation) ≤ length response → w .commands < length starts → Wrote starts (w .commands) (w .next .0 ∷ []) n noted
+      → blank ≡ replicate (length response) 0 → box.outcome r e ≡ trusting s (w .rt) (w .next .0) (w .allocation) blank
       → (t ≡ stepped w (take (r .count) e) collected) × (out ≡ collecting w (take (r .count) e) collected) → length out ≡ length collected
       → Rounded (meaning s) (state w response collected starts) (t .refusal) (state (t .sweep) e out noted)
   unfolding rounded
-  round-asked room h wrote clear q took l =
-      let part : take (r .count) e ≡ reply (meaning s) w = asked-part s (w .rt) (w .next .0) (w .allocation) response room clear q in
+  round-asked b ok room h wrote clear q took l =
+      let part : take (r .count) e ≡ reply (meaning s) w = asked-part s b ok (w .rt) (w .next .0) (w .allocation) response room clear q in
       let step : t ≡ stepped w (reply (meaning s) w) collected = took .0 ∙ ap (λ (x : List ℕ). stepped w x collected) part in
       let gives : out ≡ collecting w (reply (meaning s) w) collected = took .1 ∙ ap (λ (x : List ℕ). collecting w x collected) part in
-      let fills : e ≡ filled (reply (meaning s) w) response = asked-filled s (w .rt) (w .next .0) (w .allocation) response room clear q in
+      let fills : e ≡ filled (reply (meaning s) w) response = asked-filled s b ok (w .rt) (w .next .0) (w .allocation) response room clear q in
       let notes : noted ≡ set starts (w .commands) (w .next .0) = wrote .holds in
       record {
         fault = ap (λ (x : Step). x .refusal) step ∙ sym (round-room (meaning s) (state w response collected starts) h);
         stands = λ _. rw (step, gives, fills, notes);
-        kept = record { response = asked-length s (w .rt) (w .next .0) (w .allocation) response room clear q; collected = l; starts = kept wrote };
+        kept = record { response = asked-length s b ok (w .rt) (w .next .0) (w .allocation) response room clear q; collected = l; starts = kept wrote };
       }
 
 -- ---- the loop over the rounds

@@ -35,6 +35,8 @@ use Rattle.layout.proofs.last_at as last-at
 use Rattle.layout.proofs.profiles_part as profiles-part
 use Rattle.sheet.proofs.end_before as end-before
 use Rattle.sheet.proofs.check as check
+use Rattle.responder.proofs.send as send
+use Rattle.responder.proofs.respond_accepted as respond-accepted
 use Rattle.responder.proofs.respond as respond
 use Rattle.reading.proofs.scan as scan
 use Rattle.reading.proofs.read as read
@@ -49,6 +51,19 @@ use Rattle.checks.proofs.Judgements.{said-injective}
 use Rattle.sweep.proofs.Sweep.start as sweep-start
 use Rattle.sweep.proofs.Sweep.take as sweep-take
 use Rattle.sweep.proofs.take_response as take-response
+use Rattle.abi.specs.Left.{Left}
+use Rattle.abi.proofs.gcf_check_sheet as gcf-check-sheet
+use Rattle.abi.proofs.gcf_respond as gcf-respond
+use Rattle.abi.proofs.gcf_respond_accepted as gcf-respond-accepted
+use Rattle.abi.proofs.gcf_read as gcf-read
+use Rattle.abi.proofs.gcf_held as gcf-held
+use Rattle.abi.proofs.gcf_list as gcf-list
+use Rattle.abi.proofs.gcf_most as gcf-most
+use Rattle.abi.proofs.gcf_sweep_start as gcf-sweep-start
+use Rattle.abi.proofs.gcf_sweep_take as gcf-sweep-take
+use Rattle.abi.proofs.gcf_bench as gcf-bench
+use Rattle.abi.proofs.gcf_check_descriptors as gcf-check-descriptors
+use Rattle.abi.proofs.gcf_check_profile as gcf-check-profile
 
 -- ---- fields
 
@@ -146,6 +161,12 @@ check-decided x = decides (x .𝓤) (λ o o′ p q. (joined p q, refl))
 
 -- ---- responder
 
+pub send-decided : Decided send.ended (λ M. send.clauses) (λ M. send.spec)
+send-decided x = decides (x .𝓤) (λ o o′ p q. (ap (λ (z : Outcome). z .reply) (joined p q), refl & refl & refl & refl & ap (λ (z : Outcome). z .buffer) (joined p q) & refl))
+
+pub respond-accepted-decided : Decided respond-accepted.ended (λ M. respond-accepted.clauses) (λ M. respond-accepted.spec)
+respond-accepted-decided x = decides (x .𝓤) (λ o o′ p q. (ap (λ (z : Outcome). z .reply) (joined p q), refl & refl & ap (λ (z : Outcome). z .buffer) (joined p q) & refl))
+
 pub respond-decided : Decided respond.ended (λ M. respond.clauses) (λ M. respond.spec)
 respond-decided x = decides (x .𝓤) (λ o o′ p q. (ap (λ (z : Outcome). z .reply) (joined p q), refl & refl & ap (λ (z : Outcome). z .buffer) (joined p q) & refl))
 
@@ -194,3 +215,53 @@ check-descriptors-decided x = decides (x .𝓤) (λ o o′ p q. (joined p q, ref
 
 pub check-profile-decided : Decided check-profile.ended (λ M. check-profile.clauses) (λ M. check-profile.spec)
 check-profile-decided x = decides (x .𝓤) (λ o o′ p q. (said-injective (o .0) (o′ .0) (joined p q), refl))
+
+-- ---- abi: what is left in the buffers and in the array of numbers
+
+number : {B : Type 0} {a b : Left B} → a ≡ b → a .number ≡ b .number
+number {B} p = ap (λ (z : Left B). z .number) p
+
+buffers : {B : Type 0} {a b : Left B} → a ≡ b → a .buffers ≡ b .buffers
+buffers {B} p = ap (λ (z : Left B). z .buffers) p
+
+numbers : {B : Type 0} {a b : Left B} → a ≡ b → a .numbers ≡ b .numbers
+numbers {B} p = ap (λ (z : Left B). z .numbers) p
+
+pub gcf-check-sheet-decided : Decided gcf-check-sheet.ended (λ M. gcf-check-sheet.clauses) (λ M. gcf-check-sheet.spec)
+gcf-check-sheet-decided x = decides (x .𝓤) (λ o o′ p q. (joined p q, refl))
+
+pub gcf-respond-decided : Decided gcf-respond.ended (λ M. gcf-respond.clauses) (λ M. gcf-respond.spec)
+gcf-respond-decided x = decides (x .𝓤) (λ o o′ p q. (number (joined p q), refl & refl & buffers (joined p q) & numbers (joined p q) & refl))
+
+pub gcf-respond-accepted-decided : Decided gcf-respond-accepted.ended (λ M. gcf-respond-accepted.clauses) (λ M. gcf-respond-accepted.spec)
+gcf-respond-accepted-decided x = decides (x .𝓤) (λ o o′ p q. (number (joined p q), refl & refl & buffers (joined p q) & numbers (joined p q) & refl))
+
+pub gcf-read-decided : Decided gcf-read.ended (λ M. gcf-read.clauses) (λ M. gcf-read.spec)
+gcf-read-decided x = decides (x .𝓤) (λ o o′ p q. (number (joined p q), refl & refl & refl & numbers (joined p q) & refl))
+
+pub gcf-held-decided : Decided gcf-held.ended (λ M. gcf-held.clauses) (λ M. gcf-held.spec)
+gcf-held-decided x = decides (x .𝓤) (λ o o′ p q. (same p q .0, refl & refl & refl & same p q .1 & refl))
+
+pub gcf-list-decided : Decided gcf-list.ended (λ M. gcf-list.clauses) (λ M. gcf-list.spec)
+gcf-list-decided x = decides (x .𝓤) (λ o o′ p q. (same p q .0, refl & same p q .1 & refl))
+
+pub gcf-most-decided : Decided gcf-most.ended (λ M. gcf-most.clauses) (λ M. gcf-most.spec)
+gcf-most-decided x = decides (x .𝓤) (λ o o′ p q. (joined p q, refl))
+
+pub gcf-sweep-start-decided : Decided gcf-sweep-start.ended (λ M. gcf-sweep-start.clauses) (λ M. gcf-sweep-start.spec)
+gcf-sweep-start-decided x = decides (x .𝓤) (λ o o′ p q. (number (joined p q), refl & refl & numbers (joined p q) & refl))
+
+pub gcf-sweep-take-decided : Decided gcf-sweep-take.ended (λ M. gcf-sweep-take.clauses) (λ M. gcf-sweep-take.spec)
+gcf-sweep-take-decided x = decides (x .𝓤) (λ o o′ p q. (number (joined p q), refl & refl & refl & refl & refl & refl & refl & buffers (joined p q) & numbers (joined p q) & refl))
+
+pub gcf-bench-decided : Decided gcf-bench.ended (λ M. gcf-bench.clauses) (λ M. gcf-bench.spec)
+gcf-bench-decided x = decides (x .𝓤) (λ o o′ p q. (
+  number (joined p q),
+  refl & refl & refl & ap (λ (z : List ℕ × List ℕ × List ℕ). z .0) (buffers (joined p q)) & ap (λ (z : List ℕ × List ℕ × List ℕ). z .1) (buffers (joined p q)) & ap (λ (z : List ℕ × List ℕ × List ℕ). z .2) (buffers (joined p q)) & numbers (joined p q) & refl,
+))
+
+pub gcf-check-descriptors-decided : Decided gcf-check-descriptors.ended (λ M. gcf-check-descriptors.clauses) (λ M. gcf-check-descriptors.spec)
+gcf-check-descriptors-decided x = decides (x .𝓤) (λ o o′ p q. (number (joined p q), refl & numbers (joined p q) & refl))
+
+pub gcf-check-profile-decided : Decided gcf-check-profile.ended (λ M. gcf-check-profile.clauses) (λ M. gcf-check-profile.spec)
+gcf-check-profile-decided x = decides (x .𝓤) (λ o o′ p q. (number (joined p q), refl & refl & numbers (joined p q) & refl))

@@ -79,18 +79,17 @@ then {d} {e} {f} {at} {r} {q} {xs} {ys} v w =
       holds = w .holds ∙ behind ∙ ap (λ (l : List ℕ). sets l (at + length xs) ys) (v .holds) ∙ sym (sets-append d at xs ys);
     }
 
--- a writing of xs into the lent front of d, which is as long as the first m elements of xs, is a writing of those into d
-pub cut : {d e : List ℕ} {r limit : ℕ} {xs : List ℕ} (m : ℕ) → limit ≡ length (take m xs) → limit ≤ length d → Wrote (take limit d) 0 xs r e
-    → Wrote d 0 (take m xs) r (e ++ drop limit d)
-cut {d} {e} {r} {limit} {xs} m l h w =
+-- a writing of xs into the lent front of d is a writing into d of as much of xs as has room there
+pub cut : {d e : List ℕ} {r limit : ℕ} {xs : List ℕ} → limit ≤ length d → Wrote (take limit d) 0 xs r e → Wrote d 0 (take limit xs) r (e ++ drop limit d)
+cut {d} {e} {r} {limit} {xs} h w =
     let n : length (take limit d) ≡ limit = length-take-le limit d h in
-    let k : limit ≡ min m (length xs) = l ∙ length-take m xs in
+    let k : length (take limit xs) ≡ min limit (length xs) = length-take limit xs in
     record {
       next = omega (arith, w .next);
       holds =
-          ap (λ (z : List ℕ). z ++ drop limit d) (w .holds ∙ sym (sets-room (take limit d) 0 xs m (omega arith)))
-          ∙ sym (sets-left (take limit d) (drop limit d) 0 (take m xs) (omega arith))
-          ∙ ap (λ (z : List ℕ). sets z 0 (take m xs)) (take-append-drop limit d);
+          ap (λ (z : List ℕ). z ++ drop limit d) (w .holds ∙ sym (sets-room (take limit d) 0 xs limit (omega arith)))
+          ∙ sym (sets-left (take limit d) (drop limit d) 0 (take limit xs) (omega arith))
+          ∙ ap (λ (z : List ℕ). sets z 0 (take limit xs)) (take-append-drop limit d);
     }
 
 -- ---- setting to one value

@@ -1,25 +1,26 @@
--- A planned response is the full response, and as long as planned. Assumes nothing.
+-- From an accepted sheet the response found by index is the full response. Assumes nothing.
 use mathlib.Core.Path.{_≡_, refl, sym, ap, _∙_}
 use mathlib.Core.Bool.{Bool, true, false}
 use mathlib.Core.List.{List, _++_, append-assoc}
-use Prim.Native.Nat.{ℕ, _+_, _-_, _<_, min}
+use Prim.Native.Nat.{ℕ, _+_, _-_, _%_, _^_, _<_}
+use native.Mathlib.Nat.{mod-eq-of-lt}
 use native.Mathlib.Omega.{arith}
 use lib.Dec.{eqb}
-use lib.ListN.{length, take, length-append}
+use lib.ListN.{length, length-append}
 use borrow.Author.Tests.{eqb-true, eqb-false}
 use Rattle.base.specs.Lists.{flat, keep, Bytes}
-use Rattle.text.specs.Response.{bytes, wants, selected, dataLength, full, sent}
+use Rattle.text.specs.Response.{bytes, wants, selected, dataLength, full}
 use Rattle.text.proofs.Selection.{selected-zero, selected-above}
 use Rattle.text.proofs.Sizes.{length-full, full-low}
-use Rattle.text.proofs.Sent.{length-sent}
-use Rattle.layout.specs.Layout.{profileCount}
+use Rattle.layout.specs.Layout.{featureCount}
 use Rattle.sheet.specs.Check.{Accepted}
 use Rattle.sheet.specs.Facts.{Facts}
 use Rattle.sheet.specs.Meaning.{meaning}
 use Rattle.sheet.proofs.Accepted.{facts}
 use Rattle.sheet.proofs.Meaning.{meaning-fine}
-use Rattle.responder.specs.declared.Plan.{Plan}
-use Rattle.responder.specs.Index.{pieces, zeroPart, currentFrom, Planned, fullBytes}
+use Rattle.responder.specs.Index.{wantedEnd, pieces, zeroPart, takenFrom, takenTo, takenSize, fullBytes}
+use Rattle.responder.specs.Trusting.{found}
+use Rattle.responder.proofs.Bisection.{First, first-from}
 use Rattle.responder.proofs.Zero.{zero-bytes, current-from}
 use Rattle.responder.proofs.Chosen.{chosen-ordered, chosen-within, chosen}
 use Rattle.responder.proofs.Sizes.{entries-size, zero-size}
@@ -38,40 +39,44 @@ selected-parts s rt sfn b e = go (eqb sfn 0) refl
         let n : sfn ≡ 0 → ⊥ = eqb-false sfn 0 c in
         rw (c, zeroPart) (ap (flat bytes) (selected-above rt sfn (meaning s) (omega arith)))
 
-module _ (s : List ℕ) (rt sfn : ℕ) (p : Plan) (b : Bytes s) (e : Accepted s) (q : Planned s rt sfn p) where
-  -- what stands behind the header
-  plan-parts : flat bytes (selected rt sfn (meaning s)) ≡ zeroPart s sfn ++ pieces rt s (p .from) (p .to - p .from)
-  plan-parts = selected-parts s rt sfn b e ∙ ap (λ (r : List ℕ). zeroPart s sfn ++ r) (sym (chosen (facts s b e) rt (q .first) (q .last)))
+module _ (s : List ℕ) (rt sfn : ℕ) (b : Bytes s) (e : Accepted s) where
+  abbrev from : ℕ
+  from = takenFrom s sfn
 
-  plan-size : length (flat bytes (selected rt sfn (meaning s))) ≡ p .size
-  plan-size =
+  abbrev to : ℕ
+  to = takenTo s rt sfn
+
+  first : First s (featureCount s) sfn from
+  unfolding takenFrom
+  first = first-from s (featureCount s) sfn
+
+  last : to ≡ wantedEnd rt s (featureCount s) sfn from
+  unfolding takenTo
+  last = refl
+
+  -- what stands behind the header
+  found-parts : flat bytes (selected rt sfn (meaning s)) ≡ zeroPart s sfn ++ pieces rt s from (to - from)
+  found-parts = selected-parts s rt sfn b e ∙ ap (λ (r : List ℕ). zeroPart s sfn ++ r) (sym (chosen (facts s b e) rt first last))
+
+  found-size : length (flat bytes (selected rt sfn (meaning s))) ≡ takenSize s rt sfn
+  unfolding takenSize
+  found-size =
       let f : Facts s = facts s b e in
       omega (
         arith,
-        ap length plan-parts,
-        length-append (zeroPart s sfn) (pieces rt s (p .from) (p .to - p .from)),
+        ap length found-parts,
+        length-append (zeroPart s sfn) (pieces rt s from (to - from)),
         zero-size s sfn b e,
-        entries-size f rt (p .from) (p .to) (chosen-ordered f rt (q .first) (q .last)) (chosen-within f rt (q .first) (q .last)),
-        q .bytes,
+        entries-size f rt from to (chosen-ordered f rt first last) (chosen-within f rt first last),
       )
 
-  pub plan-full : full rt sfn (meaning s) ≡ fullBytes s rt sfn (p .from) (p .to) (p .size + 4) (currentFrom s 0 (profileCount s))
-  unfolding full fullBytes dataLength
-  plan-full =
-      let n : 4 + length (flat bytes (selected rt sfn (meaning s))) ≡ p .size + 4 = omega (arith, plan-size) in
-      rw (n, plan-parts, current-from, append-assoc)
-
-  pub plan-length : length (full rt sfn (meaning s)) ≡ 8 + p .size
-  plan-length = omega (arith, length-full rt sfn (meaning s), plan-size)
+  pub found-length : length (full rt sfn (meaning s)) ≡ 8 + takenSize s rt sfn
+  found-length = omega (arith, length-full rt sfn (meaning s), found-size)
 
   -- Data Length takes four bytes
-  pub plan-low : p .size + 4 < 4294967296
-  plan-low = omega (arith, plan-length, full-low (meaning-fine s b e .sound) rt sfn)
+  found-low : (takenSize s rt sfn + 4) % 2 ^ 32 ≡ 4 + length (flat bytes (selected rt sfn (meaning s)))
+  found-low = mod-eq-of-lt (omega (arith, found-length, full-low (meaning-fine s b e .sound) rt sfn)) ∙ omega (arith, found-size)
 
-  pub plan-sent : (a : ℕ)
-      → sent rt sfn a (meaning s) ≡ take (min a 65534) (fullBytes s rt sfn (p .from) (p .to) (p .size + 4) (currentFrom s 0 (profileCount s)))
-  unfolding sent
-  plan-sent a = ap (take (min a 65534)) plan-full
-
-  pub plan-sent-length : (a : ℕ) → length (sent rt sfn a (meaning s)) ≡ min (min a 65534) (8 + p .size)
-  plan-sent-length a = length-sent rt sfn a (meaning s) ∙ ap (min (min a 65534)) plan-length
+  pub found-full : found s rt sfn ≡ full rt sfn (meaning s)
+  unfolding found full fullBytes dataLength
+  found-full = rw (found-low, found-parts, current-from, append-assoc)

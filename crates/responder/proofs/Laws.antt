@@ -15,8 +15,7 @@ use Rattle.lent.specs.Wrote.{Wrote}
 use Rattle.lent.proofs.Laws.{nowhere, then, kept}
 use Rattle.layout.specs.Layout.{featureCount, profileCount, entryAt, number, flags, bodyLength, offset, profile, current}
 use Rattle.sheet.specs.Check.{endBefore}
-use native.Mathlib.Decide.{decLe}
-use Rattle.responder.specs.Index.{First, Halved, wantedEnd, skips, entryBytes, piece, pieces, pieceSize, piecesSize, span, entriesSize, zeroBytes, zeroPart, zeroSize, currentFrom}
+use Rattle.responder.specs.Index.{wantedEnd, skips, entryBytes, piece, pieces, pieceSize, piecesSize, span, entriesSize, zeroBytes, zeroPart, zeroSize, currentFrom}
 
 -- ---- one entry
 
@@ -155,32 +154,6 @@ module _ (s : List ℕ) where
   pub current-end : (p i : ℕ) → currentFrom s 0 p ≡ currentFrom s i (p - i) → p ≤ i → 0 ≡ currentFrom s 0 p
   unfolding currentFrom
   current-end p i e h = sym (e ∙ ap (currentFrom s i) {x = p - i} {y = 0} (omega arith))
-
--- ---- bisection: a range that closes in on the first entry wanted
-
-pub record Closing (s : List ℕ) (n sfn low high : ℕ) : Type 0 where
-  pub ordered : low ≤ high
-  pub within : high ≤ n
-  pub before : 0 < low → number s (low - 1) < sfn
-  pub behind : high < n → sfn ≤ number s high
-
-pub closing-start : (s : List ℕ) (n sfn : ℕ) → Closing s n sfn 0 n
-closing-start s n sfn = record { ordered = omega arith; within = omega arith; before = λ h. absurd (omega arith); behind = λ h. absurd (omega arith) }
-
-pub closing-more : {s : List ℕ} {n sfn low high l h : ℕ} → Closing s n sfn low high → Halved s sfn low high l h → Closing s n sfn l h
-closing-more {s} {n} {sfn} {low} {high} {l} {h} c r = record {
-  ordered = r .ordered;
-  within = omega (arith, r .below, c .within);
-  before = λ p. elim (decLe (suc low) l) [ yes q ↦ r .before q | no q ↦ (let e : l ≡ low = omega (arith, r .above) in rw e (c .before (omega arith))) ];
-  behind = λ p. elim (decLe (suc h) high) [ yes q ↦ r .behind q | no q ↦ (let e : h ≡ high = omega (arith, r .below) in rw e (c .behind (omega arith))) ];
-}
-
-pub closing-end : {s : List ℕ} {n sfn low high : ℕ} → Closing s n sfn low high → high ≤ low → First s n sfn low
-closing-end {s} {n} {sfn} {low} {high} c h = record {
-  within = omega (arith, c .ordered, c .within);
-  before = c .before;
-  behind = λ p. let e : low ≡ high = omega (arith, c .ordered) in rw e (c .behind (omega arith));
-}
 
 -- ---- an end of a body takes little more than four bytes
 

@@ -1,8 +1,7 @@
 -- The response by index of the sheet's entries: what the box's inner functions find, add up and write. Assumes nothing: these are definitions.
-use mathlib.Core.Path.{_≡_}
 use mathlib.Core.Bool.{Bool, true, false, _&&_}
 use mathlib.Core.List.{List, [], _∷_, _++_}
-use Prim.Native.Nat.{ℕ, zero, suc, _+_, _-_, _*_, _%_, _≤_, _<_}
+use Prim.Native.Nat.{ℕ, zero, suc, _+_, _-_, _*_, _/_, _%_}
 use lib.Dec.{ltb, eqb}
 use lib.ListN.{take, drop}
 use Rattle.fields.specs.Field.{spell}
@@ -11,21 +10,23 @@ use Rattle.text.specs.Response.{header}
 use Rattle.layout.specs.Layout.{featureCount, profileCount, number, flags, bodyLength, offset, profile, current, profilesPart}
 use Rattle.sheet.specs.Check.{endBefore}
 use Rattle.responder.specs.declared.Plan.{Plan}
+use Rattle.responder.specs.declared.Range.{Range}
 
--- r is the first of n entries with a number of sfn or more, n if there is none
-pub record First (s : List ℕ) (n sfn r : ℕ) : Type 0 where
-  pub within : r ≤ n
-  pub before : 0 < r → number s (r - 1) < sfn
-  pub behind : r < n → sfn ≤ number s r
+-- the middle of a range of entries, and the half where the first one with a number of sfn or more is, if the numbers ascend
+abbrev pub middle : (low high : ℕ) → ℕ
+middle low high = low + (high - low) / 2
 
--- a smaller range that holds the first entry with a number of sfn or more, if the range from low to high does
-pub record Halved (s : List ℕ) (sfn low high l h : ℕ) : Type 0 where
-  pub ordered : l ≤ h
-  pub above : low ≤ l
-  pub below : h ≤ high
-  pub smaller : h - l < high - low
-  pub before : low < l → number s (l - 1) < sfn
-  pub behind : h < high → sfn ≤ number s h
+unfoldable pub half : (s : List ℕ) (sfn low high : ℕ) → Range
+half s sfn low high = elim (ltb (number s (middle low high)) sfn) [ true ↦ record { low = middle low high + 1; high = high } | false ↦ record { low = low; high = middle low high } ]
+
+-- where a range ends up that is halved until it is empty, k times at most
+unfoldable pub closing : (k : ℕ) (s : List ℕ) (sfn low high : ℕ) → ℕ
+closing zero s sfn low high = low
+closing (suc k) s sfn low high = elim (ltb low high) [ true ↦ closing k s sfn (half s sfn low high .low) (half s sfn low high .high) | false ↦ low ]
+
+-- by bisection, the first of n entries with a number of sfn or more, n if there is none
+unfoldable pub firstFrom : (s : List ℕ) (n sfn : ℕ) → ℕ
+firstFrom s n sfn = closing n s sfn 0 n
 
 -- the end of the wanted entries that start at r: all n, or with RT 2 only entry r if it has the number asked for
 unfoldable pub wantedEnd : (rt : ℕ) (s : List ℕ) (n sfn r : ℕ) → ℕ
@@ -80,10 +81,17 @@ currentFrom s i zero = 0
 currentFrom s i (suc k) = elim (eqb (current s i) 1) [ true ↦ profile s i | false ↦ currentFrom s (suc i) k ]
 
 -- which entries a request takes, and how many bytes stand behind the header
-pub record Planned (s : List ℕ) (rt sfn : ℕ) (p : Plan) : Type 0 where
-  pub first : First s (featureCount s) sfn (p .from)
-  pub last : p .to ≡ wantedEnd rt s (featureCount s) sfn (p .from)
-  pub bytes : p .size ≡ zeroSize s sfn + entriesSize rt s (p .from) (p .to)
+unfoldable pub takenFrom : (s : List ℕ) (sfn : ℕ) → ℕ
+takenFrom s sfn = firstFrom s (featureCount s) sfn
+
+unfoldable pub takenTo : (s : List ℕ) (rt sfn : ℕ) → ℕ
+takenTo s rt sfn = wantedEnd rt s (featureCount s) sfn (takenFrom s sfn)
+
+unfoldable pub takenSize : (s : List ℕ) (rt sfn : ℕ) → ℕ
+takenSize s rt sfn = zeroSize s sfn + entriesSize rt s (takenFrom s sfn) (takenTo s rt sfn)
+
+unfoldable pub plan : (s : List ℕ) (rt sfn : ℕ) → Plan
+plan s rt sfn = record { from = takenFrom s sfn; to = takenTo s rt sfn; size = takenSize s rt sfn }
 
 -- a whole response
 unfoldable pub fullBytes : (s : List ℕ) (rt sfn from to len profile : ℕ) → List ℕ

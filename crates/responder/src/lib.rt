@@ -5,9 +5,9 @@ ghost use Prim.Native.Nat.{_+_, _-_, _*_, _≤_, _<_, min};
 ghost use Rattle.lent.specs.Wrote.{Wrote};
 ghost use Rattle.text.specs.Response.{header};
 ghost use Rattle.layout.specs.Layout.{profileCount};
-ghost use Rattle.sheet.specs.Check.{Accepted};
-ghost use Rattle.responder.specs.Answer.{outcome, requested, commanded, answered};
-ghost use Rattle.responder.specs.Index.{First, Halved, wantedEnd, skips, entryBytes, piece, pieces, pieceSize, piecesSize, span, entriesSize, zeroBytes, zeroPart, zeroSize, currentFrom, Planned, fullBytes};
+ghost use Rattle.responder.specs.Answer.{outcome, answered};
+ghost use Rattle.responder.specs.Trusting.{trusting, trustingCommand};
+ghost use Rattle.responder.specs.Index.{half, firstFrom, wantedEnd, skips, entryBytes, piece, pieces, pieceSize, piecesSize, span, entriesSize, zeroBytes, zeroPart, zeroSize, currentFrom, plan, fullBytes};
 use text::Command;
 use text::Feature;
 use text::Header;
@@ -30,7 +30,7 @@ struct Range {
 // The half of a range where the first entry numbered sfn or more is.
 fn halved(s: &[u8], sfn: u16, low: u16, high: u16) -> Range
     requires { ⌜ low < high ⌝ }
-    ensures { λ r. ⌜ Halved (now (s .entry)) sfn low high (r .low) (r .high) ⌝ }
+    ensures { λ r. ⌜ r ≡ half (now (s .entry)) sfn low high ⌝ }
 {
     let middle = low + (high - low) / 2;
     let feature = layout::feature_at(s, middle);
@@ -48,7 +48,7 @@ fn halved(s: &[u8], sfn: u16, low: u16, high: u16) -> Range
 
 // The first of n entries numbered sfn or more, n if there is none.
 fn first_from(s: &[u8], n: u16, sfn: u16) -> u16
-    ensures { λ r. ⌜ First (now (s .entry)) n sfn r ⌝ }
+    ensures { λ r. ⌜ r ≡ firstFrom (now (s .entry)) n sfn ⌝ }
 {
     let mut low: u16 = 0;
     let mut high = n;
@@ -156,7 +156,7 @@ struct Plan {
 
 // The entries that a request takes, and how many bytes stand behind the header.
 fn planned(s: &[u8], rt: u8, sfn: u16) -> Plan
-    ensures { λ r. ⌜ Planned (now (s .entry)) rt sfn r ⌝ }
+    ensures { λ r. ⌜ (r ≡ plan (now (s .entry)) rt sfn) × (r .size < 6000000000) ⌝ }
 {
     let n = layout::feature_count(s);
     let from = first_from(s, n, sfn);
@@ -272,10 +272,9 @@ fn least(a: usize, b: usize) -> usize
     b
 }
 
-// Answers a request from a sheet that is accepted, with no check of it.
+// Answers a request with no check of the sheet: from an accepted one, what `respond` answers.
 pub fn send(s: &[u8], rt: u8, sfn: Feature, a: u16, out: &mut [u8]) -> Reply
-    requires { ⌜ Accepted (now s) ⌝ }
-    ensures { λ r. ⌜ outcome r (now (out .exit)) ≡ requested (now (s .entry)) rt (sfn .0) a (now (out .entry)) ⌝ }
+    ensures { λ r. ⌜ outcome r (now (out .exit)) ≡ trusting (now (s .entry)) rt (sfn .0) a (now (out .entry)) ⌝ }
 {
     let plan = planned(s, rt, sfn.0);
     let limit = least(
@@ -289,7 +288,8 @@ pub fn send(s: &[u8], rt: u8, sfn: Feature, a: u16, out: &mut [u8]) -> Reply
         };
     }
     let profile = current_profile(s, layout::profile_count(s));
-    let header = Header::new((plan.size + 4) as u32, profile);
+    // Data Length has four bytes; what an accepted sheet gives always fits.
+    let header = Header::new(((plan.size + 4) % 0x1_0000_0000) as u32, profile);
     let count = put_full(&mut out[..limit], s, rt, sfn.0, plan.from, plan.to, header);
     Reply {
         refusal: text::ACCEPTED,
@@ -297,10 +297,9 @@ pub fn send(s: &[u8], rt: u8, sfn: Feature, a: u16, out: &mut [u8]) -> Reply
     }
 }
 
-// Answers a command from a sheet that is accepted, with no check of it: what a box does that has checked its sheet once.
+// Answers a command with no check of the sheet: what a box does that has checked it once.
 pub fn respond_accepted(s: &[u8], command: &[u8], out: &mut [u8]) -> Reply
-    requires { ⌜ Accepted (now s) ⌝ }
-    ensures { λ r. ⌜ outcome r (now (out .exit)) ≡ commanded (now (s .entry)) (now (command .entry)) (now (out .entry)) ⌝ }
+    ensures { λ r. ⌜ outcome r (now (out .exit)) ≡ trustingCommand (now (s .entry)) (now (command .entry)) (now (out .entry)) ⌝ }
 {
     let fault = Command::fault(command);
     if fault.number != 0 {

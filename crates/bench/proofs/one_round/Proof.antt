@@ -1,5 +1,6 @@
 -- `bench::one_round` meets its contract: no room for another start, or the box is asked and the record takes the bytes sent.
 use mathlib.Core.Path.{_≡_, sym}
+use native.Mathlib.Omega.{arith}
 use lib.ListN.{length}
 use lib.Seq.{length-take-le}
 use Rattle.bench.proofs.Loop.{asked-room, round-short, round-asked}
@@ -14,20 +15,20 @@ slice-reshare-prefix-take : tie.Need-slice-reshare-prefix-take
 slice-reshare-prefix-take c =
     let o = c .before .before .before .before .before .before .before .before .before .before .before .before .before .before .before .before .before .before .before in
     let a = o .args in
-    asked-room (a .s .now) (a .w .rt) (a .w .next .0) (a .w .allocation) (a .response .now) (o .pre .1) (c .before .before .before .before .before .before .clear .ensures) (c .before .before .send .ensures)
+    asked-room (a .s .now) (λ i. omega (arith, c .before .before .before .before .before .before .before .before .before .before .before .before .before .before .before .before .before .before .shared-slice-known .given i)) (o .pre .0) (a .w .rt) (a .w .next .0) (a .w .allocation) (a .response .now) (o .pre .1) (c .before .before .before .before .before .before .clear .ensures) (c .before .before .send .ensures)
 
 slice-aggregate-take : tie.Need-slice-aggregate-take
 slice-aggregate-take c =
     let o = c .before .before .before .before .before .before .before .before .before .before .before .before .before .before .before .before .before .before .before .before in
     let a = o .args in
-    sym (length-take-le (c .before .before .before .send .result .count) (c .before .before .before .send .last .1 .1 .1 .1 .0) (asked-room (a .s .now) (a .w .rt) (a .w .next .0) (a .w .allocation) (a .response .now) (o .pre .1) (c .before .before .before .before .before .before .before .clear .ensures) (c .before .before .before .send .ensures)))
+    sym (length-take-le (c .before .before .before .send .result .count) (c .before .before .before .send .last .1 .1 .1 .1 .0) (asked-room (a .s .now) (λ i. omega (arith, c .before .before .before .before .before .before .before .before .before .before .before .before .before .before .before .before .before .before .before .shared-slice-known .given i)) (o .pre .0) (a .w .rt) (a .w .next .0) (a .w .allocation) (a .response .now) (o .pre .1) (c .before .before .before .before .before .before .before .clear .ensures) (c .before .before .before .send .ensures)))
 
 returns-2 : tie.Need-returns-2
 returns-2 c =
     let o = c .before .before .before .before .before .before .before .before .before .before .before .before .before .before .before .before .before .before .before .before .before .before .before .before in
     let a = o .args in
     let l : length (c .before .before .take .last .1 .1 .0) ≡ length (a .collected .now) = search needs in
-    round-asked (a .s .now) (a .w) (a .response .now) (a .collected .now) (a .starts .now) (o .pre .1) (c .before .before .before .before .before .before .before .before .before .before .before .before .before .before .before .before .before .before .if1 .left) (c .before .before .before .before .before .before .before .before .before .before .before .before .before .before .before .note .ensures) (c .before .before .before .before .before .before .before .before .before .before .before .clear .ensures) (c .before .before .before .before .before .before .before .send .ensures) (c .before .before .take .ensures) l
+    round-asked (a .s .now) (a .w) (a .response .now) (a .collected .now) (a .starts .now) (λ i. omega (arith, c .before .before .before .before .before .before .before .before .before .before .before .before .before .before .before .before .before .before .before .before .before .before .before .shared-slice-known .given i)) (o .pre .0) (o .pre .1) (c .before .before .before .before .before .before .before .before .before .before .before .before .before .before .before .before .before .before .if1 .left) (c .before .before .before .before .before .before .before .before .before .before .before .before .before .before .before .note .ensures) (c .before .before .before .before .before .before .before .before .before .before .before .clear .ensures) (c .before .before .before .before .before .before .before .send .ensures) (c .before .before .take .ensures) l
 
 pub one-round-spec : {M : Type 1} → statement M
 one-round-spec =

@@ -1,8 +1,10 @@
--- `responder::respond` meets its contract: the sheet's refusal, or what the command is answered.
+-- `responder::respond` meets its contract: the sheet's refusal, or what the command is answered from a sheet that is accepted.
 use mathlib.Core.Path.{_≡_, sym, ap, _∙_}
-use Rattle.sheet.specs.Check.{verdict}
+use native.Mathlib.Omega.{arith}
+use Rattle.sheet.specs.Check.{verdict, Accepted}
 use Rattle.responder.specs.Answer.{answered}
 use Rattle.responder.proofs.Answers.{unless-none, unless-fault}
+use Rattle.responder.proofs.Trusting.{trusting-commanded}
 use borrow.Author.Needs.{needs}
 use Rattle.responder.proofs.respond.Statement.{statement}
 use Rattle.responder.proofs.respond.Tie as tie
@@ -13,16 +15,15 @@ returns c =
     let a = c .before .before .before .before .before .before .args in
     rw (← c .before .before .check .ensures) (unless-fault (c .before .before .check .result) _ (a .out .now) (c .if1 .taken))
 
-respond-accepted-requires : tie.Need-respond-accepted-requires
-respond-accepted-requires c κs = sym (ap (λ r. r .number) (c .before .before .before .check .ensures)) ∙ c .before .if1 .left
-
 returns-2 : tie.Need-returns-2
 unfolding answered
 returns-2 c =
     let a = c .before .before .before .before .before .before .before .before .before .before .args in
+    let ok : Accepted (a .s .now) = sym (ap (λ r. r .number) (c .before .before .before .before .before .before .check .ensures)) ∙ c .before .before .before .before .if1 .left in
     c .before .before .respond-accepted .ensures
-    ∙ sym (unless-none (verdict (a .s .now)) _ (a .out .now) (sym (ap (λ r. r .number) (c .before .before .before .before .before .before .check .ensures)) ∙ c .before .before .before .before .if1 .left))
+    ∙ trusting-commanded (a .s .now) (λ i. omega (arith, c .before .before .before .before .before .before .before .before .before .shared-slice-known .given i)) ok (a .command .now) (a .out .now)
+    ∙ sym (unless-none (verdict (a .s .now)) _ (a .out .now) ok)
 
 pub respond-spec : {M : Type 1} → statement M
 respond-spec =
-    tie.close (tie.spec (λ c κs. search needs) returns respond-accepted-requires (λ c. search needs) returns-2)
+    tie.close (tie.spec (λ c κs. search needs) returns (λ c κs. search needs) (λ c. search needs) returns-2)

@@ -2,24 +2,24 @@
 use mathlib.Core.Path.{_≡_, sym, ap, _∙_}
 use Rattle.text.specs.declared.Command.{Command}
 use Rattle.text.specs.Command.{commandOf, commandFault}
-use Rattle.responder.specs.Answer.{requested, commanded}
+use Rattle.responder.specs.Trusting.{trusting, trustingCommand}
 use Rattle.responder.proofs.Answers.{unless-none, unless-fault}
 use borrow.Author.Needs.{needs}
 use Rattle.responder.proofs.respond_accepted.Statement.{statement}
 use Rattle.responder.proofs.respond_accepted.Tie as tie
 
 returns : tie.Need-returns
-unfolding commanded
+unfolding trustingCommand
 returns c =
     let a = c .before .before .before .before .before .before .args in
     rw (← c .before .before .fault .ensures) (unless-fault (c .before .before .fault .result) _ (a .out .now) (c .if1 .taken))
 
 returns-2 : tie.Need-returns-2
-unfolding commanded commandOf
+unfolding trustingCommand commandOf
 returns-2 c =
     let a = c .before .before .before .before .before .before .before .before .before .before .before .args in
     c .before .before .send .ensures
-    ∙ ap (λ (k : Command). requested (a .s .now) (k .rt) (k .sfn .0) (k .allocation) (a .out .now)) (c .before .before .before .before .read .ensures)
+    ∙ ap (λ (k : Command). trusting (a .s .now) (k .rt) (k .sfn .0) (k .allocation) (a .out .now)) (c .before .before .before .before .read .ensures)
     ∙ sym (unless-none (commandFault (a .command .now)) _ (a .out .now) (sym (ap (λ r. r .number) (c .before .before .before .before .before .before .before .fault .ensures)) ∙ c .before .before .before .before .before .if1 .left))
 
 pub respond-accepted-spec : {M : Type 1} → statement M

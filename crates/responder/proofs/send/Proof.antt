@@ -1,29 +1,18 @@
--- `responder::send` meets its contract: the plan gives the full response's bytes and length, and the cut part of the buffer is lent to the writers.
+-- `responder::send` meets its contract: the plan gives the bytes and the limit, and the part of the buffer up to it is lent to the writers.
 use mathlib.Core.Path.{_≡_, sym, ap, _∙_}
 use Prim.Native.Nat.{ℕ, _+_, min}
-use native.Mathlib.Omega.{arith}
 use lib.Seq.{length-take-le}
 use Rattle.responder.specs.Index.{currentFrom}
-use Rattle.responder.proofs.Full.{plan-low}
-use Rattle.responder.proofs.FromPlan.{send-short, send-sent}
+use Rattle.responder.proofs.Trusting.{send-short, send-sent}
 use borrow.Author.Needs.{needs}
 use Rattle.responder.proofs.send.Statement.{statement}
 use Rattle.responder.proofs.send.Tie as tie
 
-add-least : tie.Need-add-least
-add-least c = let a = c .before .before .before .before .before .args in omega (arith, plan-low (a .s .now) (a .rt) (a .sfn .0) (c .before .before .planned .result) (λ i. omega (arith, c .before .before .before .before .shared-slice-known .given i)) (c .before .before .before .before .before .pre) (c .before .before .planned .ensures))
-
 returns : tie.Need-returns
 returns c =
     let a = c .before .before .before .before .before .before .before .args in
-    send-short (a .s .now) (a .rt) (a .sfn .0) (a .a) (a .out .now) (c .before .before .before .before .planned .result) (λ i. omega (arith, c .before .before .before .before .before .before .shared-slice-known .given i)) (c .before .before .before .before .before .before .before .pre) (c .before .before .before .before .planned .ensures)
+    send-short (a .s .now) (a .rt) (a .sfn .0) (a .a) (a .out .now) (c .before .before .before .before .planned .result) (c .before .before .before .before .planned .ensures .0)
     (c .before .least2 .result) (c .before .least2 .ensures ∙ ap (λ (k : ℕ). min k (8 + c .before .before .before .before .planned .result .size)) (c .before .before .before .least .ensures)) (c .if1 .taken)
-
-add-new : tie.Need-add-new
-add-new c = let a = c .before .before .before .before .before .before .before .before .before .before .args in omega (arith, plan-low (a .s .now) (a .rt) (a .sfn .0) (c .before .before .before .before .before .before .before .planned .result) (λ i. omega (arith, c .before .before .before .before .before .before .before .before .before .shared-slice-known .given i)) (c .before .before .before .before .before .before .before .before .before .before .pre) (c .before .before .before .before .before .before .before .planned .ensures))
-
-cast-new : tie.Need-cast-new
-cast-new c = let a = c .before .before .before .before .before .before .before .before .before .before .args in omega (arith, plan-low (a .s .now) (a .rt) (a .sfn .0) (c .before .before .before .before .before .before .before .planned .result) (λ i. omega (arith, c .before .before .before .before .before .before .before .before .before .shared-slice-known .given i)) (c .before .before .before .before .before .before .before .before .before .before .pre) (c .before .before .before .before .before .before .before .planned .ensures))
 
 slice-aggregate-put-full : tie.Need-slice-aggregate-put-full
 slice-aggregate-put-full c = sym (length-take-le (c .before .before .before .before .before .before .least2 .result) (c .before .before .before .before .before .before .before .before .before .before .before .before .args .out .now) (c .before .before .before .before .before .if1 .left))
@@ -31,7 +20,7 @@ slice-aggregate-put-full c = sym (length-take-le (c .before .before .before .bef
 returns-2 : tie.Need-returns-2
 returns-2 c =
     let a = c .before .before .before .before .before .before .before .before .before .before .before .before .before .before .before .args in
-    send-sent (a .s .now) (a .rt) (a .sfn .0) (a .a) (a .out .now) (c .before .before .before .before .before .before .before .before .before .before .before .before .planned .result) (λ i. omega (arith, c .before .before .before .before .before .before .before .before .before .before .before .before .before .before .shared-slice-known .given i)) (c .before .before .before .before .before .before .before .before .before .before .before .before .before .before .before .pre) (c .before .before .before .before .before .before .before .before .before .before .before .before .planned .ensures)
+    send-sent (a .s .now) (a .rt) (a .sfn .0) (a .a) (a .out .now) (c .before .before .before .before .before .before .before .before .before .before .before .before .planned .result) (c .before .before .before .before .before .before .before .before .before .before .before .before .planned .ensures .0)
     (c .before .before .before .before .before .before .before .before .before .least2 .result) (c .before .before .before .before .before .before .before .before .before .least2 .ensures ∙ ap (λ (k : ℕ). min k (8 + c .before .before .before .before .before .before .before .before .before .before .before .before .planned .result .size)) (c .before .before .before .before .before .before .before .before .before .before .before .least .ensures))
     (c .before .before .before .before .new .result) (c .before .before .before .before .before .before .current-profile .result .0) (c .before .before .put-full .result) (c .before .before .put-full .last .0) (c .before .before .before .before .before .before .before .before .if1 .left)
     (c .before .before .before .before .before .before .current-profile .ensures ∙ ap (currentFrom (a .s .now) 0) (c .before .before .before .before .before .before .before .profile-count .ensures)) (c .before .before .before .before .new .ensures) (c .before .before .put-full .ensures)
@@ -39,4 +28,4 @@ returns-2 c =
 pub send-spec : {M : Type 1} → statement M
 send-spec =
     tie.close
-    (tie.spec (λ c κs. search needs) (λ c κs. search needs) add-least (λ c κs. search needs) returns (λ c κs. search needs) (λ c κs. search needs) add-new cast-new (λ c κs. search needs) (λ c. search needs) slice-aggregate-put-full (λ c κs. search needs) (λ c. search needs) returns-2)
+    (tie.spec (λ c κs. search needs) (λ c κs. search needs) (λ c. search needs) (λ c κs. search needs) returns (λ c κs. search needs) (λ c κs. search needs) (λ c. search needs) (λ c. search needs) (λ c κs. search needs) (λ c. search needs) slice-aggregate-put-full (λ c κs. search needs) (λ c. search needs) returns-2)

@@ -1,0 +1,16 @@
+use Rattle.abi.proofs.Laws.{leaves}
+use Rattle.abi.specs.Left.{benched}
+use mathlib.Core.Path.{ap}
+use denote.Ref.{now}
+use borrow.Author.Needs.{needs}
+use Rattle.abi.proofs.gcf_bench.Statement.{statement}
+use Rattle.abi.proofs.gcf_bench.Tie as tie
+
+returns : tie.Need-returns
+unfolding benched
+returns c = leaves (c .before .before .tell2 .ensures) (ap (λ x. benched x (now (c .before .before .before .before .before .before .before .before .before .before .before .before .before .before .before .before .before .before .before .before .before .args .numbers))) (c .before .before .before .before .before .before .before .before .before .before .before .before .bench .ensures))
+
+pub gcf-bench-spec : {M : Type 1} → statement M
+gcf-bench-spec =
+    tie.close
+    (tie.spec (λ c κs. search needs) (λ c. search needs) (λ c κs. search needs) (λ c. search needs) (λ c. search needs) (λ c. search needs) (λ c. search needs) returns)

@@ -1,0 +1,14 @@
+use Rattle.abi.proofs.Laws.{leaves, both}
+use Rattle.abi.specs.Left.{stepped}
+use denote.Ref.{now}
+use borrow.Author.Needs.{needs}
+use Rattle.abi.proofs.gcf_sweep_take.Statement.{statement}
+use Rattle.abi.proofs.gcf_sweep_take.Tie as tie
+
+returns : tie.Need-returns
+unfolding stepped
+returns c = leaves (c .before .before .tell-record .ensures) (both (λ x b. stepped x b (now (c .before .before .before .before .before .before .before .before .before .before .before .before .args .numbers))) (c .before .before .before .before .before .before .before .take .ensures .0) (c .before .before .before .before .before .before .before .take .ensures .1))
+
+pub gcf-sweep-take-spec : {M : Type 1} → statement M
+gcf-sweep-take-spec =
+    tie.close (tie.spec (λ c κs. search needs) (λ c κs. search needs) (λ c. search needs) (λ c. search needs) returns)

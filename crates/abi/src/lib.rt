@@ -1,0 +1,255 @@
+// The exported functions, for C and Rust (include/gcf.h): one for each operation, numbers and slices only. Each returns the paper's number, or
+// a count of bytes where nothing can be refused; further results go to the front of a lent array of numbers, as far as it has room.
+ghost use mathlib.Core.Path.{_≡_};
+ghost use mathlib.Core.List.{[], _∷_};
+ghost use Rattle.lent.specs.Wrote.{Wrote};
+ghost use Rattle.text.specs.Reading.{reading};
+ghost use Rattle.sheet.specs.Check.{verdict};
+ghost use Rattle.responder.specs.Answer.{answered};
+ghost use Rattle.responder.specs.Trusting.{trustingCommand};
+ghost use Rattle.reading.specs.Held.{heldOf};
+ghost use Rattle.listing.specs.Listing.{listing};
+ghost use Rattle.sweep.specs.Sweep.{most, started};
+ghost use Rattle.sweep.specs.Sweep as sweep;
+ghost use Rattle.bench.specs.Bench as bench;
+ghost use Rattle.checks.specs.Check.{checked};
+ghost use Rattle.checks.specs.Judge as checks;
+ghost use Rattle.abi.specs.Left.{left, none, replied, readingNumbers, read, recordNumbers, recordOf, stepped, benched, found, judged};
+use checks::Judgement;
+use sweep::Sweep;
+use text::Feature;
+use text::Profile;
+use text::Reading;
+
+// ---- further results
+
+// Puts a number into the lent array.
+fn tell(numbers: &mut [u64], at: usize, v: u64) -> usize
+    ensures { λ r. ⌜ Wrote (now (numbers .entry)) at (v ∷ []) r (now (numbers .exit)) ⌝ }
+{
+    if at < numbers.len() {
+        numbers[at] = v;
+        return at + 1;
+    }
+    at
+}
+
+// Puts two numbers.
+fn tell2(numbers: &mut [u64], first: u64, second: u64) -> usize
+    ensures { λ r. ⌜ Wrote (now (numbers .entry)) 0 (first ∷ second ∷ []) r (now (numbers .exit)) ⌝ }
+{
+    let a = tell(numbers, 0, first);
+    tell(numbers, a, second)
+}
+
+// Puts the five numbers of a reading.
+fn tell_reading(numbers: &mut [u64], reading: Reading) -> usize
+    ensures { λ r. ⌜ Wrote (now (numbers .entry)) 0 (readingNumbers reading) r (now (numbers .exit)) ⌝ }
+{
+    let profile = reading.profile;
+    let a = tell(numbers, 0, profile.0 as u64);
+    let b = tell(numbers, a, reading.data_length as u64);
+    let c = tell(numbers, b, reading.count as u64);
+    let d = tell(numbers, c, reading.end as u64);
+    tell(numbers, d, reading.complete as u64)
+}
+
+// Puts the six numbers of a sweep's record.
+fn tell_record(numbers: &mut [u64], w: Sweep) -> usize
+    ensures { λ r. ⌜ Wrote (now (numbers .entry)) 0 (recordNumbers w) r (now (numbers .exit)) ⌝ }
+{
+    let next = w.next;
+    let a = tell(numbers, 0, w.rt as u64);
+    let b = tell(numbers, a, w.allocation as u64);
+    let c = tell(numbers, b, next.0 as u64);
+    let d = tell(numbers, c, w.commands as u64);
+    let e = tell(numbers, d, w.collected as u64);
+    tell(numbers, e, w.ended as u64)
+}
+
+// ---- the box
+
+// The number of a sheet.
+#[no_mangle]
+pub extern "C" fn gcf_check_sheet(sheet: &[u8]) -> u8
+    ensures { λ r. ⌜ r ≡ verdict (now (sheet .entry)) .number ⌝ }
+{
+    let verdict = sheet::check(sheet);
+    verdict.number
+}
+
+// Answers a command from any sheet. Numbers: bytes sent.
+#[no_mangle]
+pub extern "C" fn gcf_respond(
+    sheet: &[u8],
+    command: &[u8],
+    response: &mut [u8],
+    numbers: &mut [u64],
+) -> u8
+    ensures { λ r. ⌜ left r (now (response .exit)) (now (numbers .exit))
+        ≡ replied (answered (now (sheet .entry)) (now (command .entry)) (now (response .entry))) (now (numbers .entry)) ⌝ }
+{
+    let reply = responder::respond(sheet, command, response);
+    let fault = reply.refusal;
+    tell(numbers, 0, reply.count as u64);
+    fault.number
+}
+
+// Answers a command with no check of the sheet: what a box calls that has checked it once. Numbers: bytes sent.
+#[no_mangle]
+pub extern "C" fn gcf_respond_accepted(
+    sheet: &[u8],
+    command: &[u8],
+    response: &mut [u8],
+    numbers: &mut [u64],
+) -> u8
+    ensures { λ r. ⌜ left r (now (response .exit)) (now (numbers .exit))
+        ≡ replied (trustingCommand (now (sheet .entry)) (now (command .entry)) (now (response .entry))) (now (numbers .entry)) ⌝ }
+{
+    let trusted = responder::respond_accepted(sheet, command, response);
+    let fault = trusted.refusal;
+    tell(numbers, 0, trusted.count as u64);
+    fault.number
+}
+
+// ---- the driver
+
+// Reads a response. Numbers: profile, Data Length, whole descriptors, the place behind the last, 1 if complete.
+#[no_mangle]
+pub extern "C" fn gcf_read(rt: u8, sfn: u16, response: &[u8], numbers: &mut [u64]) -> u8
+    ensures { λ r. ⌜ left r none (now (numbers .exit)) ≡ read (reading 65534 rt sfn (now (response .entry))) (now (numbers .entry)) ⌝ }
+{
+    let reading = reading::read(rt, Feature(sfn), response);
+    let fault = reading.refusal;
+    tell_reading(numbers, reading);
+    fault.number
+}
+
+// Copies a feature's descriptor out of the fresh response if whole there, else out of the kept one; none leaves the buffer as it is.
+#[no_mangle]
+pub extern "C" fn gcf_held<'a>(
+    feature: u16,
+    fresh: &'a [u8],
+    kept: &'a [u8],
+    descriptor: &mut [u8],
+) -> usize
+    ensures { λ r. ⌜ Wrote (now (descriptor .entry)) 0 (heldOf feature (now (fresh .entry)) (now (kept .entry))) r (now (descriptor .exit)) ⌝ }
+{
+    let part = reading::held(Feature(feature), fresh, kept);
+    lent::copy(descriptor, 0, part)
+}
+
+// Lists a response as text.
+#[no_mangle]
+pub extern "C" fn gcf_list(response: &[u8], text: &mut [u8]) -> usize
+    ensures { λ r. ⌜ Wrote (now (text .entry)) 0 (listing (now (response .entry))) r (now (text .exit)) ⌝ }
+{
+    listing::list(response, text)
+}
+
+// C: the most bytes that a response with this allocation length has.
+#[no_mangle]
+pub extern "C" fn gcf_most(allocation: u16) -> usize
+    ensures { λ r. ⌜ r ≡ most allocation ⌝ }
+{
+    sweep::most(allocation)
+}
+
+// Starts a sweep. Numbers: the record.
+#[no_mangle]
+pub extern "C" fn gcf_sweep_start(rt: u8, allocation: u16, numbers: &mut [u64]) -> u8
+    ensures { λ r. ⌜ left r none (now (numbers .exit)) ≡ stepped (started rt allocation) none (now (numbers .entry)) ⌝ }
+{
+    let step = Sweep::start(rt, allocation);
+    let fault = step.refusal;
+    tell_record(numbers, step.sweep);
+    fault.number
+}
+
+// Takes a response to the sweep's next command, with any record. Numbers: the record from then on.
+#[no_mangle]
+pub extern "C" fn gcf_sweep_take(
+    rt: u8,
+    allocation: u16,
+    next: u16,
+    commands: u32,
+    collected: usize,
+    ended: bool,
+    response: &[u8],
+    out: &mut [u8],
+    numbers: &mut [u64],
+) -> u8
+    ensures { λ r. ⌜ left r (now (out .exit)) (now (numbers .exit))
+        ≡ stepped (sweep.stepped (recordOf rt allocation next commands collected ended) (now (response .entry)) (now (out .entry)))
+        (sweep.collecting (recordOf rt allocation next commands collected ended) (now (response .entry)) (now (out .entry)))
+        (now (numbers .entry)) ⌝ }
+{
+    let record = Sweep {
+        rt: rt,
+        allocation: allocation,
+        next: Feature(next),
+        commands: commands,
+        collected: collected,
+        ended: ended,
+    };
+    let step = record.take(response, out);
+    let fault = step.refusal;
+    tell_record(numbers, step.sweep);
+    fault.number
+}
+
+// ---- the bench and the checks
+
+// A bench sweep of a sheet. Numbers: commands, bytes collected.
+#[no_mangle]
+pub extern "C" fn gcf_bench(
+    sheet: &[u8],
+    rt: u8,
+    allocation: u16,
+    response: &mut [u8],
+    collected: &mut [u8],
+    starts: &mut [u16],
+    numbers: &mut [u64],
+) -> u8
+    ensures { λ r. ⌜ left r (now (response .exit), now (collected .exit), now (starts .exit)) (now (numbers .exit))
+        ≡ benched (bench.benched (now (sheet .entry)) rt allocation (now (response .entry)) (now (collected .entry)) (now (starts .entry))) (now (numbers .entry)) ⌝ }
+{
+    let end = bench::bench(sheet, rt, allocation, response, collected, starts);
+    let fault = end.refusal;
+    tell2(numbers, end.commands as u64, end.collected as u64);
+    fault.number
+}
+
+// Checks the descriptors of a response. Numbers: the feature at fault.
+#[no_mangle]
+pub extern "C" fn gcf_check_descriptors(response: &[u8], numbers: &mut [u64]) -> u8
+    ensures { λ r. ⌜ left r none (now (numbers .exit)) ≡ found (checked (now (response .entry))) (now (numbers .entry)) ⌝ }
+{
+    let finding = checks::check_descriptors(response);
+    let fault = finding.refusal;
+    let feature = finding.feature;
+    tell(numbers, 0, feature.0 as u64);
+    fault.number
+}
+
+// Whether a response has what a profile requires. Numbers: 1 if a feature is missing, the lowest that is.
+#[no_mangle]
+pub extern "C" fn gcf_check_profile(profile: u16, response: &[u8], numbers: &mut [u64]) -> u8
+    ensures { λ r. ⌜ left r none (now (numbers .exit)) ≡ judged (checks.judged profile (now (response .entry))) (now (numbers .entry)) ⌝ }
+{
+    let judgement = checks::check_profile(Profile(profile), response);
+    match judgement {
+        Judgement::Conforms => {
+            tell2(numbers, 0, 0);
+            0
+        }
+        Judgement::Missing(f) => {
+            tell2(numbers, 1, f.0 as u64);
+            0
+        }
+        Judgement::Refused(fault) => {
+            tell2(numbers, 0, 0);
+            fault.number
+        }
+    }
+}

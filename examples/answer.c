@@ -1,0 +1,101 @@
+/*
+ * The box and the driver in one program: a command is answered from sheet E, the answer is read, and then the whole drive is swept with an allocation
+ * length of 20 bytes, as a driver with little memory would. tests/c-example builds and runs it.
+ */
+#include <inttypes.h>
+#include <stdio.h>
+
+#include "../include/gcf.h"
+
+/* The drive sheet of a recorder: counts, four contents entries, two profiles, two bodies. */
+static const uint8_t sheet[] = {
+    0x00, 0x04, 0x00, 0x02,
+    0x00, 0x01, 0x03, 0x04, 0x00, 0x00, 0x00, 0x2C,
+    0x00, 0x03, 0x03, 0x04, 0x00, 0x00, 0x00, 0x30,
+    0x00, 0x1F, 0x01, 0x00, 0x00, 0x00, 0x00, 0x34,
+    0x01, 0x05, 0x03, 0x00, 0x00, 0x00, 0x00, 0x34,
+    0x00, 0x12, 0x01, 0x00,
+    0x00, 0x10, 0x00, 0x00,
+    0x00, 0x00, 0x00, 0x02,
+    0x29, 0x00, 0x00, 0x00,
+};
+
+static void print(const char *what, const uint8_t *bytes, size_t count)
+{
+    printf("%s:", what);
+    for (size_t i = 0; i < count; i++) {
+        printf(" %02X", bytes[i]);
+    }
+    printf("\n");
+}
+
+static int refused(const char *what, uint8_t number)
+{
+    printf("%s: refused %u\n", what, number);
+    return 1;
+}
+
+/* A transport would carry the command to the box and its answer back; here the box is a call away. Gives the number and the bytes sent. */
+static uint8_t ask(uint8_t rt, uint16_t sfn, uint16_t allocation, uint8_t *response, size_t room, size_t *sent)
+{
+    const uint8_t command[GCF_COMMAND_BYTES] = {
+        0x46, rt, (uint8_t)(sfn >> 8), (uint8_t)sfn, 0, 0, 0, (uint8_t)(allocation >> 8), (uint8_t)allocation, 0,
+    };
+    uint64_t numbers[1];
+    uint8_t number = gcf_respond_accepted(sheet, sizeof sheet, command, sizeof command, response, room, numbers, 1);
+
+    *sent = (size_t)numbers[0];
+    return number;
+}
+
+static int answer_and_read(void)
+{
+    uint8_t response[64];
+    uint64_t numbers[5];
+    size_t sent;
+    uint8_t number = ask(0, 0, 44, response, sizeof response, &sent);
+
+    if (number != GCF_ACCEPTED) {
+        return refused("command", number);
+    }
+    print("response", response, sent);
+    number = gcf_read(0, 0, response, sent, numbers, 5);
+    if (number != GCF_ACCEPTED) {
+        return refused("reading", number);
+    }
+    printf("profile %04" PRIX64 ", Data Length %" PRIu64 ", %" PRIu64 " whole descriptors, the last ends at %" PRIu64 ", %s\n",
+           numbers[0], numbers[1], numbers[2], numbers[3], numbers[4] ? "complete" : "cut");
+    return 0;
+}
+
+static int sweep_all(void)
+{
+    uint8_t response[20];
+    uint8_t collected[64];
+    struct gcf_sweep sweep;
+    size_t sent;
+    uint8_t number = gcf_sweep_begin(&sweep, 0, sizeof response);
+
+    while (number == GCF_ACCEPTED && !sweep.ended) {
+        printf("from %04X\n", sweep.next);
+        number = ask(sweep.rt, sweep.next, sweep.allocation, response, sizeof response, &sent);
+        if (number == GCF_ACCEPTED) {
+            number = gcf_sweep_on(&sweep, response, sent, collected, sizeof collected);
+        }
+    }
+    if (number != GCF_ACCEPTED) {
+        return refused("sweep", number);
+    }
+    print("collected", collected, sweep.collected);
+    return 0;
+}
+
+int main(void)
+{
+    uint8_t number = gcf_check_sheet(sheet, sizeof sheet);
+
+    if (number != GCF_ACCEPTED) {
+        return refused("sheet", number);
+    }
+    return answer_and_read() || sweep_all();
+}

@@ -1,0 +1,212 @@
+/*
+ * GET CONFIGURATION: the box that answers from a drive sheet, and the driver that reads, sweeps and checks the answers.
+ * Link target/staticlib/libabi.a (rt staticlib abi). docs/MANUAL.md has every number and a worked example.
+ *
+ * Every function takes any bytes and any numbers: nothing that is handed in makes it misbehave or run on. It keeps nothing, allocates nothing,
+ * calls nothing but memcpy and memset, and may be called from several threads at once.
+ *
+ * Of the caller is asked only what C cannot say:
+ *   - a pointer and the count behind it name that many elements; the pointer is not null and is aligned for its type, also where the count is 0;
+ *   - what is written (a pointer without const) overlaps nothing else that is handed in.
+ *
+ * A uint8_t result is the paper's number: 0 is accepted, anything else a refusal (GCF_...). Further results go to the front of the array `numbers`,
+ * in the order given here, also where something is refused; an array that is too short gets the first of them, and what is behind them in a longer
+ * one stays as it was.
+ */
+#ifndef GCF_H
+#define GCF_H
+
+#include <stdbool.h>
+#include <stddef.h>
+#include <stdint.h>
+
+#ifdef __cplusplus
+extern "C" {
+#endif
+
+/* The numbers that are given, in the paper's order. */
+enum gcf_number {
+    GCF_ACCEPTED = 0,
+    /* drive sheet */
+    GCF_SHEET_SHORT = 1,
+    GCF_PROFILES_MANY = 2,
+    GCF_PROFILE_BAD = 3,
+    GCF_ORDER_BAD = 4,
+    GCF_FLAGS_BAD = 5,
+    GCF_LENGTH_BAD = 6,
+    GCF_OFFSET_BAD = 7,
+    GCF_SHEET_LONG = 8,
+    /* command */
+    GCF_COMMAND_LENGTH = 9,
+    GCF_OPCODE_OTHER = 10,
+    GCF_RT_RESERVED = 11,
+    GCF_BUFFER_SHORT = 12,
+    /* reading */
+    GCF_READING_RT_BAD = 13,
+    GCF_RECEIVED_BAD = 14,
+    GCF_STATED_BAD = 15,
+    GCF_RECEIVED_MORE = 16,
+    GCF_ADDITIONAL_BAD = 17,
+    GCF_FEATURE_BAD = 18,
+    GCF_NOT_CURRENT = 19,
+    GCF_ENDS_BEYOND = 20,
+    /* sweep */
+    GCF_SWEEP_RT_BAD = 21,
+    GCF_ALLOCATION_SHORT = 22,
+    GCF_NONE_WHOLE = 23,
+    GCF_COLLECTED_FULL = 24,
+    GCF_STARTS_FULL = 25,
+    GCF_SWEEP_ENDED = 26,
+    GCF_CUT_AT_LAST = 27,
+    GCF_CUT_SHORT = 28,
+    /* checks */
+    GCF_RESPONSE_CUT = 29,
+    GCF_CORE_MISSING = 30,
+    GCF_BODY_LENGTH_BAD = 31,
+    GCF_FLAGS_NOT_BOTH = 32,
+    GCF_FLAGS_RESERVED = 33,
+    GCF_PERSISTENT_ALONE = 34,
+    GCF_PERSISTENT_BARRED = 35,
+    GCF_BITS_RESERVED = 36,
+    GCF_CUE_LENGTH = 37,
+    GCF_PROFILE_ZERO = 39,
+    GCF_NO_TABLE = 40
+};
+
+/* Sizes that are always enough. */
+#define GCF_COMMAND_BYTES 10
+#define GCF_HEADER_BYTES 8
+#define GCF_DESCRIPTOR_MOST 256  /* one descriptor */
+#define GCF_RESPONSE_MOST 65534  /* one response */
+#define GCF_LISTING_MOST 245736  /* the listing of any bytes */
+#define GCF_SHEET_MOST 17039356  /* the longest drive sheet */
+
+/* ---- the box */
+
+/* The check of a drive sheet: 0 to 8. */
+uint8_t gcf_check_sheet(const uint8_t *sheet, size_t sheet_bytes);
+
+/*
+ * Answers a command from any sheet: the sheet's numbers, then 9 to 12. Accepted: the bytes sent stand at the front of the response buffer, and only
+ * they changed. Refused: nothing changed.
+ * numbers: bytes sent.
+ */
+uint8_t gcf_respond(const uint8_t *sheet, size_t sheet_bytes,
+                    const uint8_t *command, size_t command_bytes,
+                    uint8_t *response, size_t response_bytes,
+                    uint64_t *numbers, size_t numbers_count);
+
+/*
+ * The same for a sheet that gcf_check_sheet has accepted and that has not changed since: 9 to 12, and no time spent on the sheet's check. Its cost
+ * follows the bytes sent, not the size of the sheet. (With any other sheet it still keeps to its buffers; what it sends then means nothing.)
+ * numbers: bytes sent.
+ */
+uint8_t gcf_respond_accepted(const uint8_t *sheet, size_t sheet_bytes,
+                             const uint8_t *command, size_t command_bytes,
+                             uint8_t *response, size_t response_bytes,
+                             uint64_t *numbers, size_t numbers_count);
+
+/* ---- the driver */
+
+/*
+ * Reads a response to Requested Type rt from feature sfn on: 13 to 20.
+ * numbers: Current Profile, Data Length, whole descriptors, the place behind the last of them, 1 if complete or 0 if cut. Refused: all 0.
+ */
+uint8_t gcf_read(uint8_t rt, uint16_t sfn,
+                 const uint8_t *response, size_t response_bytes,
+                 uint64_t *numbers, size_t numbers_count);
+
+/*
+ * Copies a feature's descriptor out of the fresh response if it is whole there, else out of the kept one, both responses to RT 0 from 0. Gives the
+ * count of bytes written: 0 where neither holds it. GCF_DESCRIPTOR_MOST bytes are always enough; a shorter buffer gets the first bytes.
+ */
+size_t gcf_held(uint16_t feature,
+                const uint8_t *fresh, size_t fresh_bytes,
+                const uint8_t *kept, size_t kept_bytes,
+                uint8_t *descriptor, size_t descriptor_bytes);
+
+/* The listing of a response to RT 0 from 0 as text, without a zero byte behind it. Gives the count of bytes written. */
+size_t gcf_list(const uint8_t *response, size_t response_bytes, uint8_t *text, size_t text_bytes);
+
+/* The most bytes that a response has with this allocation length: the smaller of it and 65,534. */
+size_t gcf_most(uint16_t allocation);
+
+/* Starts a sweep: 21, 22. numbers: the record, in the order of struct gcf_sweep; refused: a record that has ended, all else 0. */
+uint8_t gcf_sweep_start(uint8_t rt, uint16_t allocation, uint64_t *numbers, size_t numbers_count);
+
+/*
+ * Takes the response to the sweep's next command, with any record: 21, 22, 26, the reading's, 28, 23, 27, 24. Accepted: the whole descriptors stand
+ * behind those collected, and nothing else of the collecting buffer changed. Refused: nothing changed but, on 23, the mark that it has ended.
+ * numbers: the record from then on, in the order of struct gcf_sweep.
+ */
+uint8_t gcf_sweep_take(uint8_t rt, uint16_t allocation, uint16_t next, uint32_t commands, size_t collected, bool ended,
+                       const uint8_t *response, size_t response_bytes,
+                       uint8_t *collecting, size_t collecting_bytes,
+                       uint64_t *numbers, size_t numbers_count);
+
+/* A sweep's record, and the two calls above on it. */
+struct gcf_sweep {
+    uint8_t rt;
+    uint16_t allocation;
+    uint16_t next;      /* the Starting Feature Number to ask for */
+    uint32_t commands;  /* responses accepted so far */
+    size_t collected;   /* bytes collected so far */
+    bool ended;
+};
+
+static inline void gcf_sweep_put(struct gcf_sweep *sweep, const uint64_t numbers[6])
+{
+    sweep->rt = (uint8_t)numbers[0];
+    sweep->allocation = (uint16_t)numbers[1];
+    sweep->next = (uint16_t)numbers[2];
+    sweep->commands = (uint32_t)numbers[3];
+    sweep->collected = (size_t)numbers[4];
+    sweep->ended = numbers[5] != 0;
+}
+
+static inline uint8_t gcf_sweep_begin(struct gcf_sweep *sweep, uint8_t rt, uint16_t allocation)
+{
+    uint64_t numbers[6];
+    uint8_t number = gcf_sweep_start(rt, allocation, numbers, 6);
+    gcf_sweep_put(sweep, numbers);
+    return number;
+}
+
+static inline uint8_t gcf_sweep_on(struct gcf_sweep *sweep,
+                                   const uint8_t *response, size_t response_bytes,
+                                   uint8_t *collecting, size_t collecting_bytes)
+{
+    uint64_t numbers[6];
+    uint8_t number = gcf_sweep_take(sweep->rt, sweep->allocation, sweep->next, sweep->commands, sweep->collected, sweep->ended,
+                                    response, response_bytes, collecting, collecting_bytes, numbers, 6);
+    gcf_sweep_put(sweep, numbers);
+    return number;
+}
+
+/* ---- the bench and the checks */
+
+/*
+ * Sweeps a sheet from end to end: the sheet's numbers, 21, 22, 12, then each round's. Accepted: the descriptors collected, the starts asked for, and
+ * the last response with zeros behind it. Refused: all three buffers are zero throughout.
+ * numbers: commands (starts written), bytes collected. Refused: 0, 0.
+ */
+uint8_t gcf_bench(const uint8_t *sheet, size_t sheet_bytes, uint8_t rt, uint16_t allocation,
+                  uint8_t *response, size_t response_bytes,
+                  uint8_t *collected, size_t collected_bytes,
+                  uint16_t *starts, size_t starts_count,
+                  uint64_t *numbers, size_t numbers_count);
+
+/* Checks the descriptors of a response to RT 0 from 0: the reading's numbers, 29, then 30 to 39. numbers: the feature at fault. */
+uint8_t gcf_check_descriptors(const uint8_t *response, size_t response_bytes, uint64_t *numbers, size_t numbers_count);
+
+/*
+ * Whether a response to RT 0 from 0 has what a profile requires: the reading's numbers, 29, 40.
+ * numbers: 1 if a feature is missing or 0, and the lowest that is. Refused: 0, 0.
+ */
+uint8_t gcf_check_profile(uint16_t profile, const uint8_t *response, size_t response_bytes, uint64_t *numbers, size_t numbers_count);
+
+#ifdef __cplusplus
+}
+#endif
+
+#endif

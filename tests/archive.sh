@@ -1,0 +1,74 @@
+# What the tests that link the archive share; they source it from the repository's root.
+#
+# The archive is for x86-64. On another processor there are two ways to use it:
+#   cross  Debian's cross compilers and the emulator of rt's kit: the archive itself, slowly
+#   own    the same LLVM code, compiled for this processor by the kit's compiler: not the archive, but times mean something
+# On x86-64 both are the archive itself. After `archive_for cross` or `archive_for own`: ARCHIVE, CC (an array) and rust_to, run_it below are set for it.
+
+archive_machine=$(uname -m)
+archive_kit=${RATTLE_HOME:-$(dirname "$(dirname "$(readlink -f "$(command -v rt)")")")}
+archive_tools=$archive_kit/on/$archive_machine/toolchain
+
+# Debian's packages for `cross`; nothing is asked of the network where they are there
+archive_cross_tools() {
+    if command -v x86_64-linux-gnu-gcc >/dev/null && [ -f /usr/x86_64-linux-gnu/lib/libc.a ] && [ -d /usr/lib/rustlib/x86_64-unknown-linux-gnu ]; then
+        return 0
+    fi
+    [ "$(id -u)" = 0 ] || return 1
+    {
+        dpkg --add-architecture amd64 && apt-get update &&
+            DEBIAN_FRONTEND=noninteractive apt-get install -y --no-install-recommends \
+                gcc-x86-64-linux-gnu libc6-dev-amd64-cross rustc libstd-rust-dev:amd64
+    } >target/cross.log 2>&1
+}
+
+# A kit like the one that is there, but for a compiler that also keeps the code it is handed; rt over it, and that code compiled for this processor.
+archive_own() {
+    local kit=$PWD/target/own/kit here=$PWD/target/own part
+    rm -rf "$kit" && mkdir -p "$kit/on/$archive_machine/toolchain/bin" || return 1
+    for part in "$archive_kit"/*; do [ "${part##*/}" = on ] || ln -s "$part" "$kit/" || return 1; done
+    for part in "$archive_kit/on/$archive_machine"/*; do [ "${part##*/}" = toolchain ] || ln -s "$part" "$kit/on/$archive_machine/" || return 1; done
+    for part in "$archive_tools"/*; do [ "${part##*/}" = bin ] || ln -s "$part" "$kit/on/$archive_machine/toolchain/" || return 1; done
+    for part in "$archive_tools"/bin/*; do [ "${part##*/}" = clang ] || ln -s "$part" "$kit/on/$archive_machine/toolchain/bin/" || return 1; done
+    cat >"$kit/on/$archive_machine/toolchain/bin/clang" <<END
+#!/bin/sh
+for word in "\$@"; do case \$word in *.bc) cp "\$word" "$here/abi.bc" ;; esac; done
+exec "$archive_tools/bin/clang" "\$@"
+END
+    chmod +x "$kit/on/$archive_machine/toolchain/bin/clang"
+    RATTLE_HOME=$kit rt staticlib abi >"$here/log" 2>&1 || return 1
+    "$archive_tools/bin/clang" --target="$archive_machine-unknown-linux-gnu" --no-default-config -O3 -fPIC -ffunction-sections -fdata-sections \
+        -Wno-override-module -c -x ir "$here/abi.bc" -o "$here/abi.o" >>"$here/log" 2>&1 || return 1
+    rm -f "$here/libabi.a"
+    "$archive_tools/bin/llvm-ar" crs "$here/libabi.a" "$here/abi.o"
+}
+
+archive_for() { # cross | own
+    mkdir -p target
+    if [ "$archive_machine" = x86_64 ] || [ "$1" = cross ]; then
+        rt staticlib abi >target/archive.log 2>&1 || return 1
+        ARCHIVE=$PWD/target/staticlib/libabi.a
+    else
+        archive_own || return 1
+        ARCHIVE=$PWD/target/own/libabi.a
+    fi
+    CC=(gcc)
+    archive_run=()
+    archive_rust=(rustc)
+    if [ "$archive_machine" != x86_64 ] && [ "$1" = cross ]; then
+        archive_cross_tools || return 1
+        CC=(x86_64-linux-gnu-gcc -static)
+        archive_run=("$archive_tools/bin/qemu-x86_64")
+        archive_rust=(/usr/bin/rustc --target x86_64-unknown-linux-gnu -C linker=x86_64-linux-gnu-gcc -C target-feature=+crt-static)
+    fi
+}
+
+# runs a program that was built so
+run_it() { # FILE [WORD..]
+    "${archive_run[@]}" "$@"
+}
+
+# rustc for it
+rust_to() { # WORD..
+    "${archive_rust[@]}" "$@"
+}
