@@ -3,7 +3,7 @@
 # The archive is for x86-64. On another processor there are two ways to use it:
 #   cross  Debian's cross compilers and the emulator of rt's kit: the archive itself, slowly
 #   own    the same LLVM code, compiled for this processor by the kit's compiler: not the archive, but times mean something
-# On x86-64 both are the archive itself. After `archive_for cross` or `archive_for own`: ARCHIVE, CC (an array) and rust_to, run_it below are set for it.
+# On x86-64 both are the archive itself. After `archive_for cross` or `archive_for own` the rest of this file builds and runs for it.
 
 archive_machine=$(uname -m)
 archive_kit=${RATTLE_HOME:-$(dirname "$(dirname "$(readlink -f "$(command -v rt)")")")}
@@ -11,7 +11,7 @@ archive_tools=$archive_kit/on/$archive_machine/toolchain
 
 # Debian's packages for `cross`; nothing is asked of the network where they are there
 archive_cross_tools() {
-    if command -v x86_64-linux-gnu-gcc >/dev/null && [ -f /usr/x86_64-linux-gnu/lib/libc.a ] && [ -d /usr/lib/rustlib/x86_64-unknown-linux-gnu ]; then
+    if command -v x86_64-linux-gnu-gcc >/dev/null && [ -f /usr/x86_64-linux-gnu/include/stdio.h ] && [ -d /usr/lib/rustlib/x86_64-unknown-linux-gnu ]; then
         return 0
     fi
     [ "$(id -u)" = 0 ] || return 1
@@ -57,9 +57,12 @@ archive_for() { # cross | own
     archive_rust=(rustc)
     if [ "$archive_machine" != x86_64 ] && [ "$1" = cross ]; then
         archive_cross_tools || return 1
-        CC=(x86_64-linux-gnu-gcc -static)
-        archive_run=("$archive_tools/bin/qemu-x86_64")
-        archive_rust=(/usr/bin/rustc --target x86_64-unknown-linux-gnu -C linker=x86_64-linux-gnu-gcc -C target-feature=+crt-static)
+        CC=(x86_64-linux-gnu-gcc)
+        archive_run=("$archive_tools/bin/qemu-x86_64" "$archive_tools/lib/ld-linux-x86-64.so.2" --library-path "$archive_tools/lib")
+        # a Rust program asks for its stack's bounds when it starts, which the emulator cannot tell; it does without where the call fails
+        echo 'int pthread_getattr_np(void) { return 38; }' >target/start.c
+        x86_64-linux-gnu-gcc -O2 -c target/start.c -o target/start.o || return 1
+        archive_rust=(/usr/bin/rustc --target x86_64-unknown-linux-gnu -C linker=x86_64-linux-gnu-gcc -C "link-arg=$PWD/target/start.o")
     fi
 }
 
@@ -68,7 +71,18 @@ run_it() { # FILE [WORD..]
     "${archive_run[@]}" "$@"
 }
 
-# rustc for it
-rust_to() { # WORD..
-    "${archive_rust[@]}" "$@"
+# Builds a program of second/against, which calls the archive and the second program: target/against/NAME.
+build_against() { # NAME
+    local out=$PWD/target/against
+    mkdir -p "$out" || return 1
+    archive_rust_to "$out" second rlib second/src/lib.rs &&
+        archive_rust_to "$out" against rlib second/against/src/lib.rs --extern "second=$out/libsecond.rlib" -l static=abi &&
+        archive_rust_to "$out" "$1" bin "second/against/src/bin/$1.rs" --extern "second=$out/libsecond.rlib" --extern "against=$out/libagainst.rlib"
+}
+
+archive_rust_to() { # FOLDER NAME KIND FILE [WORD..]
+    local out=$1 name=$2 kind=$3 file=$4
+    shift 4
+    "${archive_rust[@]}" --edition 2021 -C opt-level=3 --out-dir "$out" -L "dependency=$out" -L "native=${ARCHIVE%/*}" \
+        --crate-name "$name" --crate-type "$kind" "$file" "$@"
 }

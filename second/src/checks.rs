@@ -141,8 +141,9 @@ fn check_descriptor(descriptor: Descriptor, removable: bool) -> u8 {
     if persistent && !current {
         return FINDING_PERSISTENT;
     }
-    let Some(legal) = LEGAL.iter().find(|legal| legal.feature == descriptor.feature) else {
-        return ACCEPTED;
+    let legal = match LEGAL.iter().find(|legal| legal.feature == descriptor.feature) {
+        Some(legal) => legal,
+        None => return ACCEPTED,
     };
     if !length_is_legal(legal, descriptor.body) {
         return FINDING_LENGTH;
@@ -171,7 +172,7 @@ fn length_is_legal(legal: &Legal, body: &[u8]) -> bool {
         Length::Any => true,
         Length::Exactly(length) => body.len() == length,
         // Without byte 7 there is no number of link sizes; with it, the pad is what fills 4 bytes.
-        Length::LinkSizes => body.len() >= 4 && body.len() == 4 + link_sizes(body).next_multiple_of(4),
+        Length::LinkSizes => body.len() >= 4 && body.len() == 4 + (link_sizes(body) + 3) / 4 * 4,
     }
 }
 
@@ -211,12 +212,13 @@ pub fn check_profile(profile: Profile, response: &[u8]) -> ProfileAnswer {
         Ok(reading) => reading,
         Err(number) => return ProfileAnswer::Refused(number),
     };
-    let Some(required) = REQUIRED.iter().find(|required| required.profile == profile) else {
-        return ProfileAnswer::NoTable;
+    let required = match REQUIRED.iter().find(|required| required.profile == profile) {
+        Some(required) => required,
+        None => return ProfileAnswer::NoTable,
     };
     let walk = whole(response, &reading);
     for &feature in required.features {
-        if !reported(walk.clone(), Feature(feature)).is_some_and(counts) {
+        if !reported(walk.clone(), Feature(feature)).map_or(false, counts) {
             return ProfileAnswer::Missing(Feature(feature));
         }
     }

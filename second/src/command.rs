@@ -119,9 +119,7 @@ fn wanted_entries(sheet: Sheet, rt: u8, sfn: Feature) -> Range<usize> {
 /// Sends the first bytes of the response whose full length is given; gives their count.
 pub fn send(sheet: Sheet, request: Request, full: usize, out: &mut [u8]) -> Result<usize, u8> {
     let count = most_bytes(request.allocation).min(full);
-    let Some(room) = out.get_mut(..count) else {
-        return Err(BUFFER_SHORT);
-    };
+    let room = out.get_mut(..count).ok_or(BUFFER_SHORT)?;
     let mut writer = Writer { room };
     writer.put(&header(full, sheet.current_profile().0));
     if request.sfn == Feature(0) {

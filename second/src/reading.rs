@@ -47,7 +47,7 @@ pub(crate) fn read_and_last(
         return Err(DATA_LENGTH);
     }
     let full = u64::from(data_length) + 4;
-    let over_limit = limit.is_some_and(|limit| received.len() > limit);
+    let over_limit = limit.map_or(false, |limit| received.len() > limit);
     if received.len() as u64 > full || over_limit {
         return Err(RECEIVED_TOO_MUCH);
     }
@@ -93,7 +93,7 @@ fn check_header(rt: u8, sfn: Feature, before: Option<Feature>, header: Descripto
     if header.length % 4 != 0 {
         return Err(ADDITIONAL_LENGTH);
     }
-    let not_above = before.is_some_and(|before| header.feature <= before);
+    let not_above = before.map_or(false, |before| header.feature <= before);
     let another = rt == 2 && header.feature != sfn;
     if header.feature < sfn || not_above || another {
         return Err(RESPONSE_ORDER);

@@ -42,10 +42,10 @@ impl Record {
             Err(number) => return (number, self),
         };
         let behind = buffer.get_mut(self.collected..);
-        let Some(room) = behind.and_then(|behind| behind.get_mut(..descriptors.len())) else {
-            return (COLLECTED_FULL, self);
-        };
-        room.copy_from_slice(descriptors);
+        match behind.and_then(|behind| behind.get_mut(..descriptors.len())) {
+            Some(room) => room.copy_from_slice(descriptors),
+            None => return (COLLECTED_FULL, self),
+        }
         (ACCEPTED, after.with_collected(descriptors.len()))
     }
 

@@ -83,10 +83,6 @@ pub all-append : {A : Type 0} (P : A → Type 0) (xs ys : List A) → All P xs �
 all-append P [] ys a b = b
 all-append P (x ∷ xs) ys a b = (a .0, all-append P xs ys (a .1) b)
 
-pub all-left : {A : Type 0} (P : A → Type 0) (xs ys : List A) → All P (xs ++ ys) → All P xs
-all-left P [] ys a = tt
-all-left P (x ∷ xs) ys a = (a .0, all-left P xs ys (a .1))
-
 pub all-right : {A : Type 0} (P : A → Type 0) (xs ys : List A) → All P (xs ++ ys) → All P ys
 all-right P [] ys a = a
 all-right P (x ∷ xs) ys a = all-right P xs ys (a .1)
@@ -169,9 +165,6 @@ keep-both t u r h xs = keep-keep t u xs ∙ keep-same (λ x. u x && t x) r xs (a
 
 pub keep-comm : {A : Type 0} (t u : A → Bool) (xs : List A) → keep t (keep u xs) ≡ keep u (keep t xs)
 keep-comm t u xs = keep-both t u (λ x. t x && u x) (λ x. and-comm (t x) (u x)) xs ∙ sym (keep-keep u t xs)
-
-pub keep-twice : {A : Type 0} (t : A → Bool) (xs : List A) → keep t (keep t xs) ≡ keep t xs
-keep-twice t xs = keep-every t (keep t xs) (keep-holds t xs)
 
 -- ---- the front of a list
 

@@ -17,7 +17,8 @@ use Rattle.text.specs.Drive.{Desc, Drive, Sound}
 use Rattle.text.specs.Response.{bytes, feature0, wants, selected}
 use Rattle.text.specs.Packing.{total, groups, joined}
 use Rattle.text.proofs.First.{if-true, if-false, if-zero, orElse-zero}
-use Rattle.text.proofs.Selection.{le-or-lt, selected-asc, selected-zero}
+use Rattle.base.proofs.Compare.{le-or-lt}
+use Rattle.text.proofs.Selection.{selected-asc, selected-zero}
 use Rattle.text.proofs.Sizes.{selected-count}
 use Rattle.text.proofs.Packing.{length-flat-bytes, groups-fit, packing}
 use Rattle.sheet.specs.Check.{verdict, Accepted}

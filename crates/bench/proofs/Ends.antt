@@ -17,7 +17,7 @@ use Rattle.text.specs.Drive.{Desc, Drive, Sound}
 use Rattle.text.specs.Response.{bytes, selected, sent}
 use Rattle.text.specs.Reading.{lastNumber}
 use Rattle.text.specs.Packing.{size, whole, joined}
-use Rattle.text.proofs.Selection.{le-or-lt}
+use Rattle.base.proofs.Compare.{le-or-lt}
 use Rattle.text.proofs.Sent.{length-sent}
 use Rattle.text.proofs.Packing.{whole-rest, rest-fits, whole-every, whole-fits, whole-none, groups-last, groups-some, flat-parts}
 use Rattle.text.proofs.Next.{selected-next}

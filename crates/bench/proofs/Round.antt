@@ -16,7 +16,7 @@ use Rattle.text.specs.Response.{bytes, selected, full, sent}
 use Rattle.text.specs.Reading.{Walked, lastNumber}
 use Rattle.text.specs.Packing.{whole, rest, groups}
 use Rattle.text.proofs.First.{if-true, if-false}
-use Rattle.text.proofs.Selection.{le-or-lt}
+use Rattle.base.proofs.Compare.{le-or-lt}
 use Rattle.text.proofs.Sent.{length-sent}
 use Rattle.text.proofs.Own.{walked-sent, readFault-sent, complete-sent, complete-none, cut-some}
 use Rattle.text.proofs.Next.{next-low}

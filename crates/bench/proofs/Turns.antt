@@ -74,12 +74,6 @@ run-enough j (suc n) m came w h k = rw suc-add (go (w .sweep .ended) refl (run-e
 abbrev pub onwards : (m : Drive) (came w : State) → Outcome
 onwards m came w = run (65537 - w .sweep .commands) m came w
 
--- where it starts
-pub onwards-start : (m : Drive) (rt a : ℕ) (response collected starts : List ℕ)
-    → runFrom m (opened rt a response collected starts) ≡ onwards m (opened rt a response collected starts) (opened rt a response collected starts)
-unfolding opened fresh
-onwards-start m rt a response collected starts = refl
-
 module _ (m : Drive) (came w : State) where
   abbrev n : ℕ
   n = 65536 - w .sweep .commands

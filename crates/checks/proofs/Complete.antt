@@ -12,7 +12,7 @@ use lib.ListN.{length}
 use Rattle.text.specs.Drive.{Desc}
 use Rattle.text.specs.Reading.{Walked, statedLength, statedEnd, headerRule, numberAt, flagsAt, lengthAt, descAt, headFault, walk, walked, readFault}
 use Rattle.text.proofs.First.{if-zero, orElse-zero}
-use Rattle.text.proofs.Selection.{le-or-lt}
+use Rattle.base.proofs.Compare.{le-or-lt}
 use Rattle.text.proofs.Walk.{walk-few, walk-bad, walk-step, HeadFine, headRule-zero, wholes-accepted}
 use Rattle.checks.specs.Pick.{pick}
 use Rattle.checks.specs.Input.{inputFault, descs}

@@ -5,6 +5,7 @@ pub mod Calls
 pub mod Complete
 pub mod Findings
 pub mod Input
+pub mod Rows
 pub mod Judgements
 pub mod Faultless
 pub mod Lowest

@@ -93,6 +93,9 @@ const LEGAL: [Row; 11] = [
     },
 ];
 
+// The highest feature that the table names: most features of a drive are above it and need no look at the table.
+const LAST_LISTED: u16 = 0x002F;
+
 // A feature that the table does not name.
 const OTHER: Row = Row {
     feature: Feature(0xFFFF),
@@ -113,6 +116,9 @@ fn row_at(i: usize) -> Row
 pub fn row_of(f: Feature) -> Row
     ensures { λ r. ⌜ r ≡ rowOf (f .0) ⌝ }
 {
+    if LAST_LISTED < f.0 {
+        return OTHER;
+    }
     let mut i = 0;
     while i < LEGAL.len() {
         let row = row_at(i);

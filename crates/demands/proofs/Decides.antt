@@ -1,11 +1,15 @@
 -- Each public function's own contract, as the toolchain generates it, asks nothing and decides the whole outcome: every returned field, and
--- every byte of lent memory. One line a function. Assumes nothing.
+-- every byte of lent memory. One line a function; four of the theorems stand in the function's own crate, where an edit that weakens the contract is refused by them. Assumes nothing.
 use mathlib.Core.Path.{_≡_, refl, ap}
 use mathlib.Core.List.{List}
 use Prim.Native.Nat.{ℕ}
 use denote.Ref.{now}
 use Rattle.base.proofs.Decided.{Decided, DecidedAs, decides, joined, _&_}
 use Rattle.lent.proofs.Laws.{same}
+use Rattle.lent.proofs.Decides as lent-decides
+use Rattle.text.proofs.Decides as text-decides
+use Rattle.sheet.proofs.Decides as sheet-decides
+use Rattle.reading.proofs.Decides as reading-decides
 use Rattle.responder.specs.Answer.{Outcome}
 use Rattle.fields.proofs.byte as byte
 use Rattle.fields.proofs.get2 as get2
@@ -97,7 +101,7 @@ pub copy-decided : Decided copy.ended (λ M. copy.clauses) (λ M. copy.spec)
 copy-decided x = decides (x .𝓤) (λ o o′ p q. (same p q .0, same p q .1 & refl))
 
 pub note-decided : Decided note.ended (λ M. note.clauses) (λ M. note.spec)
-note-decided x = decides (x .𝓤) (λ o o′ p q. (same p q .0, same p q .1 & refl))
+note-decided = lent-decides.note-decided
 
 pub clear-decided : Decided clear.ended (λ M. clear.clauses) (λ M. clear.spec)
 clear-decided x = decides (x .𝓤) (λ o o′ p q. (refl, joined p q & refl))
@@ -114,7 +118,7 @@ pub command-read-decided : Decided command-read.ended (λ M. command-read.clause
 command-read-decided x = decides (x .𝓤) (λ o o′ p q. (joined p q, refl))
 
 pub header-new-decided : Decided header-new.ended (λ M. header-new.clauses) (λ M. header-new.spec)
-header-new-decided x = decides (x .𝓤) (λ o o′ p q. (joined p q, refl))
+header-new-decided = text-decides.new-decided
 
 -- ---- layout
 
@@ -157,7 +161,7 @@ pub end-before-decided : Decided end-before.ended (λ M. end-before.clauses) (λ
 end-before-decided x = decides (x .𝓤) (λ o o′ p q. (joined p q, refl))
 
 pub check-decided : Decided check.ended (λ M. check.clauses) (λ M. check.spec)
-check-decided x = decides (x .𝓤) (λ o o′ p q. (joined p q, refl))
+check-decided = sheet-decides.check-decided
 
 -- ---- responder
 
@@ -176,7 +180,7 @@ pub scan-decided : Decided scan.ended (λ M. scan.clauses) (λ M. scan.spec)
 scan-decided x = decides (x .𝓤) (λ o o′ p q. (joined p q, refl))
 
 pub read-decided : Decided read.ended (λ M. read.clauses) (λ M. read.spec)
-read-decided x = decides (x .𝓤) (λ o o′ p q. (joined p q, refl))
+read-decided = reading-decides.read-decided
 
 pub held-decided : DecidedAs held.ended (λ M. held.clauses) (λ M. held.spec) (λ κs r. now r)
 held-decided x = decides (x .𝓤) (λ o o′ p q. (joined p q, refl))

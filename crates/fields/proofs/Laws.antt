@@ -27,6 +27,14 @@ pub field-one : (s : List ℕ) (at : ℕ) → field 1 s at ≡ getD s at 0
 unfolding field
 field-one s at = rw add-zero (omega arith)
 
+-- the last byte of a field, and a field whose last byte lies behind the end
+pub field-last : (w : ℕ) (s : List ℕ) (at : ℕ) → field (suc w) s at ≡ field w s at * 256 + getD s (at + w) 0
+unfolding field
+field-last w s at = refl
+
+pub field-short : (w : ℕ) (s : List ℕ) (at : ℕ) → length s ≤ at + w → field (suc w) s at ≡ field w s at * 256
+field-short w s at h = omega (arith, field-last w s at, List·getD-eq-default s 0 h)
+
 -- a field in two parts: what reads a wider field from narrower ones
 pub field-split : (v w : ℕ) (s : List ℕ) (at : ℕ) → field (v + w) s at ≡ field v s at * 256 ^ w + field w s (at + v)
 unfolding field

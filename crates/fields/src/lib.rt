@@ -1,6 +1,7 @@
 // Big-endian fields of a slice, read. A byte behind the end reads as 0, so every read is total.
 ghost use mathlib.Core.Path.{_≡_};
-ghost use lib.ListN.{getD, take, drop};
+ghost use Prim.Native.Nat.{_-_, _<_};
+ghost use lib.ListN.{length, getD, take, drop};
 ghost use Rattle.fields.specs.Field.{field};
 
 // The byte at an index.
@@ -13,34 +14,58 @@ pub fn byte(s: &[u8], at: usize) -> u8
     0
 }
 
-// The two bytes at an index.
-pub fn get2(s: &[u8], at: usize) -> u16
-    ensures { λ r. ⌜ r ≡ field 2 (now (s .entry)) at ⌝ }
+// The byte at an index that the slice has.
+fn inside(s: &[u8], at: usize) -> u8
+    requires { ⌜ at < length (now s) ⌝ }
+    ensures { λ r. ⌜ r ≡ getD (now (s .entry)) at 0 ⌝ }
+{
+    s[at]
+}
+
+// How many bytes there are from an index on.
+fn left(s: &[u8], at: usize) -> usize
+    ensures { λ r. ⌜ r ≡ length (now (s .entry)) - at ⌝ }
 {
     if s.len() <= at {
         return 0;
     }
-    byte(s, at) as u16 * 256 + byte(s, at + 1) as u16
+    s.len() - at
+}
+
+// The two bytes at an index.
+pub fn get2(s: &[u8], at: usize) -> u16
+    ensures { λ r. ⌜ r ≡ field 2 (now (s .entry)) at ⌝ }
+{
+    if 2 <= left(s, at) {
+        return inside(s, at) as u16 * 256 + inside(s, at + 1) as u16;
+    }
+    // the last byte lies behind the end, and so in the wider fields
+    byte(s, at) as u16 * 256
 }
 
 // The three bytes at an index.
 pub fn get3(s: &[u8], at: usize) -> u32
     ensures { λ r. ⌜ r ≡ field 3 (now (s .entry)) at ⌝ }
 {
-    if s.len() <= at {
-        return 0;
+    if 3 <= left(s, at) {
+        return inside(s, at) as u32 * 65536
+            + inside(s, at + 1) as u32 * 256
+            + inside(s, at + 2) as u32;
     }
-    get2(s, at) as u32 * 256 + byte(s, at + 2) as u32
+    get2(s, at) as u32 * 256
 }
 
 // The four bytes at an index.
 pub fn get4(s: &[u8], at: usize) -> u32
     ensures { λ r. ⌜ r ≡ field 4 (now (s .entry)) at ⌝ }
 {
-    if s.len() <= at {
-        return 0;
+    if 4 <= left(s, at) {
+        return inside(s, at) as u32 * 16777216
+            + inside(s, at + 1) as u32 * 65536
+            + inside(s, at + 2) as u32 * 256
+            + inside(s, at + 3) as u32;
     }
-    get2(s, at) as u32 * 65536 + get2(s, at + 2) as u32
+    get3(s, at) * 256
 }
 
 // The part of count bytes from an index on, as far as the slice has them.

@@ -1,3 +1,4 @@
 -- Laws that this crate's proofs and those above it cite.
 pub mod Sets
 pub mod Laws
+pub mod Decides

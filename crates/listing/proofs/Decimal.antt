@@ -7,7 +7,7 @@ use native.Mathlib.Nat.{pow-suc}
 use native.Mathlib.Omega.{arith}
 use lib.ListN.{length, getD, length-append}
 use borrow.Author.Tests.{lt-ltb, le-ltb}
-use Rattle.text.proofs.Selection.{le-or-lt}
+use Rattle.base.proofs.Compare.{le-or-lt}
 use Rattle.listing.specs.Digits.{digit, decimalOf, decimal}
 
 -- ---- a digit

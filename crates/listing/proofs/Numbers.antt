@@ -9,7 +9,7 @@ use lib.ListN.{length}
 use Rattle.text.specs.declared.Refusal.{Refusal}
 use Rattle.text.specs.First.{refuse, _if_else_, pickZero, _orElse_}
 use Rattle.text.specs.Reading.{statedLength, statedEnd, headerRule, headRule, numberAt, lengthAt, headFault, walk, walked, readFault}
-use Rattle.text.proofs.Selection.{le-or-lt}
+use Rattle.base.proofs.Compare.{le-or-lt}
 use Rattle.text.proofs.Walk.{walk-few, walk-bad, walk-short, walk-step}
 
 if-most : (k : ℕ) (b : Bool) (y : Refusal) → k ≤ 20 → y .number ≤ 20 → (refuse k if b else y) .number ≤ 20

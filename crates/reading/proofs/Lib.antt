@@ -3,3 +3,4 @@ pub mod Tally
 pub mod Outcome
 pub mod Rest
 pub mod Fresh
+pub mod Decides

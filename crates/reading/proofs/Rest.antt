@@ -37,10 +37,6 @@ keep-once f lo (d ∷ ds) a = go (isOf f d) refl (keep-once f (1 + d .number) ds
         rw (keep-yes (isOf f) d ds e, keep-above f (1 + d .number) ds (omega arith) (a .1)) (omega arith)
     go false e h = rw (keep-no (isOf f) d ds e) h
 
--- a response has at most one descriptor of a feature
-pub wholes-once : (f limit rt sfn : ℕ) (s : List ℕ) → length (keep (isOf f) (wholes limit rt sfn s)) ≤ 1
-wholes-once f limit rt sfn s = keep-once f sfn (wholes limit rt sfn s) (wholes-asc limit rt sfn s)
-
 -- what is left of the search at a place: descriptors that stand from there to end
 pub record Rest (f : ℕ) (s : List ℕ) (at end : ℕ) : Type 0 where
   pub all-bytes : Bytes s

@@ -13,7 +13,8 @@ use Rattle.base.proofs.Lists.{each-snoc, flat-append, keep-append, keep-range}
 use Rattle.text.specs.Flags as text
 use Rattle.text.specs.Drive.{Desc}
 use Rattle.text.specs.Response.{bytes, wants}
-use Rattle.text.proofs.Selection.{wants-below, le-or-lt}
+use Rattle.base.proofs.Compare.{le-or-lt}
+use Rattle.text.proofs.Selection.{wants-below}
 use Rattle.layout.specs.Layout.{featureCount, number, flags}
 use Rattle.sheet.specs.Facts.{Facts}
 use Rattle.sheet.specs.Meaning.{desc, meaning}

@@ -1,7 +1,7 @@
 // The box: a sheet, a command and a lent buffer in; the refusal or the count of bytes sent out.
 ghost use mathlib.Core.Path.{_≡_};
 ghost use mathlib.Core.List.{_++_};
-ghost use Prim.Native.Nat.{_+_, _-_, _*_, _≤_, _<_, min};
+ghost use Prim.Native.Nat.{_+_, _-_, _*_, _%_, _^_, _≤_, _<_, min};
 ghost use Rattle.lent.specs.Wrote.{Wrote};
 ghost use Rattle.text.specs.Response.{header};
 ghost use Rattle.layout.specs.Layout.{profileCount};
@@ -272,6 +272,13 @@ fn least(a: usize, b: usize) -> usize
     b
 }
 
+// Data Length with so many bytes behind the header. It has four bytes; what an accepted sheet gives always fits.
+fn data_length(size: usize) -> u32
+    ensures { λ r. ⌜ r ≡ (size + 4) % 2 ^ 32 ⌝ }
+{
+    ((size % 0x1_0000_0000 + 4) % 0x1_0000_0000) as u32
+}
+
 // Answers a request with no check of the sheet: from an accepted one, what `respond` answers.
 pub fn send(s: &[u8], rt: u8, sfn: Feature, a: u16, out: &mut [u8]) -> Reply
     ensures { λ r. ⌜ outcome r (now (out .exit)) ≡ trusting (now (s .entry)) rt (sfn .0) a (now (out .entry)) ⌝ }
@@ -288,8 +295,7 @@ pub fn send(s: &[u8], rt: u8, sfn: Feature, a: u16, out: &mut [u8]) -> Reply
         };
     }
     let profile = current_profile(s, layout::profile_count(s));
-    // Data Length has four bytes; what an accepted sheet gives always fits.
-    let header = Header::new(((plan.size + 4) % 0x1_0000_0000) as u32, profile);
+    let header = Header::new(data_length(plan.size), profile);
     let count = put_full(&mut out[..limit], s, rt, sfn.0, plan.from, plan.to, header);
     Reply {
         refusal: text::ACCEPTED,

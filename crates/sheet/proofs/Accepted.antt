@@ -21,10 +21,6 @@ pub featureCount-lt : (s : List ℕ) → Bytes s → featureCount s < 65536
 unfolding featureCount
 featureCount-lt s b = field-lt 2 s 0 b
 
-pub profileCount-lt : (s : List ℕ) → Bytes s → profileCount s < 65536
-unfolding profileCount
-profileCount-lt s b = field-lt 2 s 2 b
-
 pub number-lt : (s : List ℕ) (i : ℕ) → Bytes s → number s i < 65536
 unfolding number
 number-lt s i b = field-lt 2 s (4 + 8 * i) b

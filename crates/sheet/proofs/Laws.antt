@@ -1,12 +1,13 @@
--- The fields before an entry, where there is one. Assumes nothing.
-use mathlib.Core.Path.{_≡_, refl, ap}
+-- The fields before an entry, and the rule at them. Assumes nothing.
+use mathlib.Core.Path.{_≡_, refl, ap, _∙_}
 use mathlib.Core.List.{List}
 use Prim.Native.Nat.{ℕ, zero, suc, _+_, _-_, _≤_}
 use native.Mathlib.Omega.{arith}
 use lib.ListN.{length}
+use Rattle.text.specs.declared.Refusal.{Refusal}
 use Rattle.text.proofs.First.{tests}
-use Rattle.layout.specs.Layout.{featureCount, profileCount, bodiesAt, number, offset, bodyLength}
-use Rattle.sheet.specs.Check.{numberBefore, endBefore, counted, verdict}
+use Rattle.layout.specs.Layout.{featureCount, profileCount, bodiesAt, number, flags, offset, bodyLength}
+use Rattle.sheet.specs.Check.{numberBefore, endBefore, entryRule, entryFault, counted, verdict}
 
 pub number-before : (s : List ℕ) (i : ℕ) → (i ≡ 0 → ⊥) → numberBefore s i ≡ number s (i - 1)
 unfolding numberBefore
@@ -22,3 +23,9 @@ end-before s (suc i) h = ap (λ (k : ℕ). offset s k + bodyLength s k) (omega a
 pub verdict-counted : (s : List ℕ) → 4 ≤ length s → bodiesAt s ≤ length s → verdict s ≡ counted s (featureCount s) (profileCount s)
 unfolding verdict
 verdict-counted s h k = search tests
+
+-- the rule at what was carried along from the entry before is the rule at the entry
+pub carried : (s : List ℕ) (i before end : ℕ) (r : Refusal) → before ≡ numberBefore s i → end ≡ endBefore s i
+    → r ≡ entryRule (number s i) before (flags s i) (bodyLength s i) (offset s i) end → r ≡ entryFault s i
+unfolding entryFault
+carried s i before end r p q h = h ∙ (λ j. entryRule (number s i) (p j) (flags s i) (bodyLength s i) (offset s i) (q j))

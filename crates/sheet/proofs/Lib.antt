@@ -6,3 +6,4 @@ pub mod Pieces
 pub mod Fine
 pub mod Longest
 pub mod Build
+pub mod Decides

@@ -1,5 +1,6 @@
 // The check of a drive sheet.
 ghost use mathlib.Core.Path.{_≡_};
+ghost use Rattle.layout.specs.Layout.{number, flags, bodyLength, offset};
 ghost use Rattle.text.specs.First.{firstOf};
 ghost use Rattle.sheet.specs.Check.{profileRule, sameProfile, profileFault, numberBefore, endBefore, flagsRule, entryRule, entryFault, counted, verdict};
 use text::Refusal;
@@ -142,12 +143,11 @@ pub fn end_before(s: &[u8], i: u16) -> usize
     layout::offset_at(s, i - 1) as usize + layout::length_at(s, i - 1) as usize
 }
 
-fn entry_fault(s: &[u8], i: u16) -> Refusal
-    ensures { λ r. ⌜ r ≡ entryFault (now (s .entry)) i ⌝ }
+// The refusal of entry i, behind an entry with this number and a body that ends here.
+fn entry_fault(s: &[u8], i: u16, before: u16, end: usize) -> Refusal
+    ensures { λ r. ⌜ r ≡ entryRule (number (now (s .entry)) i) before (flags (now (s .entry)) i) (bodyLength (now (s .entry)) i) (offset (now (s .entry)) i) end ⌝ }
 {
     let feature = layout::feature_at(s, i);
-    let before = number_before(s, i);
-    let end = end_before(s, i);
     entry_rule(
         feature.0,
         before,
@@ -158,17 +158,21 @@ fn entry_fault(s: &[u8], i: u16) -> Refusal
     )
 }
 
-// The first refusal of the first n entries.
+// The first refusal of the first n entries. What an entry leaves for the next one is carried along, so that no field is looked up twice.
 fn entries_fault(s: &[u8], n: u16) -> Refusal
     ensures { λ r. ⌜ r ≡ firstOf (entryFault (now (s .entry))) 0 n ⌝ }
 {
     let mut i: u16 = 0;
+    let mut before: u16 = 0;
+    let mut end = layout::bodies_at(s);
     while i < n {
-        let fault = entry_fault(s, i);
+        let fault = entry_fault(s, i, before, end);
         if fault.number != 0 {
             return fault;
         }
         i += 1;
+        before = number_before(s, i);
+        end = end_before(s, i);
     }
     text::ACCEPTED
 }

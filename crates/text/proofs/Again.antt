@@ -15,7 +15,8 @@ use Rattle.text.specs.First.{accept}
 use Rattle.text.specs.Drive.{Desc, Good, Asc}
 use Rattle.text.specs.Response.{bytes}
 use Rattle.text.specs.Reading.{Walked, stop, onward, statedLength, statedEnd, numberAt, flagsAt, lengthAt, descAt, headFault, walk, walked, readFault, wholes}
-use Rattle.text.proofs.Selection.{le-or-lt, asc-down}
+use Rattle.base.proofs.Compare.{le-or-lt}
+use Rattle.text.proofs.Selection.{asc-down}
 use Rattle.text.proofs.Sizes.{length-bytes}
 use Rattle.text.proofs.Walk.{walk-none, walk-few, walk-bad, walk-short, walk-step, walk-end, walk-induct, HeaderFine, HeadFine, headRule-zero, readFault-header, readFault-walk, readFault-accept, wholes-accepted, wholes-refused}
 

@@ -10,3 +10,4 @@ pub mod Own
 pub mod Again
 pub mod Next
 pub mod Received
+pub mod Decides

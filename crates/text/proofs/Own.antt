@@ -18,7 +18,8 @@ use Rattle.text.specs.Drive.{Desc, Drive, Good, Asc, Sound}
 use Rattle.text.specs.Response.{bytes, wants, selected, currentProfile, header, dataLength, full, sent}
 use Rattle.text.specs.Reading.{Walked, statedLength, statedProfile, statedEnd, lengthAt, headFault, walk, walked, readFault, taken, unless, reading, wholes}
 use Rattle.text.specs.Packing.{size, total, whole, rest}
-use Rattle.text.proofs.Selection.{le-or-lt, asc-down, wants-current, selected-wanted, selected-asc, selected-good}
+use Rattle.base.proofs.Compare.{le-or-lt}
+use Rattle.text.proofs.Selection.{asc-down, wants-current, selected-wanted, selected-asc, selected-good}
 use Rattle.text.proofs.Sizes.{length-bytes, length-header, length-full, dataLength-four}
 use Rattle.text.proofs.Sent.{length-sent, sent-field, sent-profile}
 use Rattle.text.proofs.Packing.{length-flat-bytes, whole-fit, whole-cut, rest-none, rest-some}

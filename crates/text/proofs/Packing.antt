@@ -7,11 +7,11 @@ use native.Mathlib.Omega.{arith}
 use lib.ListN.{length, length-append}
 use borrow.Author.Tests.{le-leb, lt-leb}
 use Rattle.base.specs.Lists.{flat, All}
-use Rattle.base.proofs.Lists.{all-append, all-left, all-right}
+use Rattle.base.proofs.Lists.{all-append, all-right}
 use Rattle.text.specs.Drive.{Desc}
 use Rattle.text.specs.Response.{bytes}
 use Rattle.text.specs.Packing.{size, total, whole, rest, groups, joined, cuts}
-use Rattle.text.proofs.Selection.{le-or-lt}
+use Rattle.base.proofs.Compare.{le-or-lt}
 use Rattle.text.proofs.Sizes.{length-bytes}
 
 -- ---- sizes
@@ -65,17 +65,8 @@ pub whole-total : (room : ℕ) (ds : List Desc) → total (whole room ds) ≤ ro
 unfolding total
 whole-total = whole-induct (λ room ds ws rs. total ws ≤ room) (λ room. omega arith) (λ room d ds ws rs h e. omega arith) (λ room d ds h. omega arith)
 
--- no longer front fits
-pub whole-longest : (room : ℕ) (xs ys : List Desc) → total xs ≤ room → length xs ≤ length (whole room (xs ++ ys))
-unfolding total
-whole-longest room [] ys h = omega arith
-whole-longest room (d ∷ xs) ys h = rw (whole-fit room d (xs ++ ys) (omega arith)) (omega (arith, whole-longest (room - size d) xs ys (omega arith)))
-
 pub total-parts : (room : ℕ) (ds : List Desc) → total ds ≡ total (whole room ds) + total (rest room ds)
 total-parts room ds = ap total (sym (whole-rest room ds)) ∙ total-append (whole room ds) (rest room ds)
-
-pub whole-all : (P : Desc → Type 0) (room : ℕ) (ds : List Desc) → All P ds → All P (whole room ds)
-whole-all P room ds a = all-left P (whole room ds) (rest room ds) (rw (whole-rest room ds) a)
 
 pub rest-all : (P : Desc → Type 0) (room : ℕ) (ds : List Desc) → All P ds → All P (rest room ds)
 rest-all P room ds a = all-right P (whole room ds) (rest room ds) (rw (whole-rest room ds) a)

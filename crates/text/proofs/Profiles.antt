@@ -66,11 +66,6 @@ unfolding currentProfile
 current-none [] a = refl
 current-none (p ∷ ps) a = current-off p ps (a .0) ∙ current-none ps (a .1)
 
--- the first one that is on
-pub current-first : (xs : List Listed) (p : Listed) (ys : List Listed) → Off xs → p .on ≡ true → currentProfile (xs ++ p ∷ ys) ≡ p .number
-current-first [] p ys a e = current-on p ys e
-current-first (x ∷ xs) p ys a e = current-off x (xs ++ p ∷ ys) (a .0) ∙ current-first xs p ys (a .1) e
-
 -- profiles with a first one that is on
 pub record FirstOn (ps : List Listed) : Type 0 where
   pub before : List Listed

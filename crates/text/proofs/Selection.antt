@@ -1,13 +1,14 @@
 -- The descriptors that a request selects. Assumes nothing.
-use mathlib.Core.Path.{_≡_, refl, sym, ap, ap₂, _∙_}
-use mathlib.Core.Logic.{_⊎_, inl, inr, ⊎-elim}
+use mathlib.Core.Path.{_≡_, refl, sym, ap, _∙_}
+use mathlib.Core.Logic.{_⊎_, ⊎-elim}
 use mathlib.Core.Bool.{Bool, true, false, _&&_, and-eq-true-iff, and-self, and-false}
 use mathlib.Core.List.{List, [], _∷_, _++_}
 use Prim.Native.Nat.{ℕ, zero, suc, _+_, _-_, _≤_, _<_, max}
 use native.Mathlib.Omega.{arith}
-use lib.Dec.{leb, ltb, eqb}
-use lib.ListN.{length, take, drop, getD, take-append-drop, drop-of-length-le}
-use borrow.Author.Tests.{leb-true, leb-false, le-leb, lt-leb, lt-ltb, le-ltb, eqb-true, eq-eqb, ne-eqb}
+use lib.Dec.{leb, eqb}
+use lib.ListN.{length}
+use borrow.Author.Tests.{leb-true, le-leb, lt-leb, eqb-true, ne-eqb}
+use Rattle.base.proofs.Compare.{le-or-lt}
 use Rattle.base.specs.Lists.{keep, All}
 use Rattle.base.proofs.Lists.{all-map, keep-yes, keep-no, keep-induct, keep-append, keep-all, keep-holds, keep-none, keep-every, keep-both, keep-comm}
 use Rattle.text.specs.Flags.{current}
@@ -98,14 +99,6 @@ selected-good {m} s rt sfn = keep-all (wants rt sfn) Good (all m) (all-good s)
 abbrev pub isCurrent : Desc → Bool
 isCurrent d = eqb (current (d .flags)) 1
 
--- the two answers of a comparison, each with its fact
-pub le-or-lt : (a b : ℕ) → (a ≤ b) ⊎ (b < a)
-le-or-lt a b = go (leb a b) refl
-  where
-    go : (t : Bool) → leb a b ≡ t → (a ≤ b) ⊎ (b < a)
-    go true e = inl (leb-true a b e)
-    go false e = inr (leb-false a b e)
-
 leb-max : (s t n : ℕ) → leb (max s t) n ≡ (leb s n && leb t n)
 leb-max s t n = ⊎-elim
     (λ (a : s ≤ n). ⊎-elim
@@ -165,9 +158,6 @@ pub from-all : (s : ℕ) (ds : List Desc) → From s ds → keep (wants 0 s) ds 
 unfolding wants
 from-all s ds f = keep-every (wants 0 s) ds (all-map (λ (d : Desc). s ≤ d .number) (λ (d : Desc). wants 0 s d ≡ true) (λ d. le-leb s (d .number)) ds f)
 
-pub current-all : (s : ℕ) (ds : List Desc) → From s ds → keep (wants 1 s) ds ≡ keep isCurrent ds
-current-all s ds f = sym (current-of-from s ds) ∙ ap (keep isCurrent) (from-all s ds f)
-
 one-above : (rt s lo : ℕ) (ds : List Desc) → s < lo → Asc lo ds → keep (wants (suc (suc rt)) s) ds ≡ []
 unfolding wants
 one-above rt s lo ds h a =
@@ -181,21 +171,6 @@ select-split rt s xs ys b = keep-append (wants rt s) xs ys ∙ ap (λ (r : List 
 -- RT 0: the rest; RT 1: the current ones of the rest
 pub from-split : (s : ℕ) (xs ys : List Desc) → Below s xs → From s ys → keep (wants 0 s) (xs ++ ys) ≡ ys
 from-split s xs ys b f = select-split 0 s xs ys b ∙ from-all s ys f
-
-pub current-split : (s : ℕ) (xs ys : List Desc) → Below s xs → From s ys → keep (wants 1 s) (xs ++ ys) ≡ keep isCurrent ys
-current-split s xs ys b f = select-split 1 s xs ys b ∙ current-all s ys f
-
--- RT 2: the first of the rest if its number is the start, else none
-pub one-split : (rt s : ℕ) (xs : List Desc) (d : Desc) (ys : List Desc) → Below s xs → d .number ≡ s → Asc (1 + d .number) ys
-    → keep (wants (suc (suc rt)) s) (xs ++ d ∷ ys) ≡ d ∷ []
-unfolding wants
-one-split rt s xs d ys b e a =
-    select-split (suc (suc rt)) s xs (d ∷ ys) b
-    ∙ keep-yes (wants (suc (suc rt)) s) d ys (eq-eqb (d .number) s e)
-    ∙ ap (λ (r : List Desc). d ∷ r) (one-above rt s (1 + d .number) ys (omega arith) a)
-
-pub none-split : (rt s lo : ℕ) (xs ys : List Desc) → Below s xs → s < lo → Asc lo ys → keep (wants (suc (suc rt)) s) (xs ++ ys) ≡ []
-none-split rt s lo xs ys b h a = select-split (suc (suc rt)) s xs ys b ∙ one-above rt s lo ys h a
 
 -- RT 2 selects at most one
 pub one-most : (rt s lo : ℕ) (ds : List Desc) → Asc lo ds → length (keep (wants (suc (suc rt)) s) ds) ≤ 1
@@ -211,64 +186,7 @@ one-most rt s lo ds a =
 
 -- ---- a list that ascends, by index
 
-pub asc-at : (z : Desc) (lo : ℕ) (ds : List Desc) (i : ℕ) → Asc lo ds → i < length ds → lo ≤ getD ds i z .number
-asc-at z lo [] i a h = absurd (omega arith)
-asc-at z lo (d ∷ ds) zero a h = a .0
-asc-at z lo (d ∷ ds) (suc i) a h = omega (arith, a .0, asc-at z (1 + d .number) ds i (a .1) (omega arith))
-
-pub asc-drop : (z : Desc) (lo : ℕ) (ds : List Desc) (i : ℕ) → Asc lo ds → i < length ds → Asc (getD ds i z .number) (drop i ds)
-asc-drop z lo [] i a h = absurd (omega arith)
-asc-drop z lo (d ∷ ds) zero a h = (omega arith, a .1)
-asc-drop z lo (d ∷ ds) (suc i) a h = asc-drop z (1 + d .number) ds i (a .1) (omega arith)
-
--- with a number below s all before it are; with one that is s or more all behind it are
-pub asc-before : (z : Desc) (lo s : ℕ) (ds : List Desc) (i : ℕ) → Asc lo ds → i < length ds → getD ds i z .number < s → Below s (take (suc i) ds)
-asc-before z lo s [] i a h l = tt
-asc-before z lo s (d ∷ ds) zero a h l = (l, tt)
-asc-before z lo s (d ∷ ds) (suc i) a h l =
-    (omega (arith, asc-at z (1 + d .number) ds i (a .1) (omega arith)), asc-before z (1 + d .number) s ds i (a .1) (omega arith) l)
-
-pub asc-behind : (z : Desc) (lo s : ℕ) (ds : List Desc) (i : ℕ) → Asc lo ds → i < length ds → s ≤ getD ds i z .number → From s (drop i ds)
-asc-behind z lo s ds i a h l = asc-above s (drop i ds) (asc-down s (getD ds i z .number) (drop i ds) l (asc-drop z lo ds i a h))
-
--- an index found by bisection: below s at the one before it, s or more at it
-pub bisect-below : (z : Desc) (lo s : ℕ) (ds : List Desc) (i : ℕ) → Asc lo ds → i ≤ length ds → (0 < i → getD ds (i - 1) z .number < s) → Below s (take i ds)
-bisect-below z lo s ds zero a h l = tt
-bisect-below z lo s ds (suc i) a h l =
-    let e : suc i - 1 ≡ i = omega arith in
-    asc-before z lo s ds i a (omega arith) (rw e at (l (omega arith)))
-
-pub bisect-from : (z : Desc) (lo s : ℕ) (ds : List Desc) (i : ℕ) → Asc lo ds → (i < length ds → s ≤ getD ds i z .number) → From s (drop i ds)
-bisect-from z lo s ds i a l = ⊎-elim
-    (λ (h : length ds ≤ i). rw (drop-of-length-le ds h) tt)
-    (λ (h : i < length ds). asc-behind z lo s ds i a h (l h))
-    (le-or-lt (length ds) i)
-
-pub select-index : (rt s : ℕ) (ds : List Desc) (i : ℕ) → Below s (take i ds) → keep (wants rt s) ds ≡ keep (wants rt s) (drop i ds)
-select-index rt s ds i b = ap (keep (wants rt s)) (sym (take-append-drop i ds)) ∙ select-split rt s (take i ds) (drop i ds) b
-
-pub from-index : (s : ℕ) (ds : List Desc) (i : ℕ) → Below s (take i ds) → From s (drop i ds) → keep (wants 0 s) ds ≡ drop i ds
-from-index s ds i b f = select-index 0 s ds i b ∙ from-all s (drop i ds) f
-
 -- ---- those below a start and those from it
-
-abbrev pub isBelow : ℕ → Desc → Bool
-isBelow s d = ltb (d .number) s
-
--- one after the other they are all of a list that ascends
-pub below-from : (lo s : ℕ) (ds : List Desc) → Asc lo ds → keep (isBelow s) ds ++ keep (wants 0 s) ds ≡ ds
-unfolding keep
-below-from lo s [] a = refl
-below-from lo s (d ∷ ds) a = ⊎-elim
-    (λ (h : s ≤ d .number).
-    let f : From s (d ∷ ds) = asc-above s (d ∷ ds) (h, a .1) in
-    ap₂ (λ (x y : List Desc). x ++ y)
-    (keep-none (isBelow s) (d ∷ ds) (all-map (λ (d : Desc). s ≤ d .number) (λ (d : Desc). isBelow s d ≡ false) (λ d l. le-ltb (d .number) s l) (d ∷ ds) f))
-    (from-all s (d ∷ ds) f))
-    (λ (h : d .number < s).
-    ap₂ (λ (x y : List Desc). x ++ y) (keep-yes (isBelow s) d ds (lt-ltb (d .number) s h)) (keep-no (wants 0 s) d ds (wants-below 0 s d h))
-    ∙ ap (λ (r : List Desc). d ∷ r) (below-from (1 + d .number) s ds (a .1)))
-    (le-or-lt s (d .number))
 
 -- ---- feature 0
 
@@ -281,10 +199,6 @@ selected-zero rt m = keep-yes (wants rt 0) (feature0 (m .profiles)) (m .features
 pub selected-above : (rt sfn : ℕ) (m : Drive) → 0 < sfn → selected rt sfn m ≡ keep (wants rt sfn) (m .features)
 unfolding selected all feature0
 selected-above rt sfn m h = keep-no (wants rt sfn) (feature0 (m .profiles)) (m .features) (wants-below rt sfn (feature0 (m .profiles)) h)
-
--- RT 2 from 0 selects it alone
-pub selected-one-zero : {m : Drive} → Sound m → (rt : ℕ) → selected (suc (suc rt)) 0 m ≡ feature0 (m .profiles) ∷ []
-selected-one-zero {m} s rt = selected-zero (suc (suc rt)) m ∙ ap (λ (r : List Desc). feature0 (m .profiles) ∷ r) (one-above rt 0 1 (m .features) (omega arith) (s .ascending))
 
 pub selected-one-most : {m : Drive} → Sound m → (rt sfn : ℕ) → length (selected (suc (suc rt)) sfn m) ≤ 1
 unfolding selected

@@ -19,7 +19,7 @@ use Rattle.text.specs.Drive.{Desc}
 use Rattle.text.specs.Response.{bytes}
 use Rattle.text.specs.Reading.{statedLength, headerRule, headRule, numberAt, flagsAt, lengthAt, descAt, headFault, Walked, stop, onward, walk, walked, readFault, wholes}
 use Rattle.text.proofs.First.{if-zero, orElse-none, orElse-zero}
-use Rattle.text.proofs.Selection.{le-or-lt}
+use Rattle.base.proofs.Compare.{le-or-lt}
 
 module _ (k rt sfn end : ℕ) (s : List ℕ) (lo at : ℕ) where
   -- fewer than four bytes are left

@@ -1,6 +1,4 @@
 -- `reading::read` meets its contract: the reading of a scan.
-use mathlib.Core.Path.{ap}
-use Rattle.reading.specs.declared.Scanned.{Scanned}
 use Rattle.reading.specs.Scan.{scanned}
 use borrow.Author.Needs.{needs}
 use Rattle.reading.proofs.read.Statement.{statement}
@@ -8,7 +6,7 @@ use Rattle.reading.proofs.read.Tie as tie
 
 returns : tie.Need-returns
 unfolding scanned
-returns c = ap (λ (x : Scanned). x .reading) (c .before .scan .ensures)
+returns c = cc (c .before .scan .ensures)
 
 pub read-spec : {M : Type 1} → statement M
 read-spec = tie.close (tie.spec (λ c κs. search needs) returns)

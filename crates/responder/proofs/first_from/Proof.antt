@@ -1,8 +1,6 @@
 -- `responder::first_from` meets its contract: the loop carries what is left of the search.
 use borrow.Author.Needs.{needs}
-use mathlib.Core.Path.{ap}
-use Prim.Native.Nat.{_-_, _<_}
-use Rattle.responder.specs.declared.Range.{Range}
+use Prim.Native.Nat.{_-_}
 use Rattle.responder.proofs.Bisection.{half-smaller, Turning, turning-start, turning-more, turning-end}
 use Rattle.responder.proofs.first_from.Statement.{statement}
 use Rattle.responder.proofs.first_from.Tie as tie

@@ -1,5 +1,5 @@
 -- `responder::halved` meets its contract: what the middle entry shows decides which end moves.
-use mathlib.Core.Path.{_≡_, sym}
+use mathlib.Core.Path.{sym}
 use Rattle.responder.proofs.Bisection.{half-above, half-below}
 use native.Mathlib.Omega.{arith}
 use borrow.Author.Needs.{needs}

@@ -2,6 +2,7 @@
 use mathlib.Core.Path.{_≡_, sym, ap, _∙_}
 use Prim.Native.Nat.{ℕ, _+_, min}
 use lib.Seq.{length-take-le}
+use Rattle.text.specs.Command.{headerOf}
 use Rattle.responder.specs.Index.{currentFrom}
 use Rattle.responder.proofs.Trusting.{send-short, send-sent}
 use borrow.Author.Needs.{needs}
@@ -23,9 +24,9 @@ returns-2 c =
     send-sent (a .s .now) (a .rt) (a .sfn .0) (a .a) (a .out .now) (c .before .before .before .before .before .before .before .before .before .before .before .before .planned .result) (c .before .before .before .before .before .before .before .before .before .before .before .before .planned .ensures .0)
     (c .before .before .before .before .before .before .before .before .before .least2 .result) (c .before .before .before .before .before .before .before .before .before .least2 .ensures ∙ ap (λ (k : ℕ). min k (8 + c .before .before .before .before .before .before .before .before .before .before .before .before .planned .result .size)) (c .before .before .before .before .before .before .before .before .before .before .before .least .ensures))
     (c .before .before .before .before .new .result) (c .before .before .before .before .before .before .current-profile .result .0) (c .before .before .put-full .result) (c .before .before .put-full .last .0) (c .before .before .before .before .before .before .before .before .if1 .left)
-    (c .before .before .before .before .before .before .current-profile .ensures ∙ ap (currentFrom (a .s .now) 0) (c .before .before .before .before .before .before .before .profile-count .ensures)) (c .before .before .before .before .new .ensures) (c .before .before .put-full .ensures)
+    (c .before .before .before .before .before .before .current-profile .ensures ∙ ap (currentFrom (a .s .now) 0) (c .before .before .before .before .before .before .before .profile-count .ensures)) (c .before .before .before .before .new .ensures ∙ ap (λ (k : ℕ). headerOf k (c .before .before .before .before .before .before .current-profile .result .0)) (c .before .before .before .before .before .data-length .ensures)) (c .before .before .put-full .ensures)
 
 pub send-spec : {M : Type 1} → statement M
 send-spec =
     tie.close
-    (tie.spec (λ c κs. search needs) (λ c κs. search needs) (λ c. search needs) (λ c κs. search needs) returns (λ c κs. search needs) (λ c κs. search needs) (λ c. search needs) (λ c. search needs) (λ c κs. search needs) (λ c. search needs) slice-aggregate-put-full (λ c κs. search needs) (λ c. search needs) returns-2)
+    (tie.spec (λ c κs. search needs) (λ c κs. search needs) (λ c. search needs) (λ c κs. search needs) returns (λ c κs. search needs) (λ c κs. search needs) (λ c κs. search needs) (λ c κs. search needs) (λ c. search needs) slice-aggregate-put-full (λ c κs. search needs) (λ c. search needs) returns-2)

@@ -1,28 +1,31 @@
--- `sheet::entries_fault` meets its contract: the loop carries what is left of the search.
+-- `sheet::entries_fault` meets its contract: the loop carries what is left of the search, and what the entry before leaves for the next.
 use borrow.Author.Needs.{needs}
 use Prim.Native.Nat.{_≤_, _-_}
-use mathlib.Core.Path.{_≡_}
+use mathlib.Core.Path.{_≡_, refl}
 use native.Mathlib.Omega.{arith}
 use Rattle.text.specs.First.{firstOf}
 use Rattle.text.proofs.First.{rest, first-start, first-stop, first-go, first-none}
-use Rattle.sheet.specs.Check.{entryFault}
+use Rattle.sheet.specs.Check.{numberBefore, endBefore, entryFault}
+use Rattle.sheet.proofs.Laws.{carried}
 use Rattle.sheet.proofs.entries_fault.Statement.{statement}
 use Rattle.sheet.proofs.entries_fault.Tie as tie
 
 abbrev Inv-loop : tie.InvT-loop
-Inv-loop s n i₀ i = (i ≤ n) × (firstOf (entryFault s) 0 n ≡ rest (entryFault s) n i)
+Inv-loop s n i₀ before₀ end₀ i before end =
+    (i ≤ n) × (firstOf (entryFault s) 0 n ≡ rest (entryFault s) n i) × (before ≡ numberBefore s i) × (end ≡ endBefore s i)
 
 abbrev μ-loop : tie.MeasureT-loop
-μ-loop s n i₀ i = n - i
+μ-loop s n i₀ before₀ end₀ i before end = n - i
 
 loop-holds : tie.Need-loop-holds Inv-loop μ-loop
-loop-holds c = (omega arith, search first-start)
+unfolding numberBefore endBefore
+loop-holds c = (omega arith, search first-start, refl, c .bodies-at .ensures)
 
 returns : tie.Need-returns Inv-loop μ-loop
-returns c = search first-stop
+returns c = search (first-stop, carried)
 
 loop-again : tie.Need-loop-again Inv-loop μ-loop
-loop-again c = (omega arith, search first-go)
+loop-again c = (omega arith, search (first-go, carried), search, search)
 
 returns-2 : tie.Need-returns-2 Inv-loop μ-loop
 returns-2 c = search first-none
@@ -30,4 +33,4 @@ returns-2 c = search first-none
 pub entries-fault-spec : {M : Type 1} → statement M
 entries-fault-spec =
     tie.close
-    (tie.spec Inv-loop μ-loop loop-holds (λ c κs. search needs) returns (λ c. search needs) (λ c. search needs) loop-again returns-2)
+    (tie.spec Inv-loop μ-loop (λ c κs. search needs) loop-holds (λ c κs. search needs) returns (λ c. search needs) (λ c κs. search needs) (λ c κs. search needs) (λ c. search needs) loop-again returns-2)

@@ -2,11 +2,12 @@
 use borrow.Author.Needs.{needs}
 use borrow.Author.Tests.{eq-eqb, ne-eqb}
 use Prim.Native.Nat.{_≤_, _-_}
-use mathlib.Core.Path.{_≡_, refl}
+use mathlib.Core.Path.{_≡_, refl, sym}
 use native.Mathlib.Omega.{arith}
 use lib.Dec.{eqb}
 use lib.ListN.{length}
 use Rattle.checks.specs.Legal.{legal, other, rowOf}
+use Rattle.checks.proofs.Rows.{row-above}
 use Rattle.checks.proofs.Pick.{left, pick-found, pick-next, pick-none}
 use Rattle.checks.proofs.legal.row_of.Statement.{statement}
 use Rattle.checks.proofs.legal.row_of.Tie as tie
@@ -26,8 +27,12 @@ unfolding legal
 row-at-requires c κs = search needs
 
 returns : tie.Need-returns Inv-loop μ-loop
+unfolding other
+returns c = sym (row-above (c .before .before .args .f .0) (c .if1 .taken))
+
+returns-2 : tie.Need-returns-2 Inv-loop μ-loop
 unfolding legal rowOf
-returns c = search (pick-found, eq-eqb)
+returns-2 c = search (pick-found, eq-eqb)
 
 add-i : tie.Need-add-i Inv-loop μ-loop
 unfolding legal
@@ -41,9 +46,9 @@ loop-again : tie.Need-loop-again Inv-loop μ-loop
 unfolding legal rowOf
 loop-again c = (search needs, search (pick-next, ne-eqb))
 
-returns-2 : tie.Need-returns-2 Inv-loop μ-loop
+returns-3 : tie.Need-returns-3 Inv-loop μ-loop
 unfolding legal rowOf other
-returns-2 c = search pick-none
+returns-3 c = search pick-none
 
 pub row-of-spec : {M : Type 1} → statement M
-row-of-spec = tie.close (tie.spec Inv-loop μ-loop loop-holds row-at-requires returns add-i loop-less loop-again returns-2)
+row-of-spec = tie.close (tie.spec Inv-loop μ-loop returns loop-holds row-at-requires returns-2 add-i loop-less loop-again returns-3)

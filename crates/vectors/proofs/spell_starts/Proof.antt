@@ -1,0 +1,17 @@
+-- `vectors::spell_starts` is safe and ends: the index rises to the length, and the buffer keeps its own.
+use mathlib.Core.Path.{_≡_}
+use Prim.Native.Nat.{_-_}
+use lib.ListN.{length}
+use borrow.Author.Needs.{needs}
+use Rattle.vectors.proofs.spell_starts.Statement.{statement}
+use Rattle.vectors.proofs.spell_starts.Tie as tie
+
+abbrev Inv-loop : tie.InvT-loop
+Inv-loop list out₀ i₀ at₀ out i at = length out ≡ length out₀
+
+abbrev μ-loop : tie.MeasureT-loop
+μ-loop list out₀ i₀ at₀ out i at = length list - i
+
+pub spell-starts-spec : {M : Type 1} → statement M
+spell-starts-spec =
+    tie.close (tie.spec Inv-loop μ-loop (λ c. search needs) (λ c. search needs) (λ c. search needs) (λ c κs. search needs) (λ c. search needs) (λ c. search needs) (λ c. search needs) (λ c. search needs) (λ c. search needs))

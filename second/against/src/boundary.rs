@@ -1,0 +1,223 @@
+//! The proved functions as the archive exports them (include/gcf.h). All unsafe code of this package is here.
+//!
+//! Every wrapper hands over slices, each as its pointer and its count of elements. A slice's pointer is never null,
+//! and a slice that is written overlaps no other, which is all that the functions ask of a caller.
+
+use second::sweep::Record;
+
+extern "C" {
+    fn gcf_check_sheet(sheet: *const u8, sheet_len: usize) -> u8;
+    fn gcf_respond(
+        sheet: *const u8,
+        sheet_len: usize,
+        command: *const u8,
+        command_len: usize,
+        response: *mut u8,
+        response_len: usize,
+        numbers: *mut u64,
+        numbers_len: usize,
+    ) -> u8;
+    fn gcf_respond_accepted(
+        sheet: *const u8,
+        sheet_len: usize,
+        command: *const u8,
+        command_len: usize,
+        response: *mut u8,
+        response_len: usize,
+        numbers: *mut u64,
+        numbers_len: usize,
+    ) -> u8;
+    fn gcf_read(
+        rt: u8,
+        sfn: u16,
+        response: *const u8,
+        response_len: usize,
+        numbers: *mut u64,
+        numbers_len: usize,
+    ) -> u8;
+    fn gcf_held(
+        feature: u16,
+        fresh: *const u8,
+        fresh_len: usize,
+        kept: *const u8,
+        kept_len: usize,
+        descriptor: *mut u8,
+        descriptor_len: usize,
+    ) -> usize;
+    fn gcf_list(response: *const u8, response_len: usize, text: *mut u8, text_len: usize) -> usize;
+    fn gcf_most(allocation: u16) -> usize;
+    fn gcf_sweep_start(rt: u8, allocation: u16, numbers: *mut u64, numbers_len: usize) -> u8;
+    fn gcf_sweep_take(
+        rt: u8,
+        allocation: u16,
+        next: u16,
+        commands: u32,
+        collected: usize,
+        ended: bool,
+        response: *const u8,
+        response_len: usize,
+        collecting: *mut u8,
+        collecting_len: usize,
+        numbers: *mut u64,
+        numbers_len: usize,
+    ) -> u8;
+    fn gcf_bench(
+        sheet: *const u8,
+        sheet_len: usize,
+        rt: u8,
+        allocation: u16,
+        response: *mut u8,
+        response_len: usize,
+        collected: *mut u8,
+        collected_len: usize,
+        starts: *mut u16,
+        starts_len: usize,
+        numbers: *mut u64,
+        numbers_len: usize,
+    ) -> u8;
+    fn gcf_check_descriptors(
+        response: *const u8,
+        response_len: usize,
+        numbers: *mut u64,
+        numbers_len: usize,
+    ) -> u8;
+    fn gcf_check_profile(
+        profile: u16,
+        response: *const u8,
+        response_len: usize,
+        numbers: *mut u64,
+        numbers_len: usize,
+    ) -> u8;
+}
+
+/// Checks a sheet.
+pub fn check_sheet(sheet: &[u8]) -> u8 {
+    unsafe { gcf_check_sheet(sheet.as_ptr(), sheet.len()) }
+}
+
+/// Answers a command; the numbers are: bytes sent.
+pub fn respond(sheet: &[u8], command: &[u8], response: &mut [u8], numbers: &mut [u64]) -> u8 {
+    unsafe {
+        gcf_respond(
+            sheet.as_ptr(),
+            sheet.len(),
+            command.as_ptr(),
+            command.len(),
+            response.as_mut_ptr(),
+            response.len(),
+            numbers.as_mut_ptr(),
+            numbers.len(),
+        )
+    }
+}
+
+/// Answers a command from a sheet that was accepted before; the numbers are: bytes sent.
+pub fn respond_accepted(sheet: &[u8], command: &[u8], response: &mut [u8], numbers: &mut [u64]) -> u8 {
+    unsafe {
+        gcf_respond_accepted(
+            sheet.as_ptr(),
+            sheet.len(),
+            command.as_ptr(),
+            command.len(),
+            response.as_mut_ptr(),
+            response.len(),
+            numbers.as_mut_ptr(),
+            numbers.len(),
+        )
+    }
+}
+
+/// Reads a response; the numbers are: profile, Data Length, whole descriptors, place behind the last, complete.
+pub fn read(rt: u8, sfn: u16, response: &[u8], numbers: &mut [u64]) -> u8 {
+    unsafe { gcf_read(rt, sfn, response.as_ptr(), response.len(), numbers.as_mut_ptr(), numbers.len()) }
+}
+
+/// Copies a feature's descriptor from the fresh response, else from the kept one; gives how many bytes it wrote.
+pub fn held(feature: u16, fresh: &[u8], kept: &[u8], descriptor: &mut [u8]) -> usize {
+    unsafe {
+        gcf_held(
+            feature,
+            fresh.as_ptr(),
+            fresh.len(),
+            kept.as_ptr(),
+            kept.len(),
+            descriptor.as_mut_ptr(),
+            descriptor.len(),
+        )
+    }
+}
+
+/// Writes the listing of a response; gives how many bytes it wrote.
+pub fn list(response: &[u8], text: &mut [u8]) -> usize {
+    unsafe { gcf_list(response.as_ptr(), response.len(), text.as_mut_ptr(), text.len()) }
+}
+
+/// The most bytes of a response with this allocation length.
+pub fn most(allocation: u16) -> usize {
+    unsafe { gcf_most(allocation) }
+}
+
+/// Starts a sweep; the numbers are the record's six fields.
+pub fn sweep_start(rt: u8, allocation: u16, numbers: &mut [u64]) -> u8 {
+    unsafe { gcf_sweep_start(rt, allocation, numbers.as_mut_ptr(), numbers.len()) }
+}
+
+/// Takes one response; the numbers are the next record's six fields.
+pub fn sweep_take(record: Record, response: &[u8], collecting: &mut [u8], numbers: &mut [u64]) -> u8 {
+    unsafe {
+        gcf_sweep_take(
+            record.rt,
+            record.allocation,
+            record.next.0,
+            record.commands,
+            record.collected,
+            record.ended,
+            response.as_ptr(),
+            response.len(),
+            collecting.as_mut_ptr(),
+            collecting.len(),
+            numbers.as_mut_ptr(),
+            numbers.len(),
+        )
+    }
+}
+
+/// Sweeps a sheet; the numbers are: commands, bytes collected.
+pub fn bench(
+    sheet: &[u8],
+    rt: u8,
+    allocation: u16,
+    response: &mut [u8],
+    collected: &mut [u8],
+    starts: &mut [u16],
+    numbers: &mut [u64],
+) -> u8 {
+    unsafe {
+        gcf_bench(
+            sheet.as_ptr(),
+            sheet.len(),
+            rt,
+            allocation,
+            response.as_mut_ptr(),
+            response.len(),
+            collected.as_mut_ptr(),
+            collected.len(),
+            starts.as_mut_ptr(),
+            starts.len(),
+            numbers.as_mut_ptr(),
+            numbers.len(),
+        )
+    }
+}
+
+/// Checks a response's descriptors; the numbers are: feature.
+pub fn check_descriptors(response: &[u8], numbers: &mut [u64]) -> u8 {
+    unsafe { gcf_check_descriptors(response.as_ptr(), response.len(), numbers.as_mut_ptr(), numbers.len()) }
+}
+
+/// Checks a profile's features; the numbers are: whether one is missing, and which.
+pub fn check_profile(profile: u16, response: &[u8], numbers: &mut [u64]) -> u8 {
+    unsafe {
+        gcf_check_profile(profile, response.as_ptr(), response.len(), numbers.as_mut_ptr(), numbers.len())
+    }
+}

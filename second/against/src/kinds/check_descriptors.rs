@@ -1,0 +1,218 @@
+//! gcf_check_descriptors.
+
+use super::READING;
+use crate::boundary;
+use crate::lent::{Given, Memory};
+use crate::made::damage::damage;
+use crate::made::faults::{each_faulty_response, each_pair, fault, Fault};
+use crate::made::responses::{
+    each_short, long_responses, random_response, random_ruled, response_of, ruled_parts,
+};
+use crate::made::{put32, Part};
+use crate::random::Random;
+use crate::run::{Input, Kind, Run};
+
+pub const KIND: Kind = Kind { name: "gcf_check_descriptors", answers, fixed, random };
+
+/// A reading's, 29, and the findings; 38 is not given.
+fn answers() -> Vec<u64> {
+    READING.into_iter().chain(29..=37).chain([39]).collect()
+}
+
+/// Compares one check.
+fn compare(run: &mut Run, response: &[u8], numbers: usize) -> u64 {
+    let response = Given::new(response);
+    run.compare(
+        &[Input::Bytes("response", &response)],
+        Memory::numbers(numbers),
+        |memory| u64::from(boundary::check_descriptors(response.proved(), memory.numbers.part())),
+        |memory| {
+            let (number, feature) = second::checks::check_descriptors(response.plain());
+            memory.give(&[u64::from(feature.0)]);
+            u64::from(number)
+        },
+    )
+}
+
+fn fixed(run: &mut Run) {
+    each_two_faults(run);
+    let mut numbers = 0;
+    let mut see = |response: &[u8]| {
+        numbers = (numbers + 1) % 4;
+        compare(run, response, numbers);
+    };
+    each_faulty_response(&mut see);
+    each_short(&mut see);
+    long_responses().iter().for_each(|response| see(response));
+    each_bit(run);
+    each_length(run);
+    each_count_of_link_sizes(run);
+}
+
+/// Descriptors, and what happens to the bytes of their response.
+#[derive(Clone)]
+struct Checked {
+    parts: Vec<Part>,
+    damage: Vec<fn(&mut Vec<u8>)>,
+}
+
+impl Checked {
+    /// The response's bytes.
+    fn response(&self) -> Vec<u8> {
+        let mut bytes = response_of(0x0012, &self.parts);
+        self.damage.iter().for_each(|damage| damage(&mut bytes));
+        bytes
+    }
+}
+
+/// A fault of the response's bytes.
+fn of_bytes(number: u8, damage: fn(&mut Vec<u8>)) -> Fault<Checked> {
+    fault(number, move |checked: &mut Checked| checked.damage.push(damage))
+}
+
+/// A fault of the descriptor of a feature.
+fn of_part(number: u8, feature: u16, bend: impl Fn(&mut Part) + 'static) -> Fault<Checked> {
+    fault(number, move |checked: &mut Checked| {
+        checked.parts.iter_mut().filter(|part| part.0 == feature).for_each(&bend);
+    })
+}
+
+/// Each two faults, of the response and of its descriptors in their order.
+fn each_two_faults(run: &mut Run) {
+    let good = Checked { parts: ruled_parts(), damage: vec![] };
+    let answer = compare(run, &good.response(), 1);
+    run.expect(answer, 0);
+    let mut faults = vec![
+        of_bytes(14, |bytes| bytes.truncate(7)),
+        of_bytes(15, |bytes| bytes[3] |= 1),
+        of_bytes(16, |bytes| put32(bytes, 0, 4)),
+        of_bytes(17, |bytes| bytes[11] |= 1),
+        of_bytes(18, |bytes| {
+            let second = 12 + usize::from(bytes[11]);
+            bytes[second..second + 2].fill(0);
+        }),
+        of_bytes(20, |bytes| {
+            let last = bytes.len() - 5;
+            bytes[last] = 252;
+        }),
+        of_bytes(29, |bytes| {
+            let longer = bytes.len() as u32;
+            put32(bytes, 0, longer);
+        }),
+        fault(30, |checked: &mut Checked| checked.parts.retain(|part| part.0 != 0)),
+        fault(30, |checked: &mut Checked| checked.parts.retain(|part| part.0 != 1)),
+    ];
+    for (feature, _, _) in ruled_parts() {
+        part_faults(feature, &mut faults);
+    }
+    each_pair(&good, &faults, &mut |checked, number| {
+        let answer = compare(run, &checked.response(), 1);
+        run.expect(answer, u64::from(number));
+    });
+}
+
+/// The faults of a feature's descriptor, in their order.
+fn part_faults(feature: u16, faults: &mut Vec<Fault<Checked>>) {
+    let of_medium = [0x1F, 0x20, 0x21, 0x26, 0x2D, 0x2E, 0x2F].contains(&feature);
+    faults.push(of_part(33, feature, |part| part.1 |= 0x40));
+    faults.push(of_part(33, feature, |part| part.1 |= 0x04));
+    faults.push(of_part(34, feature, |part| part.1 = part.1 & 0xFC | 2));
+    if of_medium || (1..=3).contains(&feature) {
+        faults.push(of_part(31, feature, |part| part.2.extend_from_slice(&[0; 8])));
+    }
+    if of_medium && feature != 0x1F || (1..=3).contains(&feature) {
+        faults.push(of_part(31, feature, |part| part.2.clear()));
+    }
+    if feature <= 3 {
+        faults.push(of_part(32, feature, |part| part.1 = part.1 & 0xFC | 1));
+        faults.push(of_part(32, feature, |part| part.1 &= 0xFC));
+    }
+    if of_medium {
+        faults.push(of_part(35, feature, |part| part.1 |= 3));
+    }
+    for (of, at, bits) in [
+        (0, 2, 2),
+        (0, 7, 1),
+        (2, 0, 2),
+        (3, 0, 0x10),
+        (0x21, 0, 1),
+        (0x21, 9, 1),
+        (0x2D, 0, 8),
+        (0x2E, 0, 0x40),
+        (0x2F, 3, 1),
+    ] {
+        if of == feature {
+            faults.push(of_part(36, feature, move |part| part.2[at] |= bits));
+        }
+    }
+    if feature == 0x2E {
+        faults.push(of_part(37, feature, |part| part.2[0] &= 0xDF));
+    }
+    if feature == 0 {
+        faults.push(of_part(39, feature, |part| part.2[4..6].fill(0)));
+    }
+}
+
+/// A response of all features that have rules, with each bit flipped; and with each two of some bits.
+fn each_bit(run: &mut Run) {
+    let mut bytes = response_of(0x0012, &ruled_parts());
+    for bit in 0..8 * bytes.len() {
+        bytes[bit / 8] ^= 1 << (bit % 8);
+        compare(run, &bytes, 1);
+        // Persistent is also wrong where 0003h is reported.
+        for other in (0..8 * bytes.len()).step_by(97) {
+            bytes[other / 8] ^= 1 << (other % 8);
+            compare(run, &bytes, 2);
+            bytes[other / 8] ^= 1 << (other % 8);
+        }
+        bytes[bit / 8] ^= 1 << (bit % 8);
+    }
+}
+
+/// Each feature that has rules with each length of body, all zero and all ones.
+fn each_length(run: &mut Run) {
+    let parts = ruled_parts();
+    for at in 0..parts.len() {
+        for length in (0..=252).step_by(4) {
+            for byte in [0, 0xFF] {
+                let mut changed = parts.clone();
+                changed[at].2 = vec![byte; length];
+                compare(run, &response_of(0, &changed), 1);
+            }
+        }
+    }
+}
+
+/// Feature 0021h with each count of link sizes and each length, and one bit in each byte behind.
+fn each_count_of_link_sizes(run: &mut Run) {
+    for count in 0..=255 {
+        let fitting = (4 + (usize::from(count) + 3) / 4 * 4).min(252);
+        for length in [4, fitting - 4, fitting, (fitting + 4).min(252)] {
+            let mut parts = ruled_parts();
+            parts[7].2 = vec![0; length];
+            if length >= 4 {
+                parts[7].2[3] = count;
+            }
+            compare(run, &response_of(0, &parts), 1);
+            for back in 1..=4 {
+                if length >= 4 + back {
+                    let mut bent = parts.clone();
+                    bent[7].2[length - back] = 1;
+                    compare(run, &response_of(0, &bent), 1);
+                }
+            }
+        }
+    }
+}
+
+fn random(run: &mut Run, random: &mut Random) {
+    for _ in 0..8 {
+        let response = random_ruled(random);
+        compare(run, &response, random.below(4));
+    }
+    let mut made = random_response(random, 0).bytes;
+    if random.once_in(2) {
+        damage(random, &mut made);
+    }
+    compare(run, &made, random.below(4));
+}

@@ -1,0 +1,50 @@
+//! One file for each function of the archive: how the two sides are called, and on what.
+//! A further function takes a wrapper in boundary.rs, a file here, and its line in `KINDS`.
+
+mod bench;
+mod check_descriptors;
+mod check_profile;
+mod check_sheet;
+mod commands;
+mod held;
+mod list;
+mod most;
+mod read;
+mod respond;
+mod respond_accepted;
+mod sweep_start;
+mod sweep_take;
+
+use crate::run::Kind;
+use second::sweep::Record;
+
+/// Every function.
+pub const KINDS: &[Kind] = &[
+    check_sheet::KIND,
+    respond::KIND,
+    respond_accepted::KIND,
+    read::KIND,
+    held::KIND,
+    list::KIND,
+    most::KIND,
+    sweep_start::KIND,
+    sweep_take::KIND,
+    bench::KIND,
+    check_descriptors::KIND,
+    check_profile::KIND,
+];
+
+/// A record as the numbers of a result.
+fn fields(record: Record) -> [u64; 6] {
+    [
+        u64::from(record.rt),
+        u64::from(record.allocation),
+        u64::from(record.next.0),
+        u64::from(record.commands),
+        record.collected as u64,
+        u64::from(record.ended),
+    ]
+}
+
+/// The answers of a reading with RT 0.
+const READING: [u64; 7] = [0, 14, 15, 16, 17, 18, 20];

@@ -1,0 +1,185 @@
+//! Compares the two sides case by case, and counts.
+
+use std::collections::BTreeMap;
+use std::fmt::{Debug, Write};
+
+use crate::lent::{Cell, Given, Lent, Memory};
+use crate::random::Random;
+
+/// Longer inputs are written to a file rather than printed.
+const PRINTED_MOST: usize = 2_048;
+
+/// One function and its cases.
+pub struct Kind {
+    /// Its name in the archive.
+    pub name: &'static str,
+    /// Every answer that can occur, each of which has to be seen.
+    pub answers: fn() -> Vec<u64>,
+    /// The cases that are the same in every run.
+    pub fixed: fn(&mut Run),
+    /// Some made-up cases.
+    pub random: fn(&mut Run, &mut Random),
+}
+
+/// An input of a call, with its name.
+pub enum Input<'a> {
+    Bytes(&'static str, &'a Given),
+    Number(&'static str, u64),
+}
+
+/// The cases of one function so far.
+pub struct Run {
+    name: &'static str,
+    pub cases: u64,
+    pub seen: BTreeMap<u64, u64>,
+    pub failure: Option<String>,
+}
+
+impl Run {
+    /// No case yet.
+    pub fn new(name: &'static str) -> Run {
+        Run { name, cases: 0, seen: BTreeMap::new(), failure: None }
+    }
+
+    /// Calls both sides on equal memory and compares what they answer and leave; counts and gives the plain answer.
+    pub fn compare(
+        &mut self,
+        inputs: &[Input],
+        memory: Memory,
+        proved: impl FnOnce(&mut Memory) -> u64,
+        plain: impl FnOnce(&mut Memory) -> u64,
+    ) -> u64 {
+        let answer = self.compare_uncounted(inputs, memory, proved, plain);
+        self.saw(answer);
+        answer
+    }
+
+    /// Compares likewise where what is counted is not what the function returns.
+    pub fn compare_uncounted(
+        &mut self,
+        inputs: &[Input],
+        memory: Memory,
+        proved: impl FnOnce(&mut Memory) -> u64,
+        plain: impl FnOnce(&mut Memory) -> u64,
+    ) -> u64 {
+        let mut left = memory.clone();
+        let mut right = memory;
+        let wanted = plain(&mut right);
+        if self.failure.is_some() {
+            return wanted;
+        }
+        let answer = proved(&mut left);
+        self.cases += 1;
+        if answer != wanted || left != right || !unchanged(inputs) {
+            self.fail(format!(
+                "proved {answer}, plain {wanted}\n{}{}",
+                differences(&left, &right, inputs),
+                shown(self.name, inputs)
+            ));
+        }
+        wanted
+    }
+
+    /// Calls the proved side only, where it may write anything between the guards and to the first of the numbers.
+    pub fn only_returns(
+        &mut self,
+        inputs: &[Input],
+        memory: Memory,
+        results: usize,
+        proved: impl FnOnce(&mut Memory) -> u64,
+    ) {
+        if self.failure.is_some() {
+            return;
+        }
+        let mut left = memory.clone();
+        proved(&mut left);
+        left.forget(results);
+        self.cases += 1;
+        if left != memory || !unchanged(inputs) {
+            self.fail(format!(
+                "wrote outside its buffers\n{}{}",
+                differences(&left, &memory, inputs),
+                shown(self.name, inputs)
+            ));
+        }
+    }
+
+    /// Counts an answer, as long as nothing has failed.
+    pub fn saw(&mut self, answer: u64) {
+        if self.failure.is_none() {
+            *self.seen.entry(answer).or_insert(0) += 1;
+        }
+    }
+
+    /// Fails where the answer of a case is not the one it was made for.
+    pub fn expect(&mut self, answer: u64, wanted: u64) {
+        if answer != wanted && self.failure.is_none() {
+            self.fail(format!("a case made for {wanted} gets {answer} from both sides"));
+        }
+    }
+
+    /// Ends this kind.
+    pub fn fail(&mut self, text: String) {
+        self.failure = Some(format!("{}: {text}", self.name));
+    }
+}
+
+/// Whether no input was changed.
+fn unchanged(inputs: &[Input]) -> bool {
+    inputs.iter().all(|input| match input {
+        Input::Bytes(_, given) => given.is_unchanged(),
+        Input::Number(..) => true,
+    })
+}
+
+/// Where the memory of the two sides differs.
+fn differences(left: &Memory, right: &Memory, inputs: &[Input]) -> String {
+    let mut text = String::new();
+    text += &difference("first buffer", &left.first, &right.first);
+    text += &difference("second buffer", &left.second, &right.second);
+    text += &difference("starts", &left.starts, &right.starts);
+    text += &difference("numbers", &left.numbers, &right.numbers);
+    if !unchanged(inputs) {
+        text += "an input was changed\n";
+    }
+    text
+}
+
+/// The first difference of two buffers in words; empty if there is none.
+fn difference<T: Cell + Debug>(name: &str, left: &Lent<T>, right: &Lent<T>) -> String {
+    match left.difference(right) {
+        Some((at, proved, plain)) => format!("{name} at {at}: proved {proved:#X?}, plain {plain:#X?}\n"),
+        None => String::new(),
+    }
+}
+
+/// The inputs in words.
+fn shown(kind: &str, inputs: &[Input]) -> String {
+    let mut text = String::new();
+    for input in inputs {
+        let line = match input {
+            Input::Number(name, number) => format!("{name}: {number}"),
+            Input::Bytes(name, given) => format!("{name}: {}", shown_bytes(kind, name, given.plain())),
+        };
+        text += &line;
+        text.push('\n');
+    }
+    text
+}
+
+/// Bytes in hexadecimal digits, or the name of a file that holds them.
+fn shown_bytes(kind: &str, name: &str, bytes: &[u8]) -> String {
+    if bytes.len() > PRINTED_MOST {
+        let file = std::env::temp_dir().join(format!("{kind}-{name}-{}", std::process::id()));
+        return match std::fs::write(&file, bytes) {
+            Ok(()) => format!("{} bytes in {}", bytes.len(), file.display()),
+            Err(error) => format!("{} bytes, not written to {}: {error}", bytes.len(), file.display()),
+        };
+    }
+    let mut text = format!("{} bytes", bytes.len());
+    for byte in bytes {
+        // Writing to a string cannot fail.
+        let _ = write!(text, " {byte:02X}");
+    }
+    text
+}
