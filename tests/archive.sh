@@ -43,11 +43,16 @@ END
     "$archive_tools/bin/llvm-ar" crs "$here/libabi.a" "$here/abi.o"
 }
 
+# whether the archive is there and nothing that it is made of is newer
+archive_fresh() {
+    [ -f "$ARCHIVE" ] && [ -z "$(find crates.txt crates/*/src -type f -newer "$ARCHIVE")" ]
+}
+
 archive_for() { # cross | own
     mkdir -p target
     if [ "$archive_machine" = x86_64 ] || [ "$1" = cross ]; then
-        rt staticlib abi >target/archive.log 2>&1 || return 1
         ARCHIVE=$PWD/target/staticlib/libabi.a
+        archive_fresh || rt staticlib abi >target/archive.log 2>&1 || return 1
     else
         archive_own || return 1
         ARCHIVE=$PWD/target/own/libabi.a
@@ -64,6 +69,13 @@ archive_for() { # cross | own
         x86_64-linux-gnu-gcc -O2 -c target/start.c -o target/start.o || return 1
         archive_rust=(/usr/bin/rustc --target x86_64-unknown-linux-gnu -C linker=x86_64-linux-gnu-gcc -C "link-arg=$PWD/target/start.o")
     fi
+}
+
+# the archive itself, or, where it cannot be run, the same code compiled for this processor
+archive_ready() {
+    archive_for cross && return
+    echo 'the archive cannot be run here (target/archive.log, target/cross.log): the same code, compiled for this processor, is tried'
+    archive_for own
 }
 
 # runs a program that was built so

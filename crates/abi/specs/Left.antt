@@ -1,10 +1,9 @@
 -- What an exported function leaves: its number, the lent buffers, and the lent array of numbers. Assumes nothing: these are definitions.
-use mathlib.Core.Bool.{Bool, true, false}
+use mathlib.Core.Bool.{Bool}
 use mathlib.Core.List.{List, [], _∷_}
 use Prim.Native.Nat.{ℕ}
 use lib.Seq.{sets}
 use Rattle.text.specs.Drive.{bit}
-use Rattle.text.specs.declared.Refusal.{Refusal}
 use Rattle.text.specs.declared.Reading.{Reading}
 use Rattle.responder.specs.Answer as responder
 use Rattle.sweep.specs.declared.Sweep.{Sweep}

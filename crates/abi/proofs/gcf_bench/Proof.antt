@@ -1,3 +1,4 @@
+-- `abi::gcf_bench` meets its contract: what the bench sweep answers, and its two counts told. Assumes nothing.
 use Rattle.abi.proofs.Laws.{leaves}
 use Rattle.abi.specs.Left.{benched}
 use mathlib.Core.Path.{ap}

@@ -1,3 +1,4 @@
+-- `abi::gcf_check_descriptors` meets its contract: what the check finds, and the feature told. Assumes nothing.
 use Rattle.abi.proofs.Laws.{leaves}
 use Rattle.abi.specs.Left.{found}
 use mathlib.Core.Path.{ap}

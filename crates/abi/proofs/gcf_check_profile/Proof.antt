@@ -1,3 +1,4 @@
+-- `abi::gcf_check_profile` meets its contract: each case of the judgement, told. Assumes nothing.
 use Rattle.abi.proofs.Laws.{leaves}
 use Rattle.abi.specs.Left.{judged, missingNumbers}
 use Rattle.checks.specs.Judge.{said}

@@ -1,3 +1,4 @@
+-- `abi::gcf_check_sheet` meets its contract: the number of what the check answers. Assumes nothing.
 use Rattle.text.specs.declared.Refusal.{Refusal}
 use mathlib.Core.Path.{ap}
 use borrow.Author.Needs.{needs}

@@ -1,3 +1,4 @@
+-- `abi::gcf_held` meets its contract: the part that is held, copied. Assumes nothing.
 use borrow.Author.Needs.{needs}
 use Rattle.abi.proofs.gcf_held.Statement.{statement}
 use Rattle.abi.proofs.gcf_held.Tie as tie

@@ -1,3 +1,4 @@
+-- `abi::gcf_read` meets its contract: the reading, and its five values told. Assumes nothing.
 use Rattle.abi.proofs.Laws.{leaves}
 use Rattle.abi.specs.Left.{read}
 use mathlib.Core.Path.{ap}

@@ -1,3 +1,4 @@
+-- `abi::gcf_respond` meets its contract: what the box answers, and its count told. Assumes nothing.
 use denote.Ref.{now}
 use Rattle.abi.proofs.Laws.{leaves}
 use Rattle.abi.specs.Left.{replied}

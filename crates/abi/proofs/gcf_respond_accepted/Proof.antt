@@ -1,3 +1,4 @@
+-- `abi::gcf_respond_accepted` meets its contract: what the box answers that does not check its sheet, and its count told. Assumes nothing.
 use denote.Ref.{now}
 use Rattle.abi.proofs.Laws.{leaves}
 use Rattle.abi.specs.Left.{replied}

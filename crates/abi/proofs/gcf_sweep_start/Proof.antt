@@ -1,3 +1,4 @@
+-- `abi::gcf_sweep_start` meets its contract: the record that starts a sweep, told. Assumes nothing.
 use Rattle.abi.proofs.Laws.{leaves}
 use Rattle.abi.specs.Left.{stepped, none}
 use mathlib.Core.Path.{ap}

@@ -1,3 +1,4 @@
+-- `abi::tell` meets its contract: a store where there is room, and nothing behind the end. Assumes nothing.
 use Rattle.lent.proofs.Laws.{nowhere}
 use borrow.Author.Needs.{needs}
 use Rattle.abi.proofs.tell.Statement.{statement}

@@ -1,3 +1,4 @@
+-- `abi::tell2` meets its contract: two writings one after the other. Assumes nothing.
 use Rattle.lent.proofs.Laws.{then}
 use borrow.Author.Needs.{needs}
 use Rattle.abi.proofs.tell2.Statement.{statement}

@@ -1,3 +1,4 @@
+-- `abi::tell_reading` meets its contract: five writings one after the other. Assumes nothing.
 use Rattle.abi.specs.Left.{readingNumbers}
 use Rattle.lent.proofs.Laws.{then}
 use borrow.Author.Needs.{needs}

@@ -1,3 +1,4 @@
+-- `abi::tell_record` meets its contract: six writings one after the other. Assumes nothing.
 use Rattle.abi.specs.Left.{recordNumbers}
 use Rattle.lent.proofs.Laws.{then}
 use borrow.Author.Needs.{needs}
