@@ -70,7 +70,10 @@ enum gcf_number {
     GCF_BITS_RESERVED = 36,
     GCF_CUE_LENGTH = 37,
     GCF_PROFILE_ZERO = 39,
-    GCF_NO_TABLE = 40
+    GCF_NO_TABLE = 40,
+    /* import */
+    GCF_NOT_OWN = 41,
+    GCF_SHEET_BUFFER_SHORT = 42
 };
 
 /* Sizes that are always enough. */
@@ -80,6 +83,7 @@ enum gcf_number {
 #define GCF_RESPONSE_MOST 65534  /* one response */
 #define GCF_LISTING_MOST 245736  /* the listing of any bytes */
 #define GCF_SHEET_MOST 17039356  /* the longest drive sheet */
+#define GCF_IMPORT_MOST 131044   /* the longest sheet of a captured response */
 
 /* ---- the box */
 
@@ -204,6 +208,15 @@ uint8_t gcf_check_descriptors(const uint8_t *response, size_t response_bytes, ui
  * numbers: 1 if a feature is missing or 0, and the lowest that is. Refused: 0, 0.
  */
 uint8_t gcf_check_profile(uint16_t profile, const uint8_t *response, size_t response_bytes, uint64_t *numbers, size_t numbers_count);
+
+/* ---- import */
+
+/*
+ * Turns a captured response to RT 0 from 0 into a drive sheet from which the box gives those bytes back: 14 to 18, 20, 29, 41, the sheet's 3 and 5, 42.
+ * Accepted: the sheet stands at the front of the buffer, and only its bytes changed. Refused: nothing changed.
+ * numbers: bytes of the sheet. Refused: 0.
+ */
+uint8_t gcf_import(const uint8_t *response, size_t response_bytes, uint8_t *sheet, size_t sheet_bytes, uint64_t *numbers, size_t numbers_count);
 
 #ifdef __cplusplus
 }

@@ -92,7 +92,7 @@ impl ProfileAnswer {
 }
 
 /// Reads a response to RT 0 from 0, which must be complete.
-fn read_complete(response: &[u8]) -> Result<Reading, u8> {
+pub(crate) fn read_complete(response: &[u8]) -> Result<Reading, u8> {
     let reading = read(0, Feature(0), response, None);
     if reading.number != ACCEPTED {
         return Err(reading.number);

@@ -5,6 +5,7 @@ pub mod bench;
 pub mod checks;
 pub mod command;
 pub mod find;
+pub mod import;
 pub mod lister;
 pub mod numbers;
 pub mod reading;

@@ -68,7 +68,7 @@ pub const CUT_AFTER_LAST: u8 = 27;
 pub const CUT_SHORT: u8 = 28;
 
 // The checks.
-/// Checking a cut response.
+/// Checking or importing a cut response.
 pub const CHECK_CUT: u8 = 29;
 /// Feature 0 or 1 missing.
 pub const FINDING_MISSING: u8 = 30;
@@ -90,6 +90,12 @@ pub const FINDING_CUE_SHEET: u8 = 37;
 pub const FINDING_PROFILE: u8 = 39;
 /// No table for the profile.
 pub const NO_TABLE: u8 = 40;
+
+// The import.
+/// Feature 0 absent or its flags not 03h; header bytes 4-5 not 0; a Current Profile that the profile list doesn't give.
+pub const CAPTURE_BAD: u8 = 41;
+/// Sheet buffer too short.
+pub const SHEET_BUFFER_SHORT: u8 = 42;
 
 // The wire.
 /// Operation code of GET CONFIGURATION.

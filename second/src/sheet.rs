@@ -174,7 +174,7 @@ pub fn check(bytes: &[u8]) -> u8 {
 }
 
 /// Whether every profile has a new number that isn't 0, a current byte of 0 or 1, and a zero byte.
-fn profiles_are_legal(profiles: &[u8]) -> bool {
+pub(crate) fn profiles_are_legal(profiles: &[u8]) -> bool {
     for (index, profile) in profiles.chunks_exact(PROFILE_BYTES).enumerate() {
         let number = be16(profile, 0);
         let before = part(profiles, 0, index * PROFILE_BYTES);
@@ -186,6 +186,11 @@ fn profiles_are_legal(profiles: &[u8]) -> bool {
     true
 }
 
+/// Whether the reserved bits and Version are 0, and Persistent isn't set without Current.
+pub(crate) fn flags_are_legal(flags: u8) -> bool {
+    flags & RESERVED_AND_VERSION == 0 && flags != PERSISTENT
+}
+
 /// Checks the entries in order; gives where the last body ends.
 fn check_entries(contents: &[u8], bodies_at: usize) -> Result<usize, u8> {
     // No number is above itself, so starting at 0 also refuses feature 0.
@@ -195,7 +200,7 @@ fn check_entries(contents: &[u8], bodies_at: usize) -> Result<usize, u8> {
         if entry.feature <= before {
             return Err(FEATURE_ORDER);
         }
-        if entry.flags & RESERVED_AND_VERSION != 0 || entry.flags == PERSISTENT {
+        if !flags_are_legal(entry.flags) {
             return Err(FLAGS_BAD);
         }
         if entry.length % 4 != 0 {

@@ -11,6 +11,7 @@ use Rattle.sweep.specs.declared.Step.{Step}
 use Rattle.bench.specs.Bench as bench
 use Rattle.checks.specs.declared.Finding.{Finding}
 use Rattle.checks.specs.Judge.{Said}
+use Rattle.import.specs.Import as import
 
 -- B is what the buffers hold: one list, several, or none
 pub record Left (B : Type 0) : Type 0 where
@@ -68,3 +69,7 @@ missingNumbers (f ∷ fs) = 1 ∷ f ∷ []
 
 unfoldable pub judged : Said → List ℕ → Left (Unit {0})
 judged x ns = left (x .number) none (told ns (missingNumbers (x .missing)))
+
+-- an import: bytes of the sheet
+unfoldable pub imported : import.Outcome → List ℕ → Left (List ℕ)
+imported x ns = left (x .answer .refusal .number) (x .buffer) (told ns (x .answer .count ∷ []))

@@ -14,7 +14,8 @@ ghost use Rattle.sweep.specs.Sweep as sweep;
 ghost use Rattle.bench.specs.Bench as bench;
 ghost use Rattle.checks.specs.Check.{checked};
 ghost use Rattle.checks.specs.Judge as checks;
-ghost use Rattle.abi.specs.Left.{left, none, replied, readingNumbers, read, recordNumbers, recordOf, stepped, benched, found, judged};
+ghost use Rattle.import.specs.Import as import;
+ghost use Rattle.abi.specs.Left.{left, none, replied, readingNumbers, read, recordNumbers, recordOf, stepped, benched, found, judged, imported};
 use checks::Judgement;
 use sweep::Sweep;
 use text::Feature;
@@ -252,4 +253,18 @@ pub extern "C" fn gcf_check_profile(profile: u16, response: &[u8], numbers: &mut
             fault.number
         }
     }
+}
+
+// ---- import
+
+// Turns a captured response to RT 0 from 0 into a drive sheet. Numbers: bytes of the sheet.
+#[no_mangle]
+pub extern "C" fn gcf_import(response: &[u8], sheet: &mut [u8], numbers: &mut [u64]) -> u8
+    ensures { λ r. ⌜ left r (now (sheet .exit)) (now (numbers .exit))
+        ≡ imported (import.imported (now (response .entry)) (now (sheet .entry))) (now (numbers .entry)) ⌝ }
+{
+    let made = import::import(response, sheet);
+    let fault = made.refusal;
+    tell(numbers, 0, made.count as u64);
+    fault.number
 }

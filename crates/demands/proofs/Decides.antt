@@ -38,6 +38,8 @@ use Rattle.layout.proofs.current_at as current-at
 use Rattle.layout.proofs.last_at as last-at
 use Rattle.layout.proofs.profiles_part as profiles-part
 use Rattle.sheet.proofs.end_before as end-before
+use Rattle.sheet.proofs.profile_rule as profile-rule
+use Rattle.sheet.proofs.flags_rule as flags-rule
 use Rattle.sheet.proofs.check as check
 use Rattle.responder.proofs.send as send
 use Rattle.responder.proofs.respond_accepted as respond-accepted
@@ -55,6 +57,8 @@ use Rattle.checks.proofs.Judgements.{said-injective}
 use Rattle.sweep.proofs.Sweep.start as sweep-start
 use Rattle.sweep.proofs.Sweep.take as sweep-take
 use Rattle.sweep.proofs.take_response as take-response
+use Rattle.import.specs.Import as import-specs
+use Rattle.import.proofs.import as import
 use Rattle.abi.specs.Left.{Left}
 use Rattle.abi.proofs.gcf_check_sheet as gcf-check-sheet
 use Rattle.abi.proofs.gcf_respond as gcf-respond
@@ -68,6 +72,7 @@ use Rattle.abi.proofs.gcf_sweep_take as gcf-sweep-take
 use Rattle.abi.proofs.gcf_bench as gcf-bench
 use Rattle.abi.proofs.gcf_check_descriptors as gcf-check-descriptors
 use Rattle.abi.proofs.gcf_check_profile as gcf-check-profile
+use Rattle.abi.proofs.gcf_import as gcf-import
 
 -- ---- fields
 
@@ -157,6 +162,12 @@ profiles-part-decided x = decides (x .𝓤) (λ o o′ p q. (joined p q, refl))
 
 -- ---- sheet
 
+pub profile-rule-decided : Decided profile-rule.ended (λ M. profile-rule.clauses) (λ M. profile-rule.spec)
+profile-rule-decided x = decides (x .𝓤) (λ o o′ p q. (joined p q, refl))
+
+pub flags-rule-decided : Decided flags-rule.ended (λ M. flags-rule.clauses) (λ M. flags-rule.spec)
+flags-rule-decided x = decides (x .𝓤) (λ o o′ p q. (joined p q, refl))
+
 pub end-before-decided : Decided end-before.ended (λ M. end-before.clauses) (λ M. end-before.spec)
 end-before-decided x = decides (x .𝓤) (λ o o′ p q. (joined p q, refl))
 
@@ -220,6 +231,11 @@ check-descriptors-decided x = decides (x .𝓤) (λ o o′ p q. (joined p q, ref
 pub check-profile-decided : Decided check-profile.ended (λ M. check-profile.clauses) (λ M. check-profile.spec)
 check-profile-decided x = decides (x .𝓤) (λ o o′ p q. (said-injective (o .0) (o′ .0) (joined p q), refl))
 
+-- ---- import
+
+pub import-decided : Decided import.ended (λ M. import.clauses) (λ M. import.spec)
+import-decided x = decides (x .𝓤) (λ o o′ p q. (ap (λ (z : import-specs.Outcome). z .answer) (joined p q), refl & ap (λ (z : import-specs.Outcome). z .buffer) (joined p q) & refl))
+
 -- ---- abi: what is left in the buffers and in the array of numbers
 
 number : {B : Type 0} {a b : Left B} → a ≡ b → a .number ≡ b .number
@@ -269,3 +285,6 @@ gcf-check-descriptors-decided x = decides (x .𝓤) (λ o o′ p q. (number (joi
 
 pub gcf-check-profile-decided : Decided gcf-check-profile.ended (λ M. gcf-check-profile.clauses) (λ M. gcf-check-profile.spec)
 gcf-check-profile-decided x = decides (x .𝓤) (λ o o′ p q. (number (joined p q), refl & refl & numbers (joined p q) & refl))
+
+pub gcf-import-decided : Decided gcf-import.ended (λ M. gcf-import.clauses) (λ M. gcf-import.spec)
+gcf-import-decided x = decides (x .𝓤) (λ o o′ p q. (number (joined p q), refl & buffers (joined p q) & numbers (joined p q) & refl))

@@ -5,3 +5,4 @@ pub mod Sweeping
 pub mod Stars
 pub mod Decides
 pub mod Checking
+pub mod Importing

@@ -49,11 +49,11 @@ bytes-low [] e i = omega arith
 bytes-low (b ∷ s) e zero = ltb-true b 256 (both (ltb b 256) (low s) e .0)
 bytes-low (b ∷ s) e (suc i) = bytes-low s (both (ltb b 256) (low s) e .1) i
 
-bytesE : Bytes sheetE
+pub bytesE : Bytes sheetE
 unfolding sheetE low
 bytesE = bytes-low sheetE refl
 
-acceptedE : Accepted sheetE
+pub acceptedE : Accepted sheetE
 unfolding each field _if_else_ pickZero _orElse_ firstOf layout.featureCount layout.profileCount layout.number layout.flags layout.bodyLength layout.offset layout.profile layout.current layout.last profileRule sameProfile profileFault numberBefore endBefore flagsRule entryRule entryFault counted verdict sheetE
 acceptedE = refl
 

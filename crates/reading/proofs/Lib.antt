@@ -3,4 +3,6 @@ pub mod Tally
 pub mod Outcome
 pub mod Rest
 pub mod Fresh
+pub mod Places
+pub mod Input
 pub mod Decides

@@ -7,7 +7,8 @@ use text::Refusal;
 
 // ---- the rules, on numbers
 
-fn profile_rule(number: u16, listed: Refusal, current: u8, last: u8) -> Refusal
+// 3 of a profile; `listed` is what its number's place among those before it gives.
+pub fn profile_rule(number: u16, listed: Refusal, current: u8, last: u8) -> Refusal
     ensures { λ r. ⌜ r ≡ profileRule number listed current last ⌝ }
 {
     if number == 0 {
@@ -25,7 +26,8 @@ fn profile_rule(number: u16, listed: Refusal, current: u8, last: u8) -> Refusal
     text::ACCEPTED
 }
 
-fn flags_rule(f: u8) -> Refusal
+// 5 of a flags byte.
+pub fn flags_rule(f: u8) -> Refusal
     ensures { λ r. ⌜ r ≡ flagsRule f ⌝ }
 {
     if f / 64 != 0 {

@@ -98,6 +98,11 @@ pub const PROFILE_ZERO: Refusal = Refusal { number: 39 };
 
 pub const NO_TABLE: Refusal = Refusal { number: 40 };
 
+// The import's refusals.
+pub const NOT_OWN: Refusal = Refusal { number: 41 };
+
+pub const SHEET_BUFFER_SHORT: Refusal = Refusal { number: 42 };
+
 // What a driver reads off a response: all 0 but the refusal where it is refused.
 pub struct Reading {
     pub refusal: Refusal,

@@ -88,6 +88,14 @@ extern "C" {
         numbers: *mut u64,
         numbers_len: usize,
     ) -> u8;
+    fn gcf_import(
+        response: *const u8,
+        response_len: usize,
+        sheet: *mut u8,
+        sheet_len: usize,
+        numbers: *mut u64,
+        numbers_len: usize,
+    ) -> u8;
 }
 
 /// Checks a sheet.
@@ -219,5 +227,19 @@ pub fn check_descriptors(response: &[u8], numbers: &mut [u64]) -> u8 {
 pub fn check_profile(profile: u16, response: &[u8], numbers: &mut [u64]) -> u8 {
     unsafe {
         gcf_check_profile(profile, response.as_ptr(), response.len(), numbers.as_mut_ptr(), numbers.len())
+    }
+}
+
+/// Makes a sheet of a captured response; the numbers are: bytes of the sheet.
+pub fn import(response: &[u8], sheet: &mut [u8], numbers: &mut [u64]) -> u8 {
+    unsafe {
+        gcf_import(
+            response.as_ptr(),
+            response.len(),
+            sheet.as_mut_ptr(),
+            sheet.len(),
+            numbers.as_mut_ptr(),
+            numbers.len(),
+        )
     }
 }

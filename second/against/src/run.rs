@@ -104,6 +104,17 @@ impl Run {
         }
     }
 
+    /// Counts a case of the proved side alone, and fails where it doesn't hold.
+    pub fn holds(&mut self, holds: bool, otherwise: &str, inputs: &[Input]) {
+        if self.failure.is_some() {
+            return;
+        }
+        self.cases += 1;
+        if !holds {
+            self.fail(format!("{otherwise}\n{}", shown(self.name, inputs)));
+        }
+    }
+
     /// Counts an answer, as long as nothing has failed.
     pub fn saw(&mut self, answer: u64) {
         if self.failure.is_none() {

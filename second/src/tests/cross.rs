@@ -45,7 +45,7 @@ fn slow_cut(meaning: &Meaning, rt: u8, sfn: u16, allocation: u16) -> Vec<u8> {
 }
 
 /// A made-up legal sheet.
-fn make_sheet(numbers: &mut Numbers, most: u64) -> Vec<u8> {
+pub(super) fn make_sheet(numbers: &mut Numbers, most: u64) -> Vec<u8> {
     let bodies: Vec<u8> = (0..252).map(|_| numbers.next() as u8).collect();
     let mut descriptors = Vec::new();
     let mut feature = 0;

@@ -1,6 +1,7 @@
 //! Tests, and what they share.
 
 mod cross;
+mod import;
 mod refusals;
 mod sheets;
 mod worked;

@@ -1,16 +1,20 @@
 -- `checks::input_fault` meets its contract: each early return is a case of the definition.
-use Rattle.checks.proofs.Input.{input-refused, input-cut, input-whole}
+use Rattle.reading.proofs.Input.{input-refused, input-cut, input-whole}
+use Rattle.checks.specs.Input.{inputFault}
 use borrow.Author.Needs.{needs}
 use Rattle.checks.proofs.input_fault.Statement.{statement}
 use Rattle.checks.proofs.input_fault.Tie as tie
 
 returns : tie.Need-returns
+unfolding inputFault
 returns c = search input-refused
 
 returns-2 : tie.Need-returns-2
+unfolding inputFault
 returns-2 c = search input-cut
 
 returns-3 : tie.Need-returns-3
+unfolding inputFault
 returns-3 c = search input-whole
 
 pub input-fault-spec : {M : Type 1} → statement M

@@ -5,12 +5,14 @@ use std::sync::atomic::{AtomicUsize, Ordering};
 use std::time::Instant;
 
 use against::boundary;
+use against::made::captures::{example, long_bodies, no_bodies};
 use against::made::responses::{long_faultless, response_of, ruled_parts, sent, MOST};
 use against::made::sheets::{body, every_feature, in_a_row, longest, profiles, sheet_of, E};
 use against::made::Part;
 use second::bench::bench;
 use second::checks::{check_descriptors, check_profile};
 use second::command::{respond, respond_checked, Request};
+use second::import::import;
 use second::reading::read;
 use second::sheet::{check, Sheet};
 use second::wire::{Feature, Profile};
@@ -68,6 +70,7 @@ fn main() {
     readings(effort);
     sweeps(effort);
     checks_of_responses(effort);
+    imports(effort);
 }
 
 /// Reads the command line; none if it is not understood.
@@ -305,6 +308,30 @@ fn checks_of_responses(effort: Effort) {
                         + numbers[1] as usize
                 }),
                 plain: Box::new(|| usize::from(check_profile(Profile(0x0012), seen(response)).fields().2 .0)),
+            },
+        );
+    }
+}
+
+/// Imports of sheet E's response and of the longest responses, with long bodies and with none.
+fn imports(effort: Effort) {
+    let captures = [
+        ("sheet E's response", example()),
+        ("65,532 bytes, bodies of 252 bytes", sent(&long_bodies(), 0, 0, 65_535)),
+        ("65,532 bytes, no bodies", sent(&no_bodies(), 0, 0, 65_535)),
+    ];
+    for (name, capture) in &captures {
+        let (mut one, mut two) = (vec![0; 2 * MOST], vec![0; 2 * MOST]);
+        let mut numbers = [0];
+        time(
+            effort,
+            Case {
+                name: format!("import of {name}"),
+                bytes: capture.len(),
+                proved: Box::new(|| {
+                    usize::from(boundary::import(seen(capture), &mut one, &mut numbers)) + numbers[0] as usize
+                }),
+                plain: Box::new(|| import(seen(capture), &mut two).unwrap_or(0)),
             },
         );
     }

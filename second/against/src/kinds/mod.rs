@@ -7,6 +7,7 @@ mod check_profile;
 mod check_sheet;
 mod commands;
 mod held;
+mod import;
 mod list;
 mod most;
 mod read;
@@ -32,6 +33,7 @@ pub const KINDS: &[Kind] = &[
     bench::KIND,
     check_descriptors::KIND,
     check_profile::KIND,
+    import::KIND,
 ];
 
 /// A record as the numbers of a result.

@@ -1,5 +1,6 @@
 //! Inputs: good ones, ones with chosen faults, and damaged ones.
 
+pub mod captures;
 pub mod damage;
 pub mod faults;
 pub mod responses;

@@ -6,7 +6,8 @@ use native.Mathlib.Omega.{arith}
 use lib.ListN.{length}
 use Rattle.checks.specs.Pick.{some}
 use Rattle.checks.specs.Input.{descs}
-use Rattle.checks.proofs.Complete.{from, walk-start, walk-found, walk-next, walk-end}
+use Rattle.reading.specs.Places.{from}
+use Rattle.checks.proofs.Complete.{walk-start, walk-found, walk-next, walk-end}
 use Rattle.checks.proofs.Calls.{call-true, call-false}
 use Rattle.checks.specs.Required.{gives}
 use Rattle.checks.proofs.required.given_in.Statement.{statement}

@@ -8,7 +8,8 @@ use lib.Dec.{eqb}
 use lib.ListN.{length}
 use Rattle.checks.specs.Pick.{pick}
 use Rattle.checks.specs.Input.{descs}
-use Rattle.checks.proofs.Complete.{from, walk-start, walk-found, walk-next, walk-end}
+use Rattle.reading.specs.Places.{from}
+use Rattle.checks.proofs.Complete.{walk-start, walk-found, walk-next, walk-end}
 use Rattle.checks.proofs.Calls.{call-some, call-zero}
 use Rattle.text.specs.First.{accept}
 use Rattle.text.specs.Reading.{numberAt, descAt}

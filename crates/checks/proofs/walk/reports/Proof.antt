@@ -9,7 +9,8 @@ use Rattle.text.specs.Reading.{numberAt, descAt}
 use Rattle.checks.specs.Pick.{some}
 use Rattle.checks.specs.Input.{descs, reported}
 use Rattle.checks.proofs.Calls.{call-eq, call-ne}
-use Rattle.checks.proofs.Complete.{from, walk-start, walk-found, walk-next, walk-end}
+use Rattle.reading.specs.Places.{from}
+use Rattle.checks.proofs.Complete.{walk-start, walk-found, walk-next, walk-end}
 use Rattle.checks.proofs.walk.reports.Statement.{statement}
 use Rattle.checks.proofs.walk.reports.Tie as tie
 

@@ -1,0 +1,20 @@
+-- `answerer::answer_of` meets its contract: the buffer is as long as the longest answer. Assumes nothing.
+use mathlib.Core.Path.{sym, _∙_}
+use Prim.Native.Nat.{_≤_}
+use native.Mathlib.Omega.{arith}
+use lib.ListN.{length}
+use lib.Seq.{length-take-le}
+use Rattle.answerer.proofs.Asked.{asked, asked-count}
+use borrow.Author.Needs.{needs}
+use Rattle.answerer.proofs.answer_of.Statement.{statement}
+use Rattle.answerer.proofs.answer_of.Tie as tie
+
+returns : tie.Need-returns
+returns c =
+    let a = c .before .before .before .before .args in
+    let i = c .respond in
+    let h : i .result .count ≤ length (i .last .1 .1 .0) = rw (← i .ensures) at (asked-count (a .sheet .now) (a .response .now) (omega arith)) in
+    ((h, sym (length-take-le (i .result .count) (i .last .1 .1 .0) h)), i .ensures ∙ asked (a .sheet .now) (a .response .now) (omega arith))
+
+pub answer-of-spec : {M : Type 1} → statement M
+answer-of-spec = tie.close (tie.spec (λ c. search needs) (λ c κs. search needs) returns)

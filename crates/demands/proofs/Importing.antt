@@ -1,0 +1,199 @@
+-- Captured responses: "Turn a complete response to RT 0 from 0 into a drive sheet. Asked RT 0 from 0 with a sufficient allocation, the box must
+-- give back the captured bytes exactly; a sheet whose full response fits 65,532 bytes must come back from its own response unchanged. Demands 2
+-- and 3 hold for imported sheets as for any." `imported`, in crates/import/specs/Import.antt, is what the contract of `import::import` says;
+-- `sheetFrom r` is the sheet that it makes of the response r. Assumes nothing.
+use mathlib.Core.Path.{_≡_, refl, ap, _∙_}
+use mathlib.Core.Bool.{Bool, true, false, _||_}
+use mathlib.Core.List.{List, [], _∷_, _++_}
+use Prim.Native.Nat.{ℕ, _≤_, _<_}
+use native.Mathlib.Omega.{arith}
+use lib.Dec.{eqb}
+use lib.ListN.{length, take, drop, replicate}
+use lib.Seq.{take-append-seam}
+use Rattle.base.specs.Lists.{each, flat, keep, Bytes}
+use Rattle.fields.specs.Field.{field, spell}
+use Rattle.text.specs.First.{refuse, accept, _if_else_, pickZero, _orElse_, firstOf}
+use Rattle.text.specs.Command.{opcodeOf, rtOf, sfnOf, allocationOf, commandFault}
+use Rattle.text.specs.Drive.{profileBytes}
+use Rattle.text.specs.Response.{bytes, feature0, all, wants, selected, currentProfile, header, dataLength, full, sent}
+use Rattle.text.specs.Reading as text
+use Rattle.text.proofs.Sent.{sent-whole}
+use Rattle.layout.specs.Layout as layout
+use Rattle.sheet.specs.Check.{profileRule, flagsRule, verdict, Accepted}
+use Rattle.sheet.specs.Meaning.{desc, listed, meaning, contents, sheetOf}
+use Rattle.sheet.proofs.Meaning.{meaning-fine}
+use Rattle.sheet.proofs.Build.{sheet-back}
+use Rattle.responder.specs.Answer as box
+use Rattle.bench.specs.Bench.{benched}
+use Rattle.bench.specs.Swept.{Premises, Swept, Ended}
+use Rattle.import.specs.Import as import
+use Rattle.import.specs.Import.{captureFault, sheetFrom, outcome, imported}
+use Rattle.import.proofs.Capture.{from-accepted, from-bytes, from-full, captured-short}
+use Rattle.import.proofs.Own.{own-accepted, own-sheet}
+use Rattle.import.proofs.Answers.{imported-fault, imported-short, imported-written, imported-zero}
+use Rattle.import.proofs.Numbers.{imported-is}
+use Rattle.demands.specs.Recorder.{sheetE, command}
+use Rattle.demands.proofs.Sending.{due, demand2}
+use Rattle.demands.proofs.Readings.{ReadBack, demand2-own}
+use Rattle.demands.proofs.Sweeping.{demand3, ends, bytesE, acceptedE}
+
+-- The answer is: for a response that is not refused and a buffer with room for its sheet, exactly the sheet, and nothing behind it changes; for
+-- anything else the first refusal, in the paper's order, the count 0, "the buffer is unchanged".
+pub record Imports (r d : List ℕ) : Type 0 where
+  pub writes : captureFault r .number ≡ 0 → length (sheetFrom r) ≤ length d
+      → imported r d ≡ outcome record { refusal = accept; count = length (sheetFrom r) } (sheetFrom r ++ drop (length (sheetFrom r)) d)
+  pub refuses-capture : (captureFault r .number ≡ 0 → ⊥) → imported r d ≡ outcome record { refusal = captureFault r; count = 0 } d
+  pub refuses-room : captureFault r .number ≡ 0 → length d < length (sheetFrom r) → imported r d ≡ outcome record { refusal = refuse 42; count = 0 } d
+
+pub imports : (r d : List ℕ) → Imports r d
+imports r d = record { writes = imported-written r d; refuses-capture = imported-fault r d; refuses-room = imported-short r d }
+
+-- ---- an imported sheet is a sheet
+
+-- A response that is not refused gives an accepted sheet.
+pub imported-accepted : (r : List ℕ) → Bytes r → captureFault r .number ≡ 0 → Accepted (sheetFrom r)
+imported-accepted = from-accepted
+
+-- It is what stands in the buffer when import answers 0.
+pub record Stored (r d : List ℕ) : Type 0 where
+  pub sheet : take (imported r d .answer .count) (imported r d .buffer) ≡ sheetFrom r
+  pub accepted : Accepted (take (imported r d .answer .count) (imported r d .buffer))
+
+pub stored : (r d : List ℕ) → Bytes r → imported r d .answer .refusal .number ≡ 0 → Stored r d
+stored r d b e =
+    let z = imported-zero r d e in
+    let x : take (imported r d .answer .count) (imported r d .buffer) ≡ sheetFrom r =
+    rw (imported-written r d (z .0) (z .1)) (take-append-seam (sheetFrom r) (drop (length (sheetFrom r)) d)) in
+    record { sheet = x; accepted = rw x (imported-accepted r b (z .0)) }
+
+-- ---- "Asked RT 0 from 0 with a sufficient allocation, the box must give back the captured bytes exactly"
+
+-- For RT 0 from 0 with an allocation length of at least its bytes, the bytes sent are the captured ones.
+pub replayed : (r : List ℕ) → Bytes r → captureFault r .number ≡ 0 → (a : ℕ) → length r ≤ a → sent 0 0 a (meaning (sheetFrom r)) ≡ r
+replayed r b e a l =
+    let f : full 0 0 (meaning (sheetFrom r)) ≡ r = from-full r b e in
+    sent-whole 0 0 a (meaning (sheetFrom r)) (rw f (captured-short r e)) (rw f l) ∙ f
+
+-- So the box's answer to any such command, into a buffer with room for them, is no refusal, their count, and these bytes.
+pub replayed-answer : (r c d : List ℕ) → Bytes r → captureFault r .number ≡ 0
+    → commandFault c .number ≡ 0 → rtOf c ≡ 0 → sfnOf c ≡ 0 → length r ≤ allocationOf c → length r ≤ length d
+    → box.answered (sheetFrom r) c d ≡ box.outcome record { refusal = accept; count = length r } (r ++ drop (length r) d)
+replayed-answer r c d b e ok rt sfn l room =
+    let x : due (sheetFrom r) c ≡ r = rw (rt, sfn) (replayed r b e (allocationOf c) l) in
+    demand2 (sheetFrom r) c d .sends (imported-accepted r b e) ok (rw x room)
+    ∙ ap (λ (xs : List ℕ). box.outcome record { refusal = accept; count = length xs } (xs ++ drop (length xs) d)) x
+
+command-plain : (a : ℕ) → commandFault (command 0 0 a) .number ≡ 0
+unfolding command spell commandFault opcodeOf rtOf _if_else_
+command-plain a = refl
+
+command-rt : (a : ℕ) → rtOf (command 0 0 a) ≡ 0
+unfolding command spell rtOf
+command-rt a = refl
+
+command-sfn : (a : ℕ) → sfnOf (command 0 0 a) ≡ 0
+unfolding command spell field sfnOf
+command-sfn a = refl
+
+command-allocation : (a : ℕ) → a ≤ 65535 → allocationOf (command 0 0 a) ≡ a
+unfolding command spell field allocationOf
+command-allocation a l = omega arith
+
+-- Such a command is 46h 00h 00h 00h 00h 00h 00h, the allocation length in two bytes, 00h.
+pub replayed-command : (r d : List ℕ) → Bytes r → captureFault r .number ≡ 0 → (a : ℕ) → length r ≤ a → a ≤ 65535 → length r ≤ length d
+    → box.answered (sheetFrom r) (command 0 0 a) d ≡ box.outcome record { refusal = accept; count = length r } (r ++ drop (length r) d)
+replayed-command r d b e a l m room =
+    replayed-answer r (command 0 0 a) d b e (command-plain a) (command-rt a) (command-sfn a) (rw (command-allocation a m) l) room
+
+-- And so it does from the sheet that stands in the buffer when import answers 0.
+pub replayed-stored : (r d c e : List ℕ) → Bytes r → imported r d .answer .refusal .number ≡ 0
+    → commandFault c .number ≡ 0 → rtOf c ≡ 0 → sfnOf c ≡ 0 → length r ≤ allocationOf c → length r ≤ length e
+    → box.answered (take (imported r d .answer .count) (imported r d .buffer)) c e ≡ box.outcome record { refusal = accept; count = length r } (r ++ drop (length r) e)
+replayed-stored r d c e b z = rw (stored r d b z .sheet) (replayed-answer r c e b (imported-zero r d z .0))
+
+-- ---- "a sheet whose full response fits 65,532 bytes must come back from its own response unchanged"
+
+-- Its full response to RT 0 from 0 is not refused, and the sheet made of it is the sheet itself.
+pub unchanged : (s : List ℕ) → Bytes s → Accepted s → length (full 0 0 (meaning s)) ≤ 65532
+    → (captureFault (full 0 0 (meaning s)) ≡ accept) × (sheetFrom (full 0 0 (meaning s)) ≡ s)
+unchanged s b ok l =
+    let f = meaning-fine s b ok in
+    (own-accepted f (omega arith), own-sheet f (omega arith) ∙ sheet-back s b ok)
+
+-- So import answers with no refusal and the sheet's length, and the sheet stands at the front of a buffer with room for it.
+pub unchanged-import : (s d : List ℕ) → Bytes s → Accepted s → length (full 0 0 (meaning s)) ≤ 65532 → length s ≤ length d
+    → imported (full 0 0 (meaning s)) d ≡ outcome record { refusal = accept; count = length s } (s ++ drop (length s) d)
+unchanged-import s d b ok l room =
+    let u = unchanged s b ok l in
+    imported-written (full 0 0 (meaning s)) d (ap (λ r. r .number) (u .0)) (rw (u .1) room)
+    ∙ ap (λ (x : List ℕ). outcome record { refusal = accept; count = length x } (x ++ drop (length x) d)) (u .1)
+
+-- ---- "Demands 2 and 3 hold for imported sheets as for any."
+
+module _ (r : List ℕ) (b : Bytes r) (e : captureFault r .number ≡ 0) where
+  -- Demand 2, first half: for each accepted command the bytes sent are those the text defines for the imported sheet.
+  pub demand2-imported : (c d : List ℕ) → commandFault c .number ≡ 0 → length (due (sheetFrom r) c) ≤ length d
+      → box.answered (sheetFrom r) c d ≡ box.outcome record { refusal = accept; count = length (due (sheetFrom r) c) } (due (sheetFrom r) c ++ drop (length (due (sheetFrom r) c)) d)
+  demand2-imported c d = demand2 (sheetFrom r) c d .sends (imported-accepted r b e)
+
+  -- Demand 2, second half: what is sent of it, read, gives back the profile and each whole descriptor.
+  pub demand2-own-imported : (rt sfn a : ℕ) → rt ≤ 2 → 8 ≤ a → ReadBack (meaning (sheetFrom r)) rt sfn a
+  demand2-own-imported = demand2-own (sheetFrom r) (from-bytes r b e) (imported-accepted r b e)
+
+  -- Demand 3: a sweep of it collects each wanted descriptor once, ascending, byte for byte, in few commands.
+  pub demand3-imported : (rt a : ℕ) (response collected starts : List ℕ) → Premises (meaning (sheetFrom r)) rt a response collected starts
+      → Swept (meaning (sheetFrom r)) rt a response collected starts (benched (sheetFrom r) rt a response collected starts)
+  demand3-imported rt a response collected starts = demand3 (sheetFrom r) rt a response collected starts (from-bytes r b e) (imported-accepted r b e)
+
+  -- Whatever the room, it ends with success or with 12, 23, 24 or 25.
+  pub ends-imported : (rt a : ℕ) (response collected starts : List ℕ) → rt < 2 → 8 ≤ a
+      → Ended (meaning (sheetFrom r)) rt a response collected starts (benched (sheetFrom r) rt a response collected starts)
+  ends-imported rt a response collected starts = ends (sheetFrom r) rt a response collected starts (from-bytes r b e) (imported-accepted r b e)
+
+-- ---- which numbers import can give
+
+-- n is one of the numbers
+unfoldable pub oneOf : List ℕ → ℕ → Bool
+oneOf [] n = false
+oneOf (k ∷ ks) n = eqb n k || oneOf ks n
+
+-- For every response and every buffer: no refusal, "the reading's 14 to 18 and 20, 29, then 41, then the sheet's own 3 and 5, then 42", and no
+-- other number. The sheet's other numbers cannot occur: an accepted reading ascends (4) and has lengths that are multiples of 4 (6), so that
+-- feature 0's body has at most 252 bytes, 63 profiles (2), and the sheet is written with the counts, offsets and end that it must have (1, 7, 8).
+pub numbers : (r d : List ℕ) → oneOf (0 ∷ 14 ∷ 15 ∷ 16 ∷ 17 ∷ 18 ∷ 20 ∷ 29 ∷ 41 ∷ 3 ∷ 5 ∷ 42 ∷ []) (imported r d .answer .refusal .number) ≡ true
+unfolding oneOf
+numbers = imported-is (λ n. oneOf (0 ∷ 14 ∷ 15 ∷ 16 ∷ 17 ∷ 18 ∷ 20 ∷ 29 ∷ 41 ∷ 3 ∷ 5 ∷ 42 ∷ []) n ≡ true) refl refl refl refl refl refl refl refl refl refl refl refl
+
+-- It gives each of them.
+abbrev number : (r d : List ℕ) → ℕ
+number r d = imported r d .answer .refusal .number
+
+pub each-number :
+    (number [] [] ≡ 14)
+    × (number (0 ∷ 0 ∷ 0 ∷ 0 ∷ 0 ∷ 0 ∷ 0 ∷ 0 ∷ []) [] ≡ 15)
+    × (number (0 ∷ 0 ∷ 0 ∷ 4 ∷ 0 ∷ 0 ∷ 0 ∷ 0 ∷ 0 ∷ []) [] ≡ 16)
+    × (number (0 ∷ 0 ∷ 0 ∷ 8 ∷ 0 ∷ 0 ∷ 0 ∷ 0 ∷ 0 ∷ 0 ∷ 3 ∷ 1 ∷ []) [] ≡ 17)
+    × (number (0 ∷ 0 ∷ 0 ∷ 12 ∷ 0 ∷ 0 ∷ 0 ∷ 0 ∷ 0 ∷ 0 ∷ 3 ∷ 0 ∷ 0 ∷ 0 ∷ 3 ∷ 0 ∷ []) [] ≡ 18)
+    × (number (0 ∷ 0 ∷ 0 ∷ 8 ∷ 0 ∷ 0 ∷ 0 ∷ 0 ∷ 0 ∷ 0 ∷ 3 ∷ 4 ∷ []) [] ≡ 20)
+    × (number (0 ∷ 0 ∷ 0 ∷ 8 ∷ 0 ∷ 0 ∷ 0 ∷ 0 ∷ []) [] ≡ 29)
+    × (number (0 ∷ 0 ∷ 0 ∷ 4 ∷ 0 ∷ 0 ∷ 0 ∷ 0 ∷ []) [] ≡ 41)
+    × (number (0 ∷ 0 ∷ 0 ∷ 12 ∷ 0 ∷ 0 ∷ 0 ∷ 0 ∷ 0 ∷ 0 ∷ 3 ∷ 4 ∷ 0 ∷ 0 ∷ 0 ∷ 0 ∷ []) [] ≡ 3)
+    × (number (0 ∷ 0 ∷ 0 ∷ 12 ∷ 0 ∷ 0 ∷ 0 ∷ 0 ∷ 0 ∷ 0 ∷ 3 ∷ 0 ∷ 0 ∷ 1 ∷ 2 ∷ 0 ∷ []) [] ≡ 5)
+    × (number (0 ∷ 0 ∷ 0 ∷ 8 ∷ 0 ∷ 0 ∷ 0 ∷ 0 ∷ 0 ∷ 0 ∷ 3 ∷ 0 ∷ []) (0 ∷ 0 ∷ 0 ∷ []) ≡ 42)
+    × (number (0 ∷ 0 ∷ 0 ∷ 8 ∷ 0 ∷ 0 ∷ 0 ∷ 0 ∷ 0 ∷ 0 ∷ 3 ∷ 0 ∷ []) (0 ∷ 0 ∷ 0 ∷ 0 ∷ []) ≡ 0)
+unfolding each flat field spell _if_else_ pickZero _orElse_ firstOf profileBytes currentProfile text.statedLength text.statedProfile text.headerRule text.headRule text.numberAt text.flagsAt text.lengthAt text.descAt text.headFault text.walk text.walked text.readFault text.wholes profileRule flagsRule contents sheetOf import.numberIn import.currentIn import.lastIn import.listedIn import.profilesIn import.captured import.ownRule import.profileFaultIn import.flagsFault import.sheetRule import.captureFault import.sheetFrom import.roomRule import.refusing import.writing import.unless import.imported
+each-number = (refl, refl, refl, refl, refl, refl, refl, refl, refl, refl, refl, refl)
+
+-- The sheet's check gives an imported sheet no number.
+pub verdict-imported : (r : List ℕ) → Bytes r → captureFault r .number ≡ 0 → verdict (sheetFrom r) ≡ accept
+verdict-imported r b e = ap refuse (imported-accepted r b e)
+
+-- ---- the premises can be met: the full response of sheet E, 44 bytes, and a buffer of 52
+
+fitsE : length (full 0 0 (meaning sheetE)) ≡ 44
+unfolding each flat keep field spell profileBytes bytes feature0 all wants selected currentProfile header dataLength full layout.featureCount layout.profileCount layout.number layout.flags layout.bodyLength layout.offset layout.profile layout.current desc listed meaning sheetE
+fitsE = refl
+
+pub importedE : imported (full 0 0 (meaning sheetE)) (replicate 52 0) ≡ outcome record { refusal = accept; count = 52 } sheetE
+unfolding sheetE
+importedE = unchanged-import sheetE (replicate 52 0) bytesE acceptedE (omega (arith, fitsE)) (omega arith)

@@ -1,0 +1,147 @@
+-- Two runs of stores beside each other in one buffer: the contents and the bodies. Assumes nothing.
+use mathlib.Core.Path.{_≡_, refl, sym, ap, _∙_}
+use mathlib.Core.List.{List, [], _∷_, _++_, append-assoc}
+use Prim.Native.Nat.{ℕ, suc, _+_, _*_, _/_, _≤_, _<_}
+use native.Mathlib.Omega.{arith}
+use lib.ListN.{length, set, length-append}
+use lib.Seq.{sets, set-comm, length-sets}
+use Rattle.base.specs.Lists.{flat}
+use Rattle.fields.specs.Field.{spell}
+use Rattle.fields.proofs.Laws.{length-spell}
+use Rattle.lent.specs.Wrote.{Wrote}
+use Rattle.lent.proofs.Sets.{sets-append}
+use Rattle.lent.proofs.Laws.{then, kept}
+use Rattle.text.specs.Drive.{Desc}
+use Rattle.text.specs.Reading.{lengthAt, descAt}
+use Rattle.reading.specs.Places.{from}
+use Rattle.reading.proofs.Places.{from-step, from-end}
+use Rattle.sheet.specs.Meaning.{contents}
+use Rattle.sheet.proofs.Pieces.{length-contents}
+use Rattle.import.specs.Pieces.{behind, bodies, entryOf, Fits, Filled, sheetBytes, Whole}
+
+-- ---- stores that do not meet
+
+set-sets : (d : List ℕ) (i : ℕ) (xs : List ℕ) (j y : ℕ) → i + length xs ≤ j → set (sets d i xs) j y ≡ sets (set d j y) i xs
+set-sets d i [] j y h = refl
+set-sets d i (x ∷ xs) j y h =
+    set-sets (set d i x) (suc i) xs j y (omega arith) ∙ ap (λ (l : List ℕ). sets l (suc i) xs) (set-comm d i j x y (λ e. omega arith))
+
+pub sets-comm : (d : List ℕ) (i : ℕ) (xs : List ℕ) (j : ℕ) (ys : List ℕ) → i + length xs ≤ j → sets (sets d i xs) j ys ≡ sets (sets d j ys) i xs
+sets-comm d i xs j [] h = refl
+sets-comm d i xs j (y ∷ ys) h =
+    ap (λ (l : List ℕ). sets l (suc j) ys) (set-sets d i xs j y h) ∙ sets-comm (set d j y) i xs (suc j) ys (omega arith)
+
+-- a run that has room
+pub wrote-sets : (d : List ℕ) (at : ℕ) (xs : List ℕ) (r : ℕ) → at + length xs ≤ length d → r ≡ at + length xs → Wrote d at xs r (sets d at xs)
+wrote-sets d at xs r h e = record { next = omega arith; holds = refl }
+
+-- one more at the front of each of two runs beside each other
+two-runs : (d x xs y ys : List ℕ) (i j : ℕ) → i + length x + length xs ≤ j
+    → sets (sets d i (x ++ xs)) j (y ++ ys) ≡ sets (sets (sets (sets d i x) j y) (i + length x) xs) (j + length y) ys
+two-runs d x xs y ys i j h =
+    ap (λ (l : List ℕ). sets l j (y ++ ys)) (sets-append d i x xs)
+    ∙ sets-append (sets (sets d i x) (i + length x) xs) j y ys
+    ∙ ap (λ (l : List ℕ). sets l (j + length y) ys) (sets-comm (sets d i x) (i + length x) xs j y h)
+
+-- ---- an entry
+
+pub length-entry : (d : Desc) (offset : ℕ) → length (entryOf d offset) ≡ 8
+unfolding entryOf
+length-entry d offset = simp (length-append, length-spell) (omega arith)
+
+contents-step : (at : ℕ) (d : Desc) (ds : List Desc) → contents at (d ∷ ds) ≡ entryOf d at ++ contents (at + length (d .body)) ds
+unfolding contents entryOf
+contents-step at d ds = rw (append-assoc (spell 2 (d .number)) (d .flags ∷ []) (length (d .body) ∷ []))
+
+-- ---- the loop: what the buffer holds in the end, told by what it holds now
+
+pub record Passed (s : List ℕ) (r : ℕ) (f : List ℕ) (entry next place : ℕ) (d : List ℕ) : Type 0 where
+  pub fits : Fits s entry next place d
+  pub filled : Filled s entry next place d r f
+
+module _ {s : List ℕ} {entry next place : ℕ} {d : List ℕ} where
+  pub passed-start : Fits s entry next place d
+      → Passed s (next + length (bodies (from s place))) (sets (sets d entry (contents next (from s place))) next (bodies (from s place))) entry next place d
+  passed-start h = record { fits = h; filled = record { next = refl; holds = refl } }
+
+  pub passed-end : {r : ℕ} {f : List ℕ} → Passed s r f entry next place d → length s ≤ place → (next ≡ r) × (d ≡ f)
+  unfolding contents flat
+  passed-end p h =
+      let e : from s place ≡ [] = from-end s place h in
+      (sym (p .filled .next ∙ rw e (omega arith)), sym (p .filled .holds ∙ rw e))
+
+module _ {s : List ℕ} {r : ℕ} {f : List ℕ} {entry next place : ℕ} {d : List ℕ} (p : Passed s r f entry next place d) (h : place < length s) where
+  pub passed-more : {entry′ next′ place′ : ℕ} {d′ d″ b : List ℕ}
+      → Wrote d entry (entryOf (descAt s place) next) entry′ d′ → b ≡ descAt s place .body → Wrote d′ next b next′ d″ → place′ ≡ place + 4 + lengthAt s place
+      → Passed s r f entry′ next′ place′ d″
+  unfolding flat
+  passed-more {entry′} {next′} {place′} {d′} {d″} {b} v q w n =
+      let x : Desc = descAt s place in
+      let ds : List Desc = from s place′ in
+      let e : from s place ≡ x ∷ ds = from-step s place h ∙ ap (λ (k : ℕ). x ∷ from s k) (sym n) in
+      let m : length (entryOf x next) ≡ 8 = length-entry x next in
+      let lb : length b ≡ length (x .body) = ap length q in
+      let lc : length (contents (next + length (x .body)) ds) ≡ 8 * length ds = length-contents (next + length (x .body)) ds in
+      let l : length (bodies (x ∷ ds)) ≡ length (x .body) + length (bodies ds) = length-append (x .body) (bodies ds) in
+      let apart : entry + 8 * suc (length ds) ≤ next = rw e at (p .fits .apart) in
+      let room : next + length (bodies (x ∷ ds)) ≤ length d = rw e at (p .fits .room) in
+      let low : next + length (bodies (x ∷ ds)) < 4294967296 = rw e at (p .fits .low) in
+      let all : r ≡ next + length (bodies (x ∷ ds)) = rw e at (p .filled .next) in
+      let k : length d″ ≡ length d = kept w ∙ kept v in
+      let a : entry′ ≡ entry + length (entryOf x next) = omega (arith, v .next) in
+      let c : next′ ≡ next + length (x .body) = omega (arith, w .next, kept v) in
+      record {
+        fits = record { apart = omega arith; room = omega arith; low = omega arith };
+        filled = record {
+          next = omega arith;
+          holds =
+              p .filled .holds
+              ∙ ap (λ (l : List Desc). sets (sets d entry (contents next l)) next (bodies l)) e
+              ∙ ap (λ (l : List ℕ). sets (sets d entry l) next (bodies (x ∷ ds))) (contents-step next x ds)
+              ∙ two-runs d (entryOf x next) (contents (next + length (x .body)) ds) (x .body) (bodies ds) entry next (omega arith)
+              ∙ rw (w .holds, v .holds, q, a, c);
+        };
+      }
+
+-- ---- the whole sheet
+
+pub length-sheetBytes : (b : List ℕ) (ds : List Desc) → length (sheetBytes b ds) ≡ 4 + 8 * length ds + length b + length (bodies ds)
+unfolding sheetBytes
+length-sheetBytes b ds = simp (length-append, length-spell, length-contents) (omega arith)
+
+module _ {s : List ℕ} {n : ℕ} {d : List ℕ} (w : Whole s n d) where
+  -- its pieces, each in its turn: the counts, the profile list, then contents and bodies
+  module _ {a entries body : ℕ} {d₁ d₂ d₃ b : List ℕ} (q : b ≡ descAt s 8 .body) (v₁ : Wrote d 0 (spell 2 n) a d₁) (v₂ : Wrote d₁ a (spell 2 (length b / 4)) entries d₂)
+      (v₃ : Wrote d₂ (4 + 8 * n) b body d₃) where
+    sizes : length (sheetBytes (descAt s 8 .body) (behind s)) ≡ 4 + 8 * n + length b + length (bodies (behind s))
+    sizes = length-sheetBytes (descAt s 8 .body) (behind s) ∙ rw (q, w .count)
+
+    entries-at : entries ≡ 4
+    entries-at = omega (arith, v₁ .next, v₂ .next, kept v₁, length-spell 2 n, length-spell 2 (length b / 4), sizes, w .room)
+
+    body-at : body ≡ 4 + 8 * n + length b
+    body-at = omega (arith, v₃ .next, kept v₁, kept v₂, sizes, w .room)
+
+    pub whole-fits : {first : ℕ} → first ≡ 8 + 4 + lengthAt s 8 → Fits s entries body first d₃
+    whole-fits {first} f = record {
+      apart = rw f (omega (arith, entries-at, body-at, w .count));
+      room = rw f (omega (arith, body-at, sizes, w .room, kept v₁, kept v₂, kept v₃));
+      low = rw f (omega (arith, body-at, sizes, w .low));
+    }
+
+    pub whole-written : {first r : ℕ} {e : List ℕ} → first ≡ 8 + 4 + lengthAt s 8 → Filled s entries body first d₃ r e → Wrote d 0 (sheetBytes (descAt s 8 .body) (behind s)) r e
+    unfolding sheetBytes
+    whole-written {first} {r} {e} f g =
+        let ds : List Desc = behind s in
+        let c : List ℕ = contents body ds in
+        let lc : length c ≡ 8 * length ds = length-contents body ds in
+        let room : 4 + 8 * n + length b + length (bodies ds) ≤ length d = omega (arith, sizes, w .room) in
+        let k : length d₂ ≡ length d = kept v₂ ∙ kept v₁ in
+        let w₁ : Wrote d₂ entries c (4 + 8 * n) (sets d₂ entries c) = wrote-sets d₂ entries c (4 + 8 * n) (omega (arith, entries-at, w .count)) (omega (arith, entries-at, w .count)) in
+        let w₂ : Wrote (sets d₂ entries c) (4 + 8 * n) b body (sets (sets d₂ entries c) (4 + 8 * n) b) =
+        wrote-sets (sets d₂ entries c) (4 + 8 * n) b body (omega (arith, length-sets d₂ entries c)) body-at in
+        let m : sets (sets d₂ entries c) (4 + 8 * n) b ≡ sets d₃ entries c =
+        sets-comm d₂ entries c (4 + 8 * n) b (omega (arith, entries-at, w .count)) ∙ ap (λ (l : List ℕ). sets l entries c) (sym (v₃ .holds)) in
+        let w₃ : Wrote (sets d₃ entries c) body (bodies ds) r (sets (sets d₃ entries c) body (bodies ds)) =
+        wrote-sets (sets d₃ entries c) body (bodies ds) r (omega (arith, body-at, length-sets d₃ entries c, kept v₃)) (rw f at (g .next)) in
+        rw (← q, ← w .count, ← body-at, rw f at (g .holds)) (then (then (then (then v₁ v₂) w₁) (rw m at w₂)) w₃)

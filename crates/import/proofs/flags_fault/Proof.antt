@@ -1,0 +1,31 @@
+-- `import::flags_fault` meets its contract: the loop carries what is left of the search.
+use borrow.Author.Needs.{needs}
+use Prim.Native.Nat.{_-_}
+use mathlib.Core.Path.{_≡_, refl}
+use native.Mathlib.Omega.{arith}
+use lib.ListN.{length}
+use Rattle.import.specs.Import.{flagsFault}
+use Rattle.reading.specs.Places.{from}
+use Rattle.import.proofs.Faults.{flags-stop, flags-go, flags-none}
+use Rattle.import.proofs.flags_fault.Statement.{statement}
+use Rattle.import.proofs.flags_fault.Tie as tie
+
+abbrev Inv-loop : tie.InvT-loop
+Inv-loop s first at₀ at = flagsFault (from s first) ≡ flagsFault (from s at)
+
+abbrev μ-loop : tie.MeasureT-loop
+μ-loop s first at₀ at = length s - at
+
+returns : tie.Need-returns Inv-loop μ-loop
+returns c = search flags-stop
+
+loop-again : tie.Need-loop-again Inv-loop μ-loop
+loop-again c = search flags-go
+
+returns-2 : tie.Need-returns-2 Inv-loop μ-loop
+returns-2 c = search flags-none
+
+pub flags-fault-spec : {M : Type 1} → statement M
+flags-fault-spec =
+    tie.close
+    (tie.spec Inv-loop μ-loop (λ c. refl) (λ c. search needs) (λ c κs. search needs) (λ c κs. search needs) returns (λ c κs. search needs) (λ c. omega arith) loop-again returns-2)

@@ -1,0 +1,18 @@
+-- `import::put_entry` meets its contract: four writings one after the other.
+use Rattle.lent.proofs.Laws.{then}
+use Rattle.text.specs.Reading.{numberAt, flagsAt, descAt}
+use Rattle.import.specs.Pieces.{entryOf}
+use borrow.Author.Needs.{needs}
+use Rattle.import.proofs.put_entry.Statement.{statement}
+use Rattle.import.proofs.put_entry.Tie as tie
+
+returns : tie.Need-returns
+unfolding entryOf descAt numberAt flagsAt
+returns c =
+    rw (← c .before .before .before .before .before .before .before .before .before .before .before .before .before .before .before .before .get2 .ensures, ← c .before .before .before .before .before .before .before .before .before .before .before .byte .ensures, ← c .before .before .before .before .before .before .before .before .before .before .before .before .before .before .before .before .before .before .body-at .ensures .0)
+    (then (then (then (c .before .before .before .before .before .before .before .before .before .before .before .before .before .before .before .put2 .ensures) (c .before .before .before .before .before .before .before .before .before .before .put .ensures)) (c .before .before .before .before .before .before .put3 .ensures)) (c .before .before .put4 .ensures))
+
+pub put-entry-spec : {M : Type 1} → statement M
+put-entry-spec =
+    tie.close
+    (tie.spec (λ c κs. search needs) (λ c κs. search needs) (λ c κs. search needs) (λ c. search needs) (λ c κs. search needs) (λ c κs. search needs) (λ c. search needs) (λ c κs. search needs) (λ c κs. search needs) (λ c. search needs) returns)

@@ -1,0 +1,50 @@
+-- `import::put_features` meets its contract: what the buffer holds in the end is told by what it holds at each turn.
+use borrow.Author.Needs.{needs}
+use mathlib.Core.Path.{_≡_, refl, _∙_}
+use Prim.Native.Nat.{_+_, _-_}
+use native.Mathlib.Omega.{arith}
+use lib.ListN.{length}
+use lib.Seq.{sets}
+use Rattle.lent.proofs.Laws.{kept}
+use Rattle.sheet.specs.Meaning.{contents}
+use Rattle.reading.specs.Places.{from}
+use Rattle.import.specs.Pieces.{bodies}
+use Rattle.import.proofs.Beside.{Passed, passed-start, passed-more, passed-end}
+use Rattle.import.proofs.put_features.Statement.{statement}
+use Rattle.import.proofs.put_features.Tie as tie
+
+abbrev Inv-loop : tie.InvT-loop
+Inv-loop sheet₀ entries body s first entry₀ next₀ place₀ sheet entry next place =
+    Passed s (body + length (bodies (from s first))) (sets (sets sheet₀ entries (contents body (from s first))) body (bodies (from s first))) entry next place sheet
+    × (length sheet ≡ length sheet₀)
+
+abbrev μ-loop : tie.MeasureT-loop
+μ-loop sheet₀ entries body s first entry₀ next₀ place₀ sheet entry next place = length s - place
+
+loop-holds : tie.Need-loop-holds Inv-loop μ-loop
+loop-holds c = (passed-start (c .before .before .pre), refl)
+
+cast-put-entry : tie.Need-cast-put-entry Inv-loop μ-loop
+cast-put-entry c = omega (arith, c .before .before .loop .inv .0 .fits .low)
+
+loop-less : tie.Need-loop-less Inv-loop μ-loop
+loop-less c = omega (arith, c .next-at .ensures)
+
+loop-again : tie.Need-loop-again Inv-loop μ-loop
+loop-again c = (
+  passed-more (c .before .before .before .before .before .before .before .before .before .before .before .loop .inv .0) (c .before .before .before .before .before .before .before .before .before .before .loop-test .taken) (c .before .before .before .before .before .before .before .before .put-entry .ensures) (c .before .before .before .before .body-at .ensures .0) (c .before .before .before .copy .ensures) (c .next-at .ensures),
+  kept (c .before .before .before .copy .ensures) ∙ kept (c .before .before .before .before .before .before .before .before .put-entry .ensures) ∙ c .before .before .before .before .before .before .before .before .before .before .before .loop .inv .1,
+)
+
+same-length : tie.Need-same-length Inv-loop μ-loop
+same-length c = c .before .loop .inv .1
+
+returns : tie.Need-returns Inv-loop μ-loop
+returns c =
+    let z = passed-end (c .before .loop .inv .0) (c .loop-test .left) in
+    record { next = z .0; holds = z .1 }
+
+pub put-features-spec : {M : Type 1} → statement M
+put-features-spec =
+    tie.close
+    (tie.spec Inv-loop μ-loop loop-holds cast-put-entry (λ c κs. search needs) (λ c κs. search needs) (λ c κs. search needs) (λ c κs. search needs) loop-less loop-again same-length returns)

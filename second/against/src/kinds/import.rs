@@ -1,0 +1,320 @@
+//! gcf_import.
+
+use super::READING;
+use crate::boundary;
+use crate::lent::{Given, Memory};
+use crate::made::captures::{
+    capture_of, example, good_import, import_faults, long_bodies, no_bodies, put_current, random_capture,
+    short_captures, spoil,
+};
+use crate::made::damage::damage;
+use crate::made::faults::{each_faulty_response, each_pair};
+use crate::made::responses::{each_short, length_to_send, long_responses, random_response, sent};
+use crate::made::sheets::{at_edges, body, in_a_row, profiles, random_sheet, sheet_of, short_sheets};
+use crate::made::{put16, Part};
+use crate::random::Random;
+use crate::run::{Input, Kind, Run};
+use second::command::Request;
+use second::wire::Feature;
+
+pub const KIND: Kind = Kind { name: "gcf_import", answers, fixed, random };
+
+/// The longest response that can be complete.
+const LONGEST: usize = 65_532;
+
+/// A reading's, 29, 41, and of the sheet's 3 and 5, and 42.
+fn answers() -> Vec<u64> {
+    READING.into_iter().chain([29, 41, 3, 5, 42]).collect()
+}
+
+/// Compares one import.
+fn compare(run: &mut Run, response: &Given, room: usize, numbers: usize) -> u64 {
+    run.compare(
+        &[Input::Bytes("response", response), Input::Number("room", room as u64)],
+        Memory::numbers(numbers).with_buffer(room),
+        |memory| {
+            let (sheet, numbers) = (memory.first.part(), memory.numbers.part());
+            u64::from(boundary::import(response.proved(), sheet, numbers))
+        },
+        |memory| {
+            let (number, length) = match second::import::import(response.plain(), memory.first.part()) {
+                Ok(length) => (0, length),
+                Err(number) => (number, 0),
+            };
+            memory.give(&[length as u64]);
+            u64::from(number)
+        },
+    )
+}
+
+/// The length of the sheet that a response gives, by the plain side; none if it is refused.
+fn sheet_length(response: &[u8]) -> Option<usize> {
+    second::import::import(response, &mut vec![0; 2 * response.len() + 8]).ok()
+}
+
+/// Compares with room enough, for a response that may be refused.
+fn compare_roomy(run: &mut Run, response: &[u8], numbers: usize) -> u64 {
+    let given = Given::new(response);
+    match sheet_length(response) {
+        Some(length) => compare(run, &given, length + numbers % 3, numbers),
+        None => compare(run, &given, response.len() % 2_048, numbers),
+    }
+}
+
+/// Compares an accepted response with just enough room, with more, with too little, and with none.
+fn each_room(run: &mut Run, response: &[u8]) {
+    let given = Given::new(response);
+    let length = sheet_length(response).unwrap_or(0);
+    for (more, numbers) in [(0, 1), (1, 0), (2, 2), (3, 3), (9, 1), (300, 4)] {
+        let answer = compare(run, &given, length + more, numbers);
+        run.expect(answer, 0);
+    }
+    for less in [1, 2, 3, 4, 5, 8, length / 2, length - 1, length] {
+        let answer = compare(run, &given, length - less.min(length), less % 4);
+        run.expect(answer, 42);
+    }
+}
+
+fn fixed(run: &mut Run) {
+    each_two_faults(run);
+    let mut numbers = 0;
+    let mut see = |response: &[u8]| {
+        numbers = (numbers + 1) % 4;
+        compare_roomy(run, response, numbers);
+    };
+    each_faulty_response(&mut see);
+    each_short(&mut see);
+    long_responses().iter().for_each(|response| see(response));
+    for sheet in short_sheets().iter().chain(&full_sheets()) {
+        round_trip(run, sheet);
+    }
+    for capture in short_captures() {
+        each_room(run, &capture);
+        each_cut(run, &capture);
+        each_bit(run, &capture);
+    }
+    each_two_bits(run);
+    each_profile_list(run);
+    each_flags(run);
+    around_the_limit(run);
+}
+
+/// Each fault and each two, in the order of the numbers.
+fn each_two_faults(run: &mut Run) {
+    let good = good_import();
+    let answer = compare(run, &Given::new(&good.capture), good.room, 1);
+    run.expect(answer, 0);
+    come_back(run, &good.capture);
+    each_pair(&good, &import_faults(), &mut |import, number| {
+        let numbers = import.capture.len() % 4;
+        let answer = compare(run, &Given::new(&import.capture), import.room, numbers);
+        run.expect(answer, u64::from(number));
+    });
+}
+
+/// What the proved box sends to RT 0 from 0 into so much room, with the longest allocation length.
+fn proved_response(sheet: &[u8], room: usize) -> Vec<u8> {
+    let command = Request { rt: 0, sfn: Feature(0), allocation: 65_535 }.bytes();
+    let (mut response, mut numbers) = (vec![0xA5; room], [0]);
+    boundary::respond(sheet, &command, &mut response, &mut numbers);
+    response.truncate(numbers[0] as usize);
+    response
+}
+
+/// What the proved import makes, with room enough.
+fn proved_sheet(response: &[u8]) -> Vec<u8> {
+    let (mut sheet, mut numbers) = (vec![0xA5; 2 * response.len() + 8], [0]);
+    boundary::import(response, &mut sheet, &mut numbers);
+    sheet.truncate(numbers[0] as usize);
+    sheet
+}
+
+/// A sheet comes back from its response, and the response from that.
+fn round_trip(run: &mut Run, sheet: &[u8]) {
+    let response = proved_response(sheet, length_to_send(sheet, 0, 0));
+    let answer = compare_roomy(run, &response, 1);
+    run.expect(answer, 0);
+    let back = proved_sheet(&response);
+    run.holds(back == sheet, "a sheet does not come back", &[Input::Bytes("sheet", &Given::new(sheet))]);
+    come_back(run, &response);
+}
+
+/// A capture that is accepted comes back from its sheet, which the proved check accepts.
+fn come_back(run: &mut Run, capture: &[u8]) {
+    let sheet = proved_sheet(capture);
+    let holds = boundary::check_sheet(&sheet) == 0 && proved_response(&sheet, capture.len() + 1) == capture;
+    run.holds(holds, "a capture does not come back", &[Input::Bytes("capture", &Given::new(capture))]);
+}
+
+/// Compares, and sees that a capture comes back if it is accepted.
+fn compare_and_back(run: &mut Run, capture: &[u8], numbers: usize) -> u64 {
+    let answer = compare_roomy(run, capture, numbers);
+    if answer == 0 {
+        come_back(run, capture);
+    }
+    answer
+}
+
+/// A capture cut at each byte.
+fn each_cut(run: &mut Run, capture: &[u8]) {
+    for cut in 0..capture.len() {
+        let answer = compare_roomy(run, &capture[..cut], cut % 3);
+        run.expect(answer, if cut < 8 { 14 } else { 29 });
+    }
+}
+
+/// A capture with each bit flipped.
+fn each_bit(run: &mut Run, capture: &[u8]) {
+    let mut bytes = capture.to_vec();
+    for bit in 0..8 * bytes.len() {
+        bytes[bit / 8] ^= 1 << (bit % 8);
+        compare_and_back(run, &bytes, bit % 3);
+        bytes[bit / 8] ^= 1 << (bit % 8);
+    }
+}
+
+/// E's response with each two bits flipped.
+fn each_two_bits(run: &mut Run) {
+    let mut bytes = example();
+    for one in 0..8 * bytes.len() {
+        bytes[one / 8] ^= 1 << (one % 8);
+        for two in 0..one {
+            bytes[two / 8] ^= 1 << (two % 8);
+            compare_roomy(run, &bytes, 1);
+            bytes[two / 8] ^= 1 << (two % 8);
+        }
+        bytes[one / 8] ^= 1 << (one % 8);
+    }
+}
+
+/// Each count of profiles with each one current, and each value of a profile's last two bytes.
+fn each_profile_list(run: &mut Run) {
+    let parts = in_a_row(2, 4);
+    for count in 0..=63 {
+        for current in 0..=count {
+            // The later ones are current too; with 0 as the first, none is.
+            let listed: Vec<(u16, bool)> =
+                (1..=count).map(|place| (0x1200 - place, current > 0 && place >= current)).collect();
+            let sheet = sheet_of(&listed, &parts);
+            round_trip(run, &sheet);
+            let mut wrong = sent(&sheet, 0, 0, 65_535);
+            for profile in [current, 0x1200 - count, 0x11FF, 0] {
+                put16(&mut wrong, 6, profile);
+                compare_and_back(run, &wrong, 1);
+            }
+            // The last one repeats the first.
+            if count > 1 {
+                wrong.copy_within(12..14, 12 + 4 * usize::from(count) - 4);
+                put_current(&mut wrong);
+                let answer = compare_roomy(run, &wrong, 1);
+                run.expect(answer, 3);
+            }
+        }
+    }
+    for byte in 0..=255 {
+        for at in [2, 3, 6, 7, 10, 11] {
+            let mut list = [0, 8, 0, 0, 0, 0x10, 1, 0, 0, 9, 1, 0];
+            list[at] = byte;
+            let mut capture = capture_of(&list, &parts);
+            for profile in [0, 8, 0x10, 9] {
+                put16(&mut capture, 6, profile);
+                compare_and_back(run, &capture, 1);
+            }
+        }
+    }
+}
+
+/// Each value of the flags, of feature 0 and of the others.
+fn each_flags(run: &mut Run) {
+    let parts = at_edges();
+    for flags in 0..=255 {
+        for at in 0..parts.len() {
+            let mut changed: Vec<Part> = parts.clone();
+            changed[at].1 = flags;
+            compare_and_back(run, &capture_of(&[0, 8, 1, 0], &changed), 1);
+        }
+        let mut capture = capture_of(&[0, 8, 1, 0], &parts);
+        capture[10] = flags;
+        let answer = compare_roomy(run, &capture, 1);
+        run.expect(answer, if flags == 3 { 0 } else { 41 });
+    }
+}
+
+/// Sheets whose responses have 65,532 bytes.
+fn full_sheets() -> [Vec<u8>; 3] {
+    let mut mixed = in_a_row(255, 252);
+    mixed.push((0xFFFF, 1, body(232)));
+    [long_bodies(), no_bodies(), sheet_of(&profiles(1, 1), &mixed)]
+}
+
+/// Responses of 65,528 to 65,536 bytes, whole and cut, with their last flags spoilt, and with each room.
+fn around_the_limit(run: &mut Run) {
+    for sheet in full_sheets() {
+        let capture = sent(&sheet, 0, 0, 65_535);
+        let length = capture.len();
+        run.holds(length == LONGEST, "a long capture has another length", &[]);
+        each_room(run, &capture);
+        for cut in [1, 2, 3, 4, 5, 255, 256, 257] {
+            let answer = compare_roomy(run, &capture[..length - cut], 1);
+            run.expect(answer, 29);
+        }
+        let mut spoilt = capture;
+        // Two bytes more are not more than the limit, but more than Data Length.
+        spoilt.extend_from_slice(&[0, 0]);
+        let answer = compare_roomy(run, &spoilt, 1);
+        run.expect(answer, 16);
+        spoilt.push(0);
+        let answer = compare_roomy(run, &spoilt, 1);
+        run.expect(answer, 14);
+    }
+    for last in [228, 232, 236, 240] {
+        let mut parts = in_a_row(255, 252);
+        parts.push((0x100, 1, body(last)));
+        let sheet = sheet_of(&profiles(1, 1), &parts);
+        let full = 65_296 + 4 + last;
+        let response = sent(&sheet, 0, 0, 65_535);
+        let answer = compare_roomy(run, &response, 1);
+        // A full response of more than 65,534 bytes is cut, so it is no capture.
+        run.expect(answer, if full <= LONGEST { 0 } else { 29 });
+        let mut spoilt = response;
+        spoilt[65_296 + 2] = 2;
+        let answer = compare_roomy(run, &spoilt, 1);
+        run.expect(answer, if full <= LONGEST { 5 } else { 29 });
+    }
+}
+
+fn random(run: &mut Run, random: &mut Random) {
+    let most = if random.once_in(100) { 16_380 } else { random.one_of(&[0, 3, 12, 12, 40, 300]) };
+    let sheet = random_sheet(random, most);
+    if length_to_send(&sheet, 0, 0) <= LONGEST {
+        round_trip(run, &sheet);
+    }
+    let capture = random_capture(random, most);
+    let answer = compare_and_back(run, &capture, random.below(4));
+    run.expect(answer, 0);
+    let length = sheet_length(&capture).unwrap_or(0);
+    let given = Given::new(&capture);
+    compare(run, &given, random.below(length + 9), random.below(4));
+    compare(run, &given, (length + random.below(9)).saturating_sub(4), random.below(4));
+    for _ in 0..8 {
+        damaged(run, random, &capture);
+    }
+    compare_and_back(run, &random_response(random, 0).bytes, 1);
+}
+
+/// Compares a capture that is spoilt in some fields or damaged anywhere.
+fn damaged(run: &mut Run, random: &mut Random, capture: &[u8]) {
+    let mut bytes = capture.to_vec();
+    if random.once_in(3) {
+        damage(random, &mut bytes);
+    } else {
+        for _ in 0..=random.below(3) {
+            spoil(random, &mut bytes);
+        }
+    }
+    let answer = compare_and_back(run, &bytes, random.below(4));
+    // With too little room all but an accepted one get the same number.
+    let room = random.below(bytes.len() + 1);
+    let short = compare(run, &Given::new(&bytes), room, random.below(4));
+    run.holds(short == answer || answer == 0 && short == 42, "the room changes a refusal", &[]);
+}
