@@ -1,12 +1,10 @@
 -- `abi::gcf_check_sheet` meets its contract: the number of what the check answers. Assumes nothing.
-use Rattle.text.specs.declared.Refusal.{Refusal}
-use mathlib.Core.Path.{ap}
 use borrow.Author.Needs.{needs}
 use Rattle.abi.proofs.gcf_check_sheet.Statement.{statement}
 use Rattle.abi.proofs.gcf_check_sheet.Tie as tie
 
 returns : tie.Need-returns
-returns c = ap (λ (r : Refusal). r .number) (c .check .ensures)
+returns c = cc
 
 pub gcf-check-sheet-spec : {M : Type 1} → statement M
 gcf-check-sheet-spec = tie.close (tie.spec (λ c κs. search needs) returns)
