@@ -1,6 +1,6 @@
 /*
- * The box and the driver in one program: a command is answered from sheet E, the answer is read, and then the whole drive is swept with an allocation
- * length of 20 bytes, as a driver with little memory would. tests/c-example builds and runs it.
+ * The box and the driver in one program: a command is answered from sheet E, the answer is read and judged, and then the whole drive is swept with an
+ * allocation length of 20 bytes, as a driver with little memory would. tests/c-example builds and runs it.
  */
 #include <inttypes.h>
 #include <stdio.h>
@@ -36,10 +36,10 @@ static int refused(const char *what, uint8_t number)
 }
 
 /* A transport would carry the command to the box and its answer back; here the box is a call away. Gives the number and the bytes sent. */
-static uint8_t ask(uint8_t rt, uint16_t sfn, uint16_t allocation, uint8_t *response, size_t room, size_t *sent)
+static uint8_t ask(uint8_t rt, gcf_feature sfn, uint16_t allocation, uint8_t *response, size_t room, size_t *sent)
 {
     const uint8_t command[GCF_COMMAND_BYTES] = {
-        0x46, rt, (uint8_t)(sfn >> 8), (uint8_t)sfn, 0, 0, 0, (uint8_t)(allocation >> 8), (uint8_t)allocation, 0,
+        0x46, rt, (uint8_t)(sfn.number >> 8), (uint8_t)sfn.number, 0, 0, 0, (uint8_t)(allocation >> 8), (uint8_t)allocation, 0,
     };
     uint64_t numbers[1];
     uint8_t number = gcf_respond_accepted(sheet, sizeof sheet, command, sizeof command, response, room, numbers, 1);
@@ -48,23 +48,39 @@ static uint8_t ask(uint8_t rt, uint16_t sfn, uint16_t allocation, uint8_t *respo
     return number;
 }
 
+/* What a driver asks of a response to RT 0 from 0: a feature's descriptor, and whether the drive has what a profile requires. */
+static void judge(const uint8_t *response, size_t count)
+{
+    static const uint16_t profiles[] = {0xFFFF, 0x0012};
+    uint8_t descriptor[GCF_DESCRIPTOR_MOST];
+    size_t held = gcf_held(gcf_feature_of(0x0003), response, count, response, 0, descriptor, sizeof descriptor);
+
+    if (gcf_descriptor_whole(descriptor, held)) {
+        print("descriptor", descriptor, held);
+    }
+    for (size_t i = 0; i < 2; i++) {
+        printf("profile %04X: %s\n", profiles[i], gcf_conforms(gcf_profile_of(profiles[i]), response, count) ? "conforms" : "does not conform");
+    }
+}
+
 static int answer_and_read(void)
 {
     uint8_t response[64];
     uint64_t numbers[5];
     size_t sent;
-    uint8_t number = ask(0, 0, 44, response, sizeof response, &sent);
+    uint8_t number = ask(0, gcf_feature_of(0), 44, response, sizeof response, &sent);
 
     if (number != GCF_ACCEPTED) {
         return refused("command", number);
     }
     print("response", response, sent);
-    number = gcf_read(0, 0, response, sent, numbers, 5);
+    number = gcf_read(0, gcf_feature_of(0), response, sent, numbers, 5);
     if (number != GCF_ACCEPTED) {
         return refused("reading", number);
     }
     printf("profile %04" PRIX64 ", Data Length %" PRIu64 ", %" PRIu64 " whole descriptors, the last ends at %" PRIu64 ", %s\n",
            numbers[0], numbers[1], numbers[2], numbers[3], numbers[4] ? "complete" : "cut");
+    judge(response, sent);
     return 0;
 }
 
@@ -77,7 +93,7 @@ static int sweep_all(void)
     uint8_t number = gcf_sweep_begin(&sweep, 0, sizeof response);
 
     while (number == GCF_ACCEPTED && !sweep.ended) {
-        printf("from %04X\n", sweep.next);
+        printf("from %04X\n", sweep.next.number);
         number = ask(sweep.rt, sweep.next, sweep.allocation, response, sizeof response, &sent);
         if (number == GCF_ACCEPTED) {
             number = gcf_sweep_on(&sweep, response, sent, collected, sizeof collected);

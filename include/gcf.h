@@ -24,6 +24,32 @@
 extern "C" {
 #endif
 
+/*
+ * Feature numbers and profile numbers: two types, so that a compiler refuses one in the other's place. gcf_feature_of(0x0003) and
+ * gcf_profile_of(0x0012) make them, .number is what they hold.
+ */
+typedef struct gcf_feature {
+    uint16_t number;
+} gcf_feature;
+
+typedef struct gcf_profile {
+    uint16_t number;
+} gcf_profile;
+
+static inline gcf_feature gcf_feature_of(uint16_t number)
+{
+    gcf_feature feature;
+    feature.number = number;
+    return feature;
+}
+
+static inline gcf_profile gcf_profile_of(uint16_t number)
+{
+    gcf_profile profile;
+    profile.number = number;
+    return profile;
+}
+
 /* The numbers that are given, in the paper's order. */
 enum gcf_number {
     GCF_ACCEPTED = 0,
@@ -101,8 +127,9 @@ uint8_t gcf_respond(const uint8_t *sheet, size_t sheet_bytes,
                     uint64_t *numbers, size_t numbers_count);
 
 /*
- * The same for a sheet that gcf_check_sheet has accepted and that has not changed since: 9 to 12, and no time spent on the sheet's check. Its cost
- * follows the bytes sent, not the size of the sheet. (With any other sheet it still keeps to its buffers; what it sends then means nothing.)
+ * The same for a sheet that gcf_check_sheet has accepted and that has not changed since: 9 to 12, and no time spent on the sheet's check. With RT 0
+ * and RT 2 its cost follows the bytes sent, not the size of the sheet; with RT 1 it looks at each entry from the first wanted one on, to add up
+ * Data Length. (With any other sheet it still keeps to its buffers; what it sends then means nothing.)
  * numbers: bytes sent.
  */
 uint8_t gcf_respond_accepted(const uint8_t *sheet, size_t sheet_bytes,
@@ -116,20 +143,31 @@ uint8_t gcf_respond_accepted(const uint8_t *sheet, size_t sheet_bytes,
  * Reads a response to Requested Type rt from feature sfn on: 13 to 20.
  * numbers: Current Profile, Data Length, whole descriptors, the place behind the last of them, 1 if complete or 0 if cut. Refused: all 0.
  */
-uint8_t gcf_read(uint8_t rt, uint16_t sfn,
+uint8_t gcf_read(uint8_t rt, gcf_feature sfn,
                  const uint8_t *response, size_t response_bytes,
                  uint64_t *numbers, size_t numbers_count);
 
 /*
  * Copies a feature's descriptor out of the fresh response if it is whole there, else out of the kept one, both responses to RT 0 from 0. Gives the
- * count of bytes written: 0 where neither holds it. GCF_DESCRIPTOR_MOST bytes are always enough; a shorter buffer gets the first bytes.
+ * count of bytes written: 0 where neither holds it (or the buffer has none). GCF_DESCRIPTOR_MOST bytes are always enough; a shorter buffer gets the
+ * first bytes, and gcf_descriptor_whole tells such a cut copy from a whole one.
  */
-size_t gcf_held(uint16_t feature,
+size_t gcf_held(gcf_feature feature,
                 const uint8_t *fresh, size_t fresh_bytes,
                 const uint8_t *kept, size_t kept_bytes,
                 uint8_t *descriptor, size_t descriptor_bytes);
 
-/* The listing of a response to RT 0 from 0 as text, without a zero byte behind it. Gives the count of bytes written. */
+/* Whether the `count` bytes that gcf_held wrote are all of the descriptor: its four header bytes, and the body of which the fourth says the length. */
+static inline bool gcf_descriptor_whole(const uint8_t *descriptor, size_t count)
+{
+    return count >= 4 && count == 4 + (size_t)descriptor[3];
+}
+
+/*
+ * The listing of a response to RT 0 from 0 as text, without a zero byte behind it. Gives the count of bytes written. It stops at the buffer's end:
+ * the text is whole where the count is below text_bytes, and always where text_bytes is GCF_LISTING_MOST or more. Else, with a count of text_bytes,
+ * it may be cut.
+ */
 size_t gcf_list(const uint8_t *response, size_t response_bytes, uint8_t *text, size_t text_bytes);
 
 /* The most bytes that a response has with this allocation length: the smaller of it and 65,534. */
@@ -143,7 +181,7 @@ uint8_t gcf_sweep_start(uint8_t rt, uint16_t allocation, uint64_t *numbers, size
  * behind those collected, and nothing else of the collecting buffer changed. Refused: nothing changed but, on 23, the mark that it has ended.
  * numbers: the record from then on, in the order of struct gcf_sweep.
  */
-uint8_t gcf_sweep_take(uint8_t rt, uint16_t allocation, uint16_t next, uint32_t commands, size_t collected, bool ended,
+uint8_t gcf_sweep_take(uint8_t rt, uint16_t allocation, gcf_feature next, uint32_t commands, size_t collected, bool ended,
                        const uint8_t *response, size_t response_bytes,
                        uint8_t *collecting, size_t collecting_bytes,
                        uint64_t *numbers, size_t numbers_count);
@@ -152,7 +190,7 @@ uint8_t gcf_sweep_take(uint8_t rt, uint16_t allocation, uint16_t next, uint32_t 
 struct gcf_sweep {
     uint8_t rt;
     uint16_t allocation;
-    uint16_t next;      /* the Starting Feature Number to ask for */
+    gcf_feature next;   /* the Starting Feature Number to ask for */
     uint32_t commands;  /* responses accepted so far */
     size_t collected;   /* bytes collected so far */
     bool ended;
@@ -162,7 +200,7 @@ static inline void gcf_sweep_put(struct gcf_sweep *sweep, const uint64_t numbers
 {
     sweep->rt = (uint8_t)numbers[0];
     sweep->allocation = (uint16_t)numbers[1];
-    sweep->next = (uint16_t)numbers[2];
+    sweep->next = gcf_feature_of((uint16_t)numbers[2]);
     sweep->commands = (uint32_t)numbers[3];
     sweep->collected = (size_t)numbers[4];
     sweep->ended = numbers[5] != 0;
@@ -200,14 +238,22 @@ uint8_t gcf_bench(const uint8_t *sheet, size_t sheet_bytes, uint8_t rt, uint16_t
                   uint16_t *starts, size_t starts_count,
                   uint64_t *numbers, size_t numbers_count);
 
-/* Checks the descriptors of a response to RT 0 from 0: the reading's numbers, 29, then 30 to 39. numbers: the feature at fault. */
+/* Checks the descriptors of a response to RT 0 from 0: the reading's numbers, 29, then 30 to 39. numbers: the feature at fault, 0 but for 30 to 39. */
 uint8_t gcf_check_descriptors(const uint8_t *response, size_t response_bytes, uint64_t *numbers, size_t numbers_count);
 
 /*
- * Whether a response to RT 0 from 0 has what a profile requires: the reading's numbers, 29, 40.
+ * Whether a response to RT 0 from 0 has what a profile requires: the reading's numbers, 29, 40. 0 says only that it could be judged; whether it has
+ * all is the first of the numbers, and gcf_conforms asks for both.
  * numbers: 1 if a feature is missing or 0, and the lowest that is. Refused: 0, 0.
  */
-uint8_t gcf_check_profile(uint16_t profile, const uint8_t *response, size_t response_bytes, uint64_t *numbers, size_t numbers_count);
+uint8_t gcf_check_profile(gcf_profile profile, const uint8_t *response, size_t response_bytes, uint64_t *numbers, size_t numbers_count);
+
+/* Whether the response could be judged, and has every feature that the profile requires. */
+static inline bool gcf_conforms(gcf_profile profile, const uint8_t *response, size_t response_bytes)
+{
+    uint64_t numbers[2];
+    return gcf_check_profile(profile, response, response_bytes, numbers, 2) == GCF_ACCEPTED && numbers[0] == 0;
+}
 
 /* ---- import */
 

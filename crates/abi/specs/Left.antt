@@ -4,6 +4,7 @@ use mathlib.Core.List.{List, [], _∷_}
 use Prim.Native.Nat.{ℕ}
 use lib.Seq.{sets}
 use Rattle.text.specs.Drive.{bit}
+use Rattle.text.specs.declared.Feature.{Feature}
 use Rattle.text.specs.declared.Reading.{Reading}
 use Rattle.responder.specs.Answer as responder
 use Rattle.sweep.specs.declared.Sweep.{Sweep}
@@ -45,9 +46,9 @@ read r ns = left (r .refusal .number) none (told ns (readingNumbers r))
 unfoldable pub recordNumbers : Sweep → List ℕ
 recordNumbers w = w .rt ∷ w .allocation ∷ w .next .0 ∷ w .commands ∷ w .collected ∷ bit (w .ended) ∷ []
 
-abbrev pub recordOf : (rt allocation next commands collected : ℕ) → Bool → Sweep
+abbrev pub recordOf : (rt allocation : ℕ) → Feature → (commands collected : ℕ) → Bool → Sweep
 recordOf rt allocation next commands collected ended =
-    record { rt = rt; allocation = allocation; next = record { 0 = next }; commands = commands; collected = collected; ended = ended }
+    record { rt = rt; allocation = allocation; next = next; commands = commands; collected = collected; ended = ended }
 
 -- a step of a sweep, B what the collecting buffer then holds
 unfoldable pub stepped : {B : Type 0} → Step → B → List ℕ → Left B

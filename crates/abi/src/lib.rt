@@ -117,10 +117,10 @@ pub extern "C" fn gcf_respond_accepted(
 
 // Reads a response. Numbers: profile, Data Length, whole descriptors, the place behind the last, 1 if complete.
 #[no_mangle]
-pub extern "C" fn gcf_read(rt: u8, sfn: u16, response: &[u8], numbers: &mut [u64]) -> u8
-    ensures { λ r. ⌜ left r none (now (numbers .exit)) ≡ read (reading 65534 rt sfn (now (response .entry))) (now (numbers .entry)) ⌝ }
+pub extern "C" fn gcf_read(rt: u8, sfn: Feature, response: &[u8], numbers: &mut [u64]) -> u8
+    ensures { λ r. ⌜ left r none (now (numbers .exit)) ≡ read (reading 65534 rt (sfn .0) (now (response .entry))) (now (numbers .entry)) ⌝ }
 {
-    let reading = reading::read(rt, Feature(sfn), response);
+    let reading = reading::read(rt, sfn, response);
     let fault = reading.refusal;
     tell_reading(numbers, reading);
     fault.number
@@ -129,14 +129,14 @@ pub extern "C" fn gcf_read(rt: u8, sfn: u16, response: &[u8], numbers: &mut [u64
 // Copies a feature's descriptor out of the fresh response if whole there, else out of the kept one; none leaves the buffer as it is.
 #[no_mangle]
 pub extern "C" fn gcf_held<'a>(
-    feature: u16,
+    feature: Feature,
     fresh: &'a [u8],
     kept: &'a [u8],
     descriptor: &mut [u8],
 ) -> usize
-    ensures { λ r. ⌜ Wrote (now (descriptor .entry)) 0 (heldOf feature (now (fresh .entry)) (now (kept .entry))) r (now (descriptor .exit)) ⌝ }
+    ensures { λ r. ⌜ Wrote (now (descriptor .entry)) 0 (heldOf (feature .0) (now (fresh .entry)) (now (kept .entry))) r (now (descriptor .exit)) ⌝ }
 {
-    let part = reading::held(Feature(feature), fresh, kept);
+    let part = reading::held(feature, fresh, kept);
     lent::copy(descriptor, 0, part)
 }
 
@@ -172,7 +172,7 @@ pub extern "C" fn gcf_sweep_start(rt: u8, allocation: u16, numbers: &mut [u64]) 
 pub extern "C" fn gcf_sweep_take(
     rt: u8,
     allocation: u16,
-    next: u16,
+    next: Feature,
     commands: u32,
     collected: usize,
     ended: bool,
@@ -188,7 +188,7 @@ pub extern "C" fn gcf_sweep_take(
     let record = Sweep {
         rt: rt,
         allocation: allocation,
-        next: Feature(next),
+        next: next,
         commands: commands,
         collected: collected,
         ended: ended,
@@ -235,10 +235,10 @@ pub extern "C" fn gcf_check_descriptors(response: &[u8], numbers: &mut [u64]) ->
 
 // Whether a response has what a profile requires. Numbers: 1 if a feature is missing, the lowest that is.
 #[no_mangle]
-pub extern "C" fn gcf_check_profile(profile: u16, response: &[u8], numbers: &mut [u64]) -> u8
-    ensures { λ r. ⌜ left r none (now (numbers .exit)) ≡ judged (checks.judged profile (now (response .entry))) (now (numbers .entry)) ⌝ }
+pub extern "C" fn gcf_check_profile(profile: Profile, response: &[u8], numbers: &mut [u64]) -> u8
+    ensures { λ r. ⌜ left r none (now (numbers .exit)) ≡ judged (checks.judged (profile .0) (now (response .entry))) (now (numbers .entry)) ⌝ }
 {
-    let judgement = checks::check_profile(Profile(profile), response);
+    let judgement = checks::check_profile(profile, response);
     match judgement {
         Judgement::Conforms => {
             tell2(numbers, 0, 0);

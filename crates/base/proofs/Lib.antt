@@ -1,4 +1,5 @@
--- Laws that the crates above cite, and what it is that a contract decides everything.
+-- Laws that the crates above cite, and what it is that a contract decides everything, and promises something of every outcome.
 pub mod Lists
 pub mod Decided
+pub mod Promise
 pub mod Compare

@@ -38,6 +38,7 @@ fn first_fault(s: &[u8], rt: u8, a: u16, space: usize) -> Refusal
 }
 
 // One round against a sheet that is accepted: the start is noted, the box is asked, the driver takes just the bytes sent.
+// Asks: an accepted sheet and a response buffer of C bytes or more, which the sheet's numbers and 12 have shown before.
 fn one_round(
     s: &[u8],
     w: Sweep,
@@ -65,6 +66,7 @@ fn one_round(
 }
 
 // Round after round, until the sweep has ended or a round is refused.
+// Asks: an accepted sheet, a response buffer of C bytes or more and a sweep that has just started; the sheet's numbers, 12 and the start come before.
 fn all_rounds(
     s: &[u8],
     w: Sweep,

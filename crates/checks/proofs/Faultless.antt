@@ -119,13 +119,13 @@ module _ (byte mask : ℕ) where
   unfolding reservedRule
   bits-accept h = if-no _ _ _ (not-no _ (eq-eqb _ _ h))
 
-module _ (number byte4 length : ℕ) where
-  cue-good : cueRule number byte4 length .number ≡ 0 → number ≡ 0x002E → byte4 / 32 % 2 ≡ 0 → length ≡ 0
+module _ (number byte4 cue : ℕ) where
+  cue-good : cueRule number byte4 cue .number ≡ 0 → number ≡ 0x002E → byte4 / 32 % 2 ≡ 0 → cue ≡ 0
   unfolding cueRule
   cue-good e h k =
       eqb-true _ _ (not-false _ (and-false _ _ (if-zero _ _ _ e .0) (true-and _ _ (eq-eqb _ _ h) (eq-eqb _ _ k))))
 
-  cue-accept : (number ≡ 0x002E → byte4 / 32 % 2 ≡ 0 → length ≡ 0) → cueRule number byte4 length ≡ accept
+  cue-accept : (number ≡ 0x002E → byte4 / 32 % 2 ≡ 0 → cue ≡ 0) → cueRule number byte4 cue ≡ accept
   unfolding cueRule
   cue-accept g =
       if-no _ _ _ (false-and _ _ (λ h. let a = and-true _ _ h in not-no _ (eq-eqb _ _ (g (eqb-true _ _ (a .0)) (eqb-true _ _ (a .1))))))

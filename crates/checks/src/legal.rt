@@ -94,7 +94,7 @@ const LEGAL: [Row; 11] = [
 ];
 
 // The highest feature that the table names: most features of a drive are above it and need no look at the table.
-const LAST_LISTED: u16 = 0x002F;
+const LAST_LISTED: Feature = Feature(0x002F);
 
 // A feature that the table does not name.
 const OTHER: Row = Row {
@@ -105,6 +105,7 @@ const OTHER: Row = Row {
 };
 
 // Row i.
+// Asks: an index inside the table; the walk stops at its end.
 fn row_at(i: usize) -> Row
     requires { ⌜ i < length legal ⌝ }
     ensures { λ r. ⌜ r ≡ getD legal i other ⌝ }
@@ -116,7 +117,7 @@ fn row_at(i: usize) -> Row
 pub fn row_of(f: Feature) -> Row
     ensures { λ r. ⌜ r ≡ rowOf (f .0) ⌝ }
 {
-    if LAST_LISTED < f.0 {
+    if LAST_LISTED.0 < f.0 {
         return OTHER;
     }
     let mut i = 0;

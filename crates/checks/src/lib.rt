@@ -42,6 +42,7 @@ fn input_fault(s: &[u8]) -> Refusal
 }
 
 // The check of the descriptors of a complete response.
+// Asks: a response that is accepted and complete, which the reading's numbers and 29 have shown before.
 fn check_all(s: &[u8]) -> Finding
     requires { ⌜ inputFault (now s) .number ≡ 0 ⌝ }
     ensures { λ r. ⌜ r ≡ checkedAll (descs (now (s .entry))) ⌝ }

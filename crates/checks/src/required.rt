@@ -137,6 +137,7 @@ const REQUIRED: [Need; 15] = [
 ];
 
 // Line i.
+// Asks: an index inside the table; the walk stops at its end.
 fn need_at(i: usize) -> Need
     requires { ⌜ i < length required ⌝ }
     ensures { λ r. ⌜ r ≡ getD required i (line 0 0) ⌝ }
@@ -171,11 +172,13 @@ fn gives_rule(need: Need, len: usize, byte: u8) -> bool
 }
 
 // Whether the descriptor at a place is what a line asks for.
+// Asks: a place inside the response; the walk stops at its end.
 fn gives_at(need: Need, s: &[u8], at: usize) -> bool
     requires { ⌜ at < length (now s) ⌝ }
     ensures { λ r. ⌜ r ≡ gives need (descAt (now (s .entry)) at) ⌝ }
 {
-    if fields::get2(s, at) != need.feature.0 {
+    let number = Feature(fields::get2(s, at));
+    if number.0 != need.feature.0 {
         return false;
     }
     let body = walk::body_at(s, at);
@@ -183,6 +186,7 @@ fn gives_at(need: Need, s: &[u8], at: usize) -> bool
 }
 
 // Whether some descriptor is what a line asks for.
+// Asks: a response that is accepted and complete, which the reading's numbers and 29 have shown before.
 fn given_in(need: Need, s: &[u8]) -> bool
     requires { ⌜ inputFault (now s) .number ≡ 0 ⌝ }
     ensures { λ r. ⌜ r ≡ some (gives need) (descs (now (s .entry))) ⌝ }
@@ -198,6 +202,7 @@ fn given_in(need: Need, s: &[u8]) -> bool
 }
 
 // Whether a line is the profile's and no descriptor is what it asks for.
+// Asks: a response that is accepted and complete, which the reading's numbers and 29 have shown before.
 fn lacking(profile: Profile, s: &[u8], need: Need) -> bool
     requires { ⌜ inputFault (now s) .number ≡ 0 ⌝ }
     ensures { λ r. ⌜ r ≡ lacks (profile .0) (descs (now (s .entry))) need ⌝ }
@@ -209,6 +214,7 @@ fn lacking(profile: Profile, s: &[u8], need: Need) -> bool
 }
 
 // The lowest feature that a complete response lacks of a profile.
+// Asks: a response that is accepted and complete, which the reading's numbers and 29 have shown before.
 pub fn lowest_missing(profile: Profile, s: &[u8]) -> Judgement
     requires { ⌜ inputFault (now s) .number ≡ 0 ⌝ }
     ensures { λ r. ⌜ said r ≡ lowest (profile .0) (descs (now (s .entry))) ⌝ }

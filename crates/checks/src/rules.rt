@@ -14,6 +14,7 @@ use super::legal::Length;
 use super::legal::Row;
 use super::walk;
 use text::Feature;
+use text::Profile;
 use text::Refusal;
 
 // ---- the rules, on numbers
@@ -38,10 +39,10 @@ fn flags_rule(flags: u8) -> Refusal
 }
 
 // Whether a body of len bytes is not as long as its row says; n is byte 7.
-fn wrong_length(length: Length, n: u8, len: usize) -> bool
-    ensures { λ r. ⌜ r ≡ wrongLength length n len ⌝ }
+fn wrong_length(wanted: Length, n: u8, len: usize) -> bool
+    ensures { λ r. ⌜ r ≡ wrongLength wanted n len ⌝ }
 {
-    match length {
+    match wanted {
         Length::Any => false,
         Length::Exactly(k) => len != k as usize,
         Length::Counted => {
@@ -169,11 +170,13 @@ fn reserved_fault(row: Row, body: &[u8]) -> Refusal
 }
 
 // 39 at profile i.
+// Asks: an index inside the profile list; the walk stops at its end.
 fn profile_at(body: &[u8], i: usize) -> Refusal
     requires { ⌜ i < length (now body) / 4 ⌝ }
     ensures { λ r. ⌜ r ≡ profileAt (now (body .entry)) i ⌝ }
 {
-    if fields::get2(body, 4 * i) == 0 {
+    let number = Profile(fields::get2(body, 4 * i));
+    if number.0 == 0 {
         return text::PROFILE_ZERO;
     }
     text::ACCEPTED
@@ -239,6 +242,7 @@ fn desc_fault(removable: bool, f: Feature, flags: u8, body: &[u8]) -> Refusal
 }
 
 // The first fault of the descriptor at a place.
+// Asks: a place inside the response; the walk stops at its end.
 fn fault_at(removable: bool, s: &[u8], at: usize) -> Refusal
     requires { ⌜ at < length (now s) ⌝ }
     ensures { λ r. ⌜ r ≡ descFault removable (descAt (now (s .entry)) at) ⌝ }
@@ -248,6 +252,7 @@ fn fault_at(removable: bool, s: &[u8], at: usize) -> Refusal
 }
 
 // The first descriptor of a complete response that has a fault.
+// Asks: a response that is accepted and complete, which the reading's numbers and 29 have shown before.
 pub fn first_fault(removable: bool, s: &[u8]) -> Finding
     requires { ⌜ inputFault (now s) .number ≡ 0 ⌝ }
     ensures { λ r. ⌜ r ≡ firstFault removable (descs (now (s .entry))) ⌝ }

@@ -1,6 +1,7 @@
--- What the check of the descriptors can find in our own response: the box's response to an accepted sheet, RT 0 from 0, sent whole, passes, or
--- breaks a rule that a sheet can break: 30 (feature 0 or 1 missing), 31 (length), 32 (flags not both 1), 35 (Persistent with 0003h reported),
--- 36 (reserved body bit), 37 (cue sheet). Never a reading's number, 29, 33, 34 or 39. Assumes nothing.
+-- The checks of a response: what the check of the descriptors finds, what is said of a profile, and what can be found in our own response. The
+-- box's response to an accepted sheet, RT 0 from 0, sent whole, passes, or breaks a rule that a sheet can break: 30 (feature 0 or 1 missing), 31
+-- (length), 32 (flags not both 1), 35 (Persistent with 0003h reported), 36 (reserved body bit), 37 (cue sheet). Never a reading's number, 29, 33, 34
+-- or 39. Assumes nothing.
 use borrow.Author.Tests.{le-leb, ne-eqb}
 use mathlib.Core.Path.{_≡_, refl, sym, ap, _∙_}
 use mathlib.Core.Logic.{_⊎_, inl, inr}
@@ -29,15 +30,21 @@ use Rattle.sheet.specs.Meaning.{meaning, Distinct, Fine}
 use Rattle.sheet.proofs.Meaning.{meaning-fine}
 use Rattle.checks.specs.declared.Finding.{Finding}
 use Rattle.checks.specs.declared.legal.Row.{Row}
+use Rattle.checks.specs.declared.required.Need.{Need}
 use Rattle.checks.specs.Legal.{rowOf}
 use Rattle.checks.specs.Pick.{pick}
 use Rattle.checks.specs.Rules.{byteOf, flagsRule, rowRule, reservedRule, reservedAt, cueRule, profileAt, profilesFault, bodyFault, descFault}
 use Rattle.checks.specs.Input.{inputFault, descs, reported}
 use Rattle.checks.specs.Check.{finding, _orNext_, firstFault, checkedAll, checked}
+use Rattle.checks.specs.Faultless.{Passes}
+use Rattle.checks.specs.Required.{required, lacks}
+use Rattle.checks.specs.Judge.{Said, says, judged}
 use Rattle.checks.proofs.Bools.{not-yes, not-no}
 use Rattle.checks.proofs.Calls.{if-yes, if-no}
 use Rattle.checks.proofs.Findings.{next-none, next-fault}
 use Rattle.checks.proofs.Pick.{pick-here, pick-past}
+use Rattle.checks.proofs.Faultless.{passes-of, of-passes}
+use Rattle.checks.proofs.Lowest.{Least, conforms-all, missing-lowest}
 
 -- no fault, or one of the six
 abbrev pub Findings : ℕ → Type 0
@@ -216,3 +223,34 @@ own-findings s b ok h =
     next-of _ _
     (rw (input-own (good .sound) h) none)
     (rw (descs-own (good .sound) h) (all-of (all m) (drive-own good)))
+
+-- ---- of an answer
+
+-- Of what the check of the descriptors finds in the response s, f: a refused input's number, else the first fault in the paper's order; none exactly
+-- where no rule is broken.
+pub record Finds (s : List ℕ) (f : Finding) : Type 0 where
+  pub exact : f ≡ checked s
+  pub refuses : (inputFault s .number ≡ 0 → ⊥) → f ≡ finding (inputFault s) 0
+  pub sound : f .refusal .number ≡ 0 → Passes s
+  pub complete : Passes s → f ≡ finding accept 0
+  pub own : (t : List ℕ) → Bytes t → sheet.Accepted t → length (full 0 0 (meaning t)) ≤ 65534 → s ≡ full 0 0 (meaning t) → Findings (f .refusal .number)
+
+pub finds : (s : List ℕ) → Finds s (checked s)
+unfolding checked
+finds s = record {
+  exact = refl;
+  refuses = next-fault (finding (inputFault s) 0) (checkedAll (descs s));
+  sound = passes-of s;
+  complete = of-passes s;
+  own = λ t b ok l e. rw e (own-findings t b ok l);
+}
+
+-- Of what is said of the profile p and the response s, j: it conforms only if every line is met, and the feature named is the lowest of a line that
+-- is not met.
+pub record Judges (p : ℕ) (s : List ℕ) (j : Said) : Type 0 where
+  pub exact : j ≡ judged p s
+  pub conforms : j ≡ says 0 true [] → All (λ (n : Need). lacks p (descs s) n ≡ false) required
+  pub missing : (f : ℕ) → j ≡ says 0 false (f ∷ []) → Least p (descs s) f required
+
+pub judges : (p : ℕ) (s : List ℕ) → Judges p s (judged p s)
+judges p s = record { exact = refl; conforms = conforms-all p s; missing = missing-lowest p s }

@@ -1,10 +1,10 @@
--- Each public function's own contract, as the toolchain generates it, asks nothing and decides the whole outcome: every returned field, and
--- every byte of lent memory. One line a function; four of the theorems stand in the function's own crate, where an edit that weakens the contract is refused by them. Assumes nothing.
+-- Each public function's own contract, as the toolchain generates it, asks nothing and decides the whole outcome: every returned field, where a returned part lies, and
+-- every byte of lent memory. One line a function; five of the theorems stand in the function's own crate, where an edit that weakens the contract is refused by them. Assumes nothing.
 use mathlib.Core.Path.{_≡_, refl, ap}
 use mathlib.Core.List.{List}
 use Prim.Native.Nat.{ℕ}
-use denote.Ref.{now}
-use Rattle.base.proofs.Decided.{Decided, DecidedAs, decides, joined, _&_}
+use Rattle.base.proofs.Decided.{Decided, DecidedAs, seen, decides, joined, _&_}
+use Rattle.fields.proofs.Parts.{same-part}
 use Rattle.lent.proofs.Laws.{same}
 use Rattle.lent.proofs.Decides as lent-decides
 use Rattle.text.proofs.Decides as text-decides
@@ -88,8 +88,8 @@ get3-decided x = decides (x .𝓤) (λ o o′ p q. (joined p q, refl))
 pub get4-decided : Decided get4.ended (λ M. get4.clauses) (λ M. get4.spec)
 get4-decided x = decides (x .𝓤) (λ o o′ p q. (joined p q, refl))
 
-pub part-decided : DecidedAs part.ended (λ M. part.clauses) (λ M. part.spec) (λ κs r. now r)
-part-decided x = decides (x .𝓤) (λ o o′ p q. (joined p q, refl))
+pub part-decided : DecidedAs part.ended (λ M. part.clauses) (λ M. part.spec) (λ κs r. seen r)
+part-decided x = decides (x .𝓤) (λ o o′ p q. (same-part p q, refl))
 
 -- ---- lent
 
@@ -157,8 +157,8 @@ feature-at-decided x = decides (x .𝓤) (λ o o′ p q. ((λ i. record { 0 = jo
 pub profile-at-decided : Decided profile-at.ended (λ M. profile-at.clauses) (λ M. profile-at.spec)
 profile-at-decided x = decides (x .𝓤) (λ o o′ p q. ((λ i. record { 0 = joined p q i }), refl))
 
-pub profiles-part-decided : DecidedAs profiles-part.ended (λ M. profiles-part.clauses) (λ M. profiles-part.spec) (λ κs r. now r)
-profiles-part-decided x = decides (x .𝓤) (λ o o′ p q. (joined p q, refl))
+pub profiles-part-decided : DecidedAs profiles-part.ended (λ M. profiles-part.clauses) (λ M. profiles-part.spec) (λ κs r. seen r)
+profiles-part-decided x = decides (x .𝓤) (λ o o′ p q. (same-part p q, refl))
 
 -- ---- sheet
 
@@ -193,8 +193,8 @@ scan-decided x = decides (x .𝓤) (λ o o′ p q. (joined p q, refl))
 pub read-decided : Decided read.ended (λ M. read.clauses) (λ M. read.spec)
 read-decided = reading-decides.read-decided
 
-pub held-decided : DecidedAs held.ended (λ M. held.clauses) (λ M. held.spec) (λ κs r. now r)
-held-decided x = decides (x .𝓤) (λ o o′ p q. (joined p q, refl))
+pub held-decided : DecidedAs held.ended (λ M. held.clauses) (λ M. held.spec) (λ κs r. seen r)
+held-decided = reading-decides.held-decided
 
 -- ---- sweep
 

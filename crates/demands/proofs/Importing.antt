@@ -37,34 +37,30 @@ use Rattle.demands.proofs.Sending.{due, demand2}
 use Rattle.demands.proofs.Readings.{ReadBack, demand2-own}
 use Rattle.demands.proofs.Sweeping.{demand3, ends, bytesE, acceptedE}
 
--- The answer is: for a response that is not refused and a buffer with room for its sheet, exactly the sheet, and nothing behind it changes; for
--- anything else the first refusal, in the paper's order, the count 0, "the buffer is unchanged".
-pub record Imports (r d : List ℕ) : Type 0 where
-  pub writes : captureFault r .number ≡ 0 → length (sheetFrom r) ≤ length d
-      → imported r d ≡ outcome record { refusal = accept; count = length (sheetFrom r) } (sheetFrom r ++ drop (length (sheetFrom r)) d)
-  pub refuses-capture : (captureFault r .number ≡ 0 → ⊥) → imported r d ≡ outcome record { refusal = captureFault r; count = 0 } d
-  pub refuses-room : captureFault r .number ≡ 0 → length d < length (sheetFrom r) → imported r d ≡ outcome record { refusal = refuse 42; count = 0 } d
+-- The sheet that stands in the buffer where import answers 0, of an outcome o: it is the one made of the response r, it is accepted, and the box
+-- gives back the captured bytes from it.
+pub record Stored (r : List ℕ) (o : import.Outcome) : Type 0 where
+  pub sheet : take (o .answer .count) (o .buffer) ≡ sheetFrom r
+  pub accepted : Accepted (take (o .answer .count) (o .buffer))
+  pub back : (a : ℕ) → length r ≤ a → sent 0 0 a (meaning (take (o .answer .count) (o .buffer))) ≡ r
 
-pub imports : (r d : List ℕ) → Imports r d
-imports r d = record { writes = imported-written r d; refuses-capture = imported-fault r d; refuses-room = imported-short r d }
+-- Of an outcome o of the response r and the buffer d: for a response that is not refused and a buffer with room for its sheet, exactly the sheet, and
+-- nothing behind it changes; for anything else the first refusal, in the paper's order, the count 0, "the buffer is unchanged". A sheet whose full
+-- response fits 65,532 bytes comes back from it unchanged.
+pub record Imports (r d : List ℕ) (o : import.Outcome) : Type 0 where
+  pub writes : captureFault r .number ≡ 0 → length (sheetFrom r) ≤ length d
+      → o ≡ outcome record { refusal = accept; count = length (sheetFrom r) } (sheetFrom r ++ drop (length (sheetFrom r)) d)
+  pub refuses-capture : (captureFault r .number ≡ 0 → ⊥) → o ≡ outcome record { refusal = captureFault r; count = 0 } d
+  pub refuses-room : captureFault r .number ≡ 0 → length d < length (sheetFrom r) → o ≡ outcome record { refusal = refuse 42; count = 0 } d
+  pub stores : Bytes r → o .answer .refusal .number ≡ 0 → Stored r o
+  pub unchanged : (s : List ℕ) → Bytes s → Accepted s → length (full 0 0 (meaning s)) ≤ 65532 → length s ≤ length d → r ≡ full 0 0 (meaning s)
+      → o ≡ outcome record { refusal = accept; count = length s } (s ++ drop (length s) d)
 
 -- ---- an imported sheet is a sheet
 
 -- A response that is not refused gives an accepted sheet.
 pub imported-accepted : (r : List ℕ) → Bytes r → captureFault r .number ≡ 0 → Accepted (sheetFrom r)
 imported-accepted = from-accepted
-
--- It is what stands in the buffer when import answers 0.
-pub record Stored (r d : List ℕ) : Type 0 where
-  pub sheet : take (imported r d .answer .count) (imported r d .buffer) ≡ sheetFrom r
-  pub accepted : Accepted (take (imported r d .answer .count) (imported r d .buffer))
-
-pub stored : (r d : List ℕ) → Bytes r → imported r d .answer .refusal .number ≡ 0 → Stored r d
-stored r d b e =
-    let z = imported-zero r d e in
-    let x : take (imported r d .answer .count) (imported r d .buffer) ≡ sheetFrom r =
-    rw (imported-written r d (z .0) (z .1)) (take-append-seam (sheetFrom r) (drop (length (sheetFrom r)) d)) in
-    record { sheet = x; accepted = rw x (imported-accepted r b (z .0)) }
 
 -- ---- "Asked RT 0 from 0 with a sufficient allocation, the box must give back the captured bytes exactly"
 
@@ -73,6 +69,14 @@ pub replayed : (r : List ℕ) → Bytes r → captureFault r .number ≡ 0 → (
 replayed r b e a l =
     let f : full 0 0 (meaning (sheetFrom r)) ≡ r = from-full r b e in
     sent-whole 0 0 a (meaning (sheetFrom r)) (rw f (captured-short r e)) (rw f l) ∙ f
+
+-- Such a sheet is what stands in the buffer when import answers 0.
+pub stored : (r d : List ℕ) → Bytes r → imported r d .answer .refusal .number ≡ 0 → Stored r (imported r d)
+stored r d b e =
+    let z = imported-zero r d e in
+    let x : take (imported r d .answer .count) (imported r d .buffer) ≡ sheetFrom r =
+    rw (imported-written r d (z .0) (z .1)) (take-append-seam (sheetFrom r) (drop (length (sheetFrom r)) d)) in
+    record { sheet = x; accepted = rw x (imported-accepted r b (z .0)); back = rw x (replayed r b (z .0)) }
 
 -- So the box's answer to any such command, into a buffer with room for them, is no refusal, their count, and these bytes.
 pub replayed-answer : (r c d : List ℕ) → Bytes r → captureFault r .number ≡ 0
@@ -128,6 +132,17 @@ unchanged-import s d b ok l room =
     imported-written (full 0 0 (meaning s)) d (ap (λ r. r .number) (u .0)) (rw (u .1) room)
     ∙ ap (λ (x : List ℕ). outcome record { refusal = accept; count = length x } (x ++ drop (length x) d)) (u .1)
 
+-- ---- all of it
+
+pub imports : (r d : List ℕ) → Imports r d (imported r d)
+imports r d = record {
+  writes = imported-written r d;
+  refuses-capture = imported-fault r d;
+  refuses-room = imported-short r d;
+  stores = stored r d;
+  unchanged = λ s b ok l h e. rw e (unchanged-import s d b ok l h);
+}
+
 -- ---- "Demands 2 and 3 hold for imported sheets as for any."
 
 module _ (r : List ℕ) (b : Bytes r) (e : captureFault r .number ≡ 0) where
@@ -137,7 +152,8 @@ module _ (r : List ℕ) (b : Bytes r) (e : captureFault r .number ≡ 0) where
   demand2-imported c d = demand2 (sheetFrom r) c d .sends (imported-accepted r b e)
 
   -- Demand 2, second half: what is sent of it, read, gives back the profile and each whole descriptor.
-  pub demand2-own-imported : (rt sfn a : ℕ) → rt ≤ 2 → 8 ≤ a → ReadBack (meaning (sheetFrom r)) rt sfn a
+  pub demand2-own-imported : (rt sfn a : ℕ) → rt ≤ 2 → 8 ≤ a
+      → ReadBack (meaning (sheetFrom r)) 65534 rt sfn a (sent rt sfn a (meaning (sheetFrom r))) (text.reading 65534 rt sfn (sent rt sfn a (meaning (sheetFrom r))))
   demand2-own-imported = demand2-own (sheetFrom r) (from-bytes r b e) (imported-accepted r b e)
 
   -- Demand 3: a sweep of it collects each wanted descriptor once, ascending, byte for byte, in few commands.

@@ -1,8 +1,15 @@
--- The demands, each in a file of its own.
+-- The demands, each in a file of its own, and their ties to the functions' own contracts.
+pub mod Sheets
 pub mod Sending
 pub mod Readings
+pub mod Listings
+pub mod Steps
 pub mod Sweeping
-pub mod Stars
-pub mod Decides
 pub mod Checking
 pub mod Importing
+pub mod Stars
+pub mod Decides
+pub mod Ground
+pub mod Tied
+pub mod Exported
+pub mod EndToEnd

@@ -1,47 +1,81 @@
 -- Demand 2, second half: "For each byte string received the reading is exactly what the text makes of it. Reading our own response gives back
--- its profile and each whole descriptor." The first sentence is the contract of `reading::read`, whose definition is `reading` of
--- crates/text/specs/Reading.antt; the second is `demand2-own`. Assumes nothing.
-use mathlib.Core.Path.{_≡_}
+-- its profile and each whole descriptor." Both are `Reads`; the second alone, of the definition, is `demand2-own`. Assumes nothing.
+use mathlib.Core.Path.{_≡_, refl}
 use mathlib.Core.List.{List}
 use Prim.Native.Nat.{ℕ, _+_, _-_, _≤_, min}
 use native.Mathlib.Omega.{arith}
 use lib.Dec.{leb}
 use lib.ListN.{length, take, drop}
 use Rattle.base.specs.Lists.{flat, Bytes}
+use Rattle.text.specs.declared.Reading.{Reading}
 use Rattle.text.specs.First.{accept}
-use Rattle.text.specs.Drive.{Drive}
+use Rattle.text.specs.Drive.{Desc, Drive, Sound}
 use Rattle.text.specs.Response.{bytes, selected, currentProfile, dataLength, full, sent}
-use Rattle.text.specs.Reading.{readFault, reading, wholes}
+use Rattle.text.specs.Reading.{readFault, refused, taken, reading, wholes, lastNumber}
 use Rattle.text.specs.Packing.{whole}
-use Rattle.text.proofs.Own.{readFault-sent, wholes-sent, reading-sent}
+use Rattle.text.proofs.Sent.{bytes-sent}
+use Rattle.text.proofs.Own.{wholes-sent, reading-sent}
 use Rattle.text.proofs.Again.{readFault-cut, wholes-cut}
-use Rattle.text.proofs.Received.{wholes-flat}
+use Rattle.text.proofs.Received.{reading-cases, wholes-flat}
 use Rattle.sheet.specs.Check.{Accepted}
 use Rattle.sheet.specs.Meaning.{meaning}
 use Rattle.sheet.proofs.Meaning.{meaning-fine}
+use Rattle.reading.specs.declared.Scanned.{Scanned}
+use Rattle.reading.specs.Scan.{scanned}
 
--- What the box sends for RT rt from sfn with allocation length a, of eight bytes or more, read as the answer to that request: it is accepted and
--- gives back the profile, the Data Length and exactly the descriptors that the bytes sent hold whole; it is complete exactly if nothing was cut.
-pub record ReadBack (m : Drive) (rt sfn a : ℕ) : Type 0 where
-  pub accepted : readFault 65534 rt sfn (sent rt sfn a m) ≡ accept
-  pub descriptors : wholes 65534 rt sfn (sent rt sfn a m) ≡ whole (min a 65534 - 8) (selected rt sfn m)
-  pub fields : reading 65534 rt sfn (sent rt sfn a m) ≡ record {
+-- the descriptors that the answer to RT rt from sfn with allocation length a holds whole
+abbrev pub sentWhole : (m : Drive) (rt sfn a : ℕ) → List Desc
+sentWhole m rt sfn a = whole (min a 65534 - 8) (selected rt sfn m)
+
+-- What the box sends for RT rt from sfn with allocation length a, of eight bytes or more, read as the answer to that request: r is the reading
+-- of the received bytes s. It is accepted and gives back the profile, the Data Length and exactly the descriptors that the bytes sent hold whole,
+-- which stand from byte 8 to the place behind the last; it is complete exactly if nothing was cut.
+pub record ReadBack (m : Drive) (limit rt sfn a : ℕ) (s : List ℕ) (r : Reading) : Type 0 where
+  pub fields : r ≡ record {
     refusal = accept;
     profile = record { 0 = currentProfile (m .profiles) };
     data_length = dataLength (selected rt sfn m);
-    count = length (whole (min a 65534 - 8) (selected rt sfn m));
-    end = 8 + length (flat bytes (whole (min a 65534 - 8) (selected rt sfn m)));
+    count = length (sentWhole m rt sfn a);
+    end = 8 + length (flat bytes (sentWhole m rt sfn a));
     complete = leb (length (full rt sfn m)) (min a 65534);
   }
+  pub descriptors : wholes limit rt sfn s ≡ sentWhole m rt sfn a
+  pub stand : flat bytes (sentWhole m rt sfn a) ≡ take (r .end - 8) (drop 8 s)
 
-pub demand2-own : (s : List ℕ) → Bytes s → Accepted s → (rt sfn a : ℕ) → rt ≤ 2 → 8 ≤ a → ReadBack (meaning s) rt sfn a
-demand2-own s b ok rt sfn a two eight =
-    let good = meaning-fine s b ok .sound in
-    record {
-      accepted = readFault-sent good rt sfn a eight 65534 two (omega arith);
-      descriptors = wholes-sent good rt sfn a eight 65534 two (omega arith);
-      fields = reading-sent good rt sfn a eight 65534 two (omega arith);
-    }
+-- Of a reading r of the bytes s as the answer to RT rt from sfn, where more than limit bytes are refused (65,534, or C in a sweep): it is what the text
+-- makes of them, and of our own response it gives back what was sent.
+pub record Reads (limit rt sfn : ℕ) (s : List ℕ) (r : Reading) : Type 0 where
+  pub refuses : (readFault limit rt sfn s .number ≡ 0 → ⊥) → r ≡ refused (readFault limit rt sfn s)
+  pub accepts : readFault limit rt sfn s .number ≡ 0 → r ≡ taken s (wholes limit rt sfn s)
+  pub own : (t : List ℕ) (a : ℕ) → Bytes t → Accepted t → rt ≤ 2 → 8 ≤ a → min a 65534 ≤ limit → s ≡ sent rt sfn a (meaning t)
+      → ReadBack (meaning t) limit rt sfn a s r
+
+pub reads : (limit rt sfn : ℕ) (s : List ℕ) → Reads limit rt sfn s (reading limit rt sfn s)
+reads limit rt sfn s = record {
+  refuses = reading-cases limit rt sfn s (λ r ds. (readFault limit rt sfn s .number ≡ 0 → ⊥) → r ≡ refused (readFault limit rt sfn s)) (λ k h. refl) (λ k h. absurd (h k));
+  accepts = reading-cases limit rt sfn s (λ r ds. readFault limit rt sfn s .number ≡ 0 → r ≡ taken s ds) (λ k h. absurd (k h)) (λ k h. refl);
+  own = λ t a b ok two eight room e.
+      let good : Sound (meaning t) = meaning-fine t b ok .sound in
+      let d : wholes limit rt sfn s ≡ sentWhole (meaning t) rt sfn a = rw e (wholes-sent good rt sfn a eight limit two room) in
+      record {
+        fields = rw e (reading-sent good rt sfn a eight limit two room);
+        descriptors = d;
+        stand = rw (← d) (wholes-flat limit rt sfn s (rw e (bytes-sent rt sfn a (meaning t) good)));
+      };
+}
+
+-- what `reading::scan` gives besides: the number of the last whole descriptor
+pub record Scans (limit rt sfn : ℕ) (s : List ℕ) (r : Scanned) : Type 0 where
+  pub reads : Reads limit rt sfn s (r .reading)
+  pub last : r .last .0 ≡ lastNumber (wholes limit rt sfn s)
+
+pub scans : (limit rt sfn : ℕ) (s : List ℕ) → Scans limit rt sfn s (scanned limit rt sfn s)
+unfolding scanned
+scans limit rt sfn s = record { reads = reads limit rt sfn s; last = refl }
+
+pub demand2-own : (s : List ℕ) → Bytes s → Accepted s → (rt sfn a : ℕ) → rt ≤ 2 → 8 ≤ a
+    → ReadBack (meaning s) 65534 rt sfn a (sent rt sfn a (meaning s)) (reading 65534 rt sfn (sent rt sfn a (meaning s)))
+demand2-own s b ok rt sfn a two eight = reads 65534 rt sfn (sent rt sfn a (meaning s)) .own s a b ok two eight (omega arith) refl
 
 -- ---- beside it
 

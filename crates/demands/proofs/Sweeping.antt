@@ -18,7 +18,7 @@ use Rattle.text.specs.Packing.{total, whole, rest, groups}
 use Rattle.layout.specs.Layout as layout
 use Rattle.sheet.specs.Check.{Accepted, profileRule, sameProfile, profileFault, numberBefore, endBefore, flagsRule, entryRule, entryFault, counted, verdict}
 use Rattle.sheet.specs.Meaning.{desc, listed, meaning}
-use Rattle.bench.specs.Bench.{benched}
+use Rattle.bench.specs.Bench.{Outcome, benched}
 use Rattle.bench.specs.Swept.{Premises, Swept, Ended}
 use Rattle.bench.proofs.Demand as bench
 use Rattle.demands.specs.Recorder.{sheetE}
@@ -32,6 +32,16 @@ demand3 = bench.demand3
 pub ends : (s : List ℕ) (rt a : ℕ) (response collected starts : List ℕ) → Bytes s → Accepted s → rt < 2 → 8 ≤ a
     → Ended (meaning s) rt a response collected starts (benched s rt a response collected starts)
 ends = bench.ended
+
+-- Both, of an outcome o.
+pub record Benches (s : List ℕ) (rt a : ℕ) (response collected starts : List ℕ) (o : Outcome) : Type 0 where
+  pub exact : o ≡ benched s rt a response collected starts
+  pub sweeps : Bytes s → Accepted s → Premises (meaning s) rt a response collected starts → Swept (meaning s) rt a response collected starts o
+  pub finishes : Bytes s → Accepted s → rt < 2 → 8 ≤ a → Ended (meaning s) rt a response collected starts o
+
+pub benches : (s : List ℕ) (rt a : ℕ) (response collected starts : List ℕ) → Benches s rt a response collected starts (benched s rt a response collected starts)
+benches s rt a response collected starts =
+    record { exact = refl; sweeps = demand3 s rt a response collected starts; finishes = ends s rt a response collected starts }
 
 -- ---- the premises can be met: sheet E, allocation length 20
 

@@ -102,8 +102,10 @@ spell-mod w v =
 
 -- ---- a part of a slice
 
-pub part-none : (n at : ℕ) (s : List ℕ) → length s ≤ at → [] ≡ take n (drop at s)
-part-none n at s h = rw (drop-of-length-le s h) (sym (take-nil n))
+pub part-none : (k n at : ℕ) (s : List ℕ) → length s ≤ at → take (k - k) (drop k s) ≡ take n (drop at s)
+part-none k n at s h =
+    let e : k - k ≡ 0 = omega arith in
+    rw (drop-of-length-le s h, take-nil, e)
 
 pub part-rest : (n at : ℕ) (s : List ℕ) → length s - at ≤ n → take (length s - at) (drop at s) ≡ take n (drop at s)
 part-rest n at s h =

@@ -3,6 +3,7 @@ ghost use mathlib.Core.Path.{_≡_};
 ghost use Prim.Native.Nat.{_-_, _<_};
 ghost use lib.ListN.{length, getD, take, drop};
 ghost use Rattle.fields.specs.Field.{field};
+ghost use Rattle.fields.specs.Part.{PartOf};
 
 // The byte at an index.
 pub fn byte(s: &[u8], at: usize) -> u8
@@ -15,6 +16,7 @@ pub fn byte(s: &[u8], at: usize) -> u8
 }
 
 // The byte at an index that the slice has.
+// Asks: an index that the slice has; the bytes left were counted before.
 fn inside(s: &[u8], at: usize) -> u8
     requires { ⌜ at < length (now s) ⌝ }
     ensures { λ r. ⌜ r ≡ getD (now (s .entry)) at 0 ⌝ }
@@ -68,12 +70,13 @@ pub fn get4(s: &[u8], at: usize) -> u32
     get3(s, at) * 256
 }
 
-// The part of count bytes from an index on, as far as the slice has them.
+// The part of count bytes from an index on, as far as the slice has them; the empty part at its end where it has none.
 pub fn part(s: &[u8], at: usize, count: usize) -> &[u8]
-    ensures { λ r. ⌜ now r ≡ take count (drop at (now (s .entry))) ⌝ }
+    ensures { λ r. ⌜ PartOf (s .entry) at (take count (drop at (now (s .entry)))) r ⌝ }
 {
     if s.len() <= at {
-        return &s[..0];
+        let end = s.len();
+        return &s[end..end];
     }
     if s.len() - at <= count {
         return &s[at..];

@@ -23,6 +23,7 @@ pub struct Imported {
 // ---- a descriptor at its place
 
 // Where the descriptor behind the one at a place starts.
+// Asks: a place inside the response; the walk stops at its end.
 fn next_at(s: &[u8], at: usize) -> usize
     requires { ⌜ at < length (now s) ⌝ }
     ensures { λ r. ⌜ r ≡ at + 4 + lengthAt (now (s .entry)) at ⌝ }
@@ -31,6 +32,7 @@ fn next_at(s: &[u8], at: usize) -> usize
 }
 
 // The body of the descriptor at a place.
+// Asks: a place inside the response; the walk stops at its end.
 fn body_at(s: &[u8], at: usize) -> &[u8]
     requires { ⌜ at < length (now s) ⌝ }
     ensures { λ r. ⌜ (now r ≡ descAt (now (s .entry)) at .body) × (length (now r) < 256) ⌝ }
@@ -41,17 +43,21 @@ fn body_at(s: &[u8], at: usize) -> &[u8]
 // ---- the profile list, which is the body of feature 0
 
 // Whether profiles i and j have one number.
+// Asks: an index inside the profile list; the walk stops at its end.
 fn same_profile(b: &[u8], i: usize, j: usize) -> Refusal
     requires { ⌜ (i < length (now b) / 4) × (j < length (now b) / 4) ⌝ }
     ensures { λ r. ⌜ r ≡ sameIn (now (b .entry)) i j ⌝ }
 {
-    if fields::get2(b, 4 * j) == fields::get2(b, 4 * i) {
+    let earlier = Profile(fields::get2(b, 4 * j));
+    let number = Profile(fields::get2(b, 4 * i));
+    if earlier.0 == number.0 {
         return text::PROFILE_BAD;
     }
     text::ACCEPTED
 }
 
 // Whether a profile before profile i has its number.
+// Asks: an index inside the profile list; the walk stops at its end.
 fn listed_before(b: &[u8], i: usize) -> Refusal
     requires { ⌜ i < length (now b) / 4 ⌝ }
     ensures { λ r. ⌜ r ≡ firstOf (sameIn (now (b .entry)) i) 0 i ⌝ }
@@ -67,6 +73,7 @@ fn listed_before(b: &[u8], i: usize) -> Refusal
     text::ACCEPTED
 }
 
+// Asks: an index inside the profile list; the walk stops at its end.
 fn profile_fault(b: &[u8], i: usize) -> Refusal
     requires { ⌜ i < length (now b) / 4 ⌝ }
     ensures { λ r. ⌜ r ≡ profileFaultIn (now (b .entry)) i ⌝ }
@@ -75,7 +82,7 @@ fn profile_fault(b: &[u8], i: usize) -> Refusal
     let listed = listed_before(b, i);
     let current = fields::byte(b, 4 * i + 2);
     let last = fields::byte(b, 4 * i + 3);
-    sheet::profile_rule(number, listed, current, last)
+    sheet::profile_rule(Profile(number), listed, current, last)
 }
 
 // The first refusal of the profiles.
@@ -118,7 +125,8 @@ fn own_fault(s: &[u8]) -> Refusal
     if s.len() <= 8 {
         return text::NOT_OWN;
     }
-    if fields::get2(s, 8) != 0 {
+    let first = Feature(fields::get2(s, 8));
+    if first.0 != 0 {
         return text::NOT_OWN;
     }
     if fields::byte(s, 10) != 3 {
@@ -128,7 +136,8 @@ fn own_fault(s: &[u8]) -> Refusal
         return text::NOT_OWN;
     }
     let current = current_profile(body_at(s, 8));
-    if fields::get2(s, 6) != current.0 {
+    let stated = Profile(fields::get2(s, 6));
+    if stated.0 != current.0 {
         return text::NOT_OWN;
     }
     text::ACCEPTED
@@ -150,6 +159,7 @@ fn flags_fault(s: &[u8], first: usize) -> Refusal
 }
 
 // 3 at each profile, then 5.
+// Asks: a response with a descriptor, which 41 has shown before.
 fn sheet_fault(s: &[u8]) -> Refusal
     requires { ⌜ 8 < length (now s) ⌝ }
     ensures { λ r. ⌜ r ≡ sheetRule (from (now (s .entry)) 8) ⌝ }
@@ -162,6 +172,7 @@ fn sheet_fault(s: &[u8]) -> Refusal
 }
 
 // The first refusal of a response that was read.
+// Asks: the reading of this response.
 fn capture_fault(read: Reading, s: &[u8]) -> Refusal
     requires { ⌜ read ≡ reading 65534 0 0 (now s) ⌝ }
     ensures { λ r. ⌜ r ≡ captureFault (now (s .entry)) ⌝ }
@@ -183,18 +194,21 @@ fn capture_fault(read: Reading, s: &[u8]) -> Refusal
 // ---- the sheet
 
 // The entry of the descriptor at a place.
+// Asks: a place inside the response; the walk stops at its end.
 fn put_entry(sheet: &mut [u8], at: usize, s: &[u8], place: usize, offset: u32) -> usize
     requires { ⌜ place < length (now s) ⌝ }
     ensures { λ r. ⌜ Wrote (now (sheet .entry)) at (entryOf (descAt (now (s .entry)) place) offset) r (now (sheet .exit)) ⌝ }
 {
     let body = body_at(s, place);
-    let a = lent::put2(sheet, at, fields::get2(s, place));
+    let number = Feature(fields::get2(s, place));
+    let a = lent::put2(sheet, at, number.0);
     let b = lent::put(sheet, a, fields::byte(s, place + 2));
     let c = lent::put(sheet, b, body.len() as u8);
     lent::put4(sheet, c, offset)
 }
 
 // The entries of the descriptors from a place on, and their bodies: both in one pass.
+// Asks: room for entries and bodies, which 42 has shown before.
 fn put_features(sheet: &mut [u8], entries: usize, body: usize, s: &[u8], first: usize) -> usize
     requires { ⌜ Fits (now s) entries body first (now sheet) ⌝ }
     ensures { λ r. ⌜ Filled (now (s .entry)) entries body first (now (sheet .entry)) r (now (sheet .exit)) ⌝ }
@@ -211,6 +225,7 @@ fn put_features(sheet: &mut [u8], entries: usize, body: usize, s: &[u8], first: 
 }
 
 // The whole sheet: n features behind feature 0.
+// Asks: a sheet buffer with room, which 42 has shown before.
 fn put_sheet(sheet: &mut [u8], s: &[u8], n: u16) -> usize
     requires { ⌜ Whole (now s) n (now sheet) ⌝ }
     ensures { λ r. ⌜ Wrote (now (sheet .entry)) 0 (sheetBytes (descAt (now (s .entry)) 8 .body) (behind (now (s .entry)))) r (now (sheet .exit)) ⌝ }

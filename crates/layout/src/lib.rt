@@ -1,5 +1,6 @@
 // Where a drive sheet's fields stand: nothing above this crate knows the layout. A field behind the sheet's end reads as 0.
 ghost use mathlib.Core.Path.{_≡_};
+ghost use Rattle.fields.specs.Part.{PartOf};
 ghost use Rattle.layout.specs.Layout.{featureCount, profileCount, bodiesAt, profileAt, number, flags, bodyLength, offset, profile, current, last, profilesPart};
 use text::Feature;
 use text::Profile;
@@ -77,7 +78,7 @@ pub fn last_at(s: &[u8], i: u16) -> u8
 
 // The profiles as they stand, which is as feature 0 sends them.
 pub fn profiles_part(s: &[u8]) -> &[u8]
-    ensures { λ r. ⌜ now r ≡ profilesPart (now (s .entry)) ⌝ }
+    ensures { λ r. ⌜ PartOf (s .entry) (profileAt (now (s .entry)) 0) (profilesPart (now (s .entry))) r ⌝ }
 {
     fields::part(s, profile_place(s, 0), 4 * (profile_count(s) as usize))
 }

@@ -6,7 +6,7 @@ use native.Mathlib.Nat.{zero-add}
 use native.Mathlib.Decide.{decLe}
 use native.Mathlib.Omega.{arith}
 use lib.ListN.{length, set, take, drop, replicate, length-append, length-take, length-replicate, take-append-drop, drop-of-length-le, replicate-append-replicate}
-use lib.Seq.{sets, length-sets, sets-eq, length-take-le, take-length, drop-drop}
+use lib.Seq.{sets, length-sets, sets-eq, length-take-le, take-length, take-append-seam, drop-drop}
 use Rattle.lent.specs.Wrote.{Wrote}
 use Rattle.lent.proofs.Sets.{sets-out, sets-room, sets-append, sets-left}
 
@@ -58,6 +58,12 @@ placed {d} {e} {at} {r} {xs} w h = w .holds ∙ sets-eq xs d at h
 -- the same from index 0 on
 pub front : {d e : List ℕ} {r : ℕ} {xs : List ℕ} → Wrote d 0 xs r e → length xs ≤ length d → e ≡ xs ++ drop (length xs) d
 front {d} {e} {r} {xs} w h = rw zero-add at (placed w (omega arith))
+
+-- where room is left, all was written
+pub room-left : {d e : List ℕ} {r : ℕ} {xs : List ℕ} → Wrote d 0 xs r e → r < length d → (r ≡ length xs) × (take r e ≡ xs)
+room-left {d} {e} {r} {xs} w h =
+    let n : r ≡ length xs = omega (arith, w .next) in
+    (n, rw (n, front w (omega arith)) (take-append-seam xs (drop (length xs) d)))
 
 -- two outcomes of one writing are the same
 pub same : {d e f : List ℕ} {at r q : ℕ} {xs : List ℕ} → Wrote d at xs r e → Wrote d at xs q f → (r ≡ q) × (e ≡ f)

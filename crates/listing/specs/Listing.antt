@@ -30,8 +30,8 @@ unfoldable pub firstLine : (profile received count : ℕ) → List ℕ
 firstLine profile received count = words (hex4 profile ∷ decimal received ∷ decimal count ∷ [])
 
 -- the line of a descriptor: number, flags, Version, Additional Length
-unfoldable pub lineOf : (number flags length : ℕ) → List ℕ
-lineOf number flags length = words (hex4 number ∷ marks flags ∷ decimal (version flags) ∷ decimal length ∷ [])
+unfoldable pub lineOf : (number flags len : ℕ) → List ℕ
+lineOf number flags len = words (hex4 number ∷ marks flags ∷ decimal (version flags) ∷ decimal len ∷ [])
 
 unfoldable pub line : Desc → List ℕ
 line d = lineOf (d .number) (d .flags) (length (d .body))

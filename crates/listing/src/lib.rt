@@ -19,6 +19,7 @@ pub const LONGEST: usize = 245736;
 
 // ---- numbers
 
+// Asks: a digit below 16; each is a remainder.
 fn digit(d: u8) -> u8
     requires { ⌜ d < 16 ⌝ }
     ensures { λ r. ⌜ r ≡ Digits·digit d ⌝ }
@@ -29,6 +30,7 @@ fn digit(d: u8) -> u8
     b'A' - 10 + d
 }
 
+// Asks: a digit below 16; each is a remainder.
 fn put_digit(out: &mut [u8], at: usize, d: u8) -> usize
     requires { ⌜ d < 16 ⌝ }
     ensures { λ r. ⌜ Wrote (now (out .entry)) at (Digits·digit d ∷ []) r (now (out .exit)) ⌝ }
@@ -85,8 +87,8 @@ fn put_first(out: &mut [u8], profile: Profile, received: usize, count: u32) -> u
     lent::put(out, e, b'\n')
 }
 
-fn put_line(out: &mut [u8], at: usize, feature: Feature, flags: u8, length: u8) -> usize
-    ensures { λ r. ⌜ Wrote (now (out .entry)) at (lineOf (feature .0) flags length) r (now (out .exit)) ⌝ }
+fn put_line(out: &mut [u8], at: usize, feature: Feature, flags: u8, len: u8) -> usize
+    ensures { λ r. ⌜ Wrote (now (out .entry)) at (lineOf (feature .0) flags len) r (now (out .exit)) ⌝ }
 {
     let a = put_hex4(out, at, feature.0);
     let b = lent::put(out, a, b' ');
@@ -94,22 +96,24 @@ fn put_line(out: &mut [u8], at: usize, feature: Feature, flags: u8, length: u8) 
     let d = lent::put(out, c, b' ');
     let e = put_decimal(out, d, (flags / 4 % 16) as usize);
     let f = lent::put(out, e, b' ');
-    let g = put_decimal(out, f, length as usize);
+    let g = put_decimal(out, f, len as usize);
     lent::put(out, g, b'\n')
 }
 
 // The line of the descriptor at a place.
+// Asks: a place inside the response; the lines stop at the reading's end.
 fn put_line_at(out: &mut [u8], at: usize, s: &[u8], place: usize) -> usize
     requires { ⌜ place < length (now s) ⌝ }
     ensures { λ r. ⌜ Wrote (now (out .entry)) at (lineOf (numberAt (now (s .entry)) place) (flagsAt (now (s .entry)) place) (lengthAt (now (s .entry)) place)) r (now (out .exit)) ⌝ }
 {
     let feature = Feature(fields::get2(s, place));
     let flags = fields::byte(s, place + 2);
-    let length = fields::byte(s, place + 3);
-    put_line(out, at, feature, flags, length)
+    let len = fields::byte(s, place + 3);
+    put_line(out, at, feature, flags, len)
 }
 
 // The lines of the whole descriptors, which stand from place 8 to the end of the reading.
+// Asks: the end that the reading of this response gave.
 fn put_lines(out: &mut [u8], at: usize, s: &[u8], end: usize) -> usize
     requires { ⌜ end ≡ reading 65534 0 0 (now s) .end ⌝ }
     ensures { λ r. ⌜ Wrote (now (out .entry)) at (flat line (wholes 65534 0 0 (now (s .entry)))) r (now (out .exit)) ⌝ }

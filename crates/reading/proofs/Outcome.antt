@@ -64,7 +64,7 @@ module _ (limit rt sfn : ℕ) (s : List ℕ) where
               end = w .end;
               complete = eqb (length s) (stated + 4);
             };
-            last = record { 0 = w .last };
+            last = w .last;
           }
           ≡ scanned limit rt sfn s
       unfolding scanned taken readFault statedLength statedProfile

@@ -6,6 +6,7 @@ use native.Mathlib.Nat.{add-zero}
 use native.Mathlib.Omega.{arith}
 use lib.ListN.{length, length-append}
 use Rattle.base.specs.Lists.{flat}
+use Rattle.text.specs.declared.Feature.{Feature}
 use Rattle.text.specs.declared.Refusal.{Refusal}
 use Rattle.text.specs.First.{refuse, accept}
 use Rattle.text.specs.Drive.{Desc}
@@ -32,17 +33,17 @@ last-start (d ∷ ds) = last-from d ds
 -- ---- a walk in numbers
 
 module _ (count place last : ℕ) where
-  pub tally-stop : tally count place last (stop accept) ≡ record { fault = accept; count = count; end = place; last = last }
+  pub tally-stop : tally count place last (stop accept) ≡ record { fault = accept; count = count; end = place; last = record { 0 = last } }
   unfolding tally lastFrom flat
   tally-stop = rw (add-zero, add-zero)
 
-  pub tally-bad : (r : Refusal) → (r .number ≡ 0 → ⊥) → tally count place last (stop r) ≡ record { fault = r; count = 0; end = 0; last = 0 }
+  pub tally-bad : (r : Refusal) → (r .number ≡ 0 → ⊥) → tally count place last (stop r) ≡ record { fault = r; count = 0; end = 0; last = record { 0 = 0 } }
   unfolding tally
   tally-bad r k = go (r .number) refl
     where
-      go : (n : ℕ) → r .number ≡ n → tally count place last (stop r) ≡ record { fault = r; count = 0; end = 0; last = 0 }
+      go : (n : ℕ) → r .number ≡ n → tally count place last (stop r) ≡ record { fault = r; count = 0; end = 0; last = record { 0 = 0 } }
       go zero e = absurd (k e)
-      go (suc n) e = rw (e, tally) (ap (λ (k : ℕ). record { fault = refuse k; count = 0; end = 0; last = 0 }) e)
+      go (suc n) e = rw (e, tally) (ap (λ (k : ℕ). record { fault = refuse k; count = 0; end = 0; last = record { 0 = 0 } }) e)
 
   pub tally-fault : (w : Walked) → tally count place last w .fault ≡ w .fault
   unfolding tally
@@ -54,7 +55,7 @@ module _ (count place last : ℕ) where
 
   pub tally-none : (w : Walked) → w .fault .number ≡ 0
       → tally count place last w
-      ≡ record { fault = accept; count = count + length (w .found); end = place + length (flat bytes (w .found)); last = lastFrom last (w .found) }
+      ≡ record { fault = accept; count = count + length (w .found); end = place + length (flat bytes (w .found)); last = record { 0 = lastFrom last (w .found) } }
   unfolding tally
   tally-none w e = rw (e, tally)
 
@@ -80,20 +81,20 @@ pub loop-start : (rt sfn end : ℕ) (s : List ℕ) → tally 0 8 0 (walk (length
 loop-start rt sfn end s = ap (λ (k : ℕ). tally 0 8 0 (walk k rt sfn end s sfn 8)) (omega arith)
 
 -- w is the whole walk: the end, a refusal, a cut descriptor, a further turn
-module _ (w : Walk) (rt sfn end : ℕ) (s : List ℕ) (at lo count last : ℕ) (e : w ≡ left rt sfn end s at lo count last) where
+module _ (w : Walk) (rt sfn end : ℕ) (s : List ℕ) (at lo count : ℕ) (last : Feature) (e : w ≡ left rt sfn end s at lo count (last .0)) where
   pub loop-end : length s < at + 4 → record { fault = accept; count = count; end = at; last = last } ≡ w
   unfolding walk
-  loop-end h = sym (e ∙ go (length s - count) ∙ tally-stop count at last)
+  loop-end h = sym (e ∙ go (length s - count) ∙ tally-stop count at (last .0))
     where
-      go : (k : ℕ) → tally count at last (walk k rt sfn end s lo at) ≡ tally count at last (stop accept)
+      go : (k : ℕ) → tally count at (last .0) (walk k rt sfn end s lo at) ≡ tally count at (last .0) (stop accept)
       go zero = refl
-      go (suc k) = ap (tally count at last) (walk-few k rt sfn end s lo at h)
+      go (suc k) = ap (tally count at (last .0)) (walk-few k rt sfn end s lo at h)
 
   module _ (h : Head) (q : h ≡ headAt rt sfn end s lo at) (j : 4 * count + 8 ≤ at) (l : at + 4 ≤ length s) where
-    one-more : (x : Walked) → walk (suc (length s - (count + 1))) rt sfn end s lo at ≡ x → w ≡ tally count at last x
+    one-more : (x : Walked) → walk (suc (length s - (count + 1))) rt sfn end s lo at ≡ x → w ≡ tally count at (last .0) x
     one-more x g =
-        e ∙ ap (λ (k : ℕ). tally count at last (walk k rt sfn end s lo at)) {x = length s - count} {y = suc (length s - (count + 1))} (omega arith)
-        ∙ ap (tally count at last) g
+        e ∙ ap (λ (k : ℕ). tally count at (last .0) (walk k rt sfn end s lo at)) {x = length s - count} {y = suc (length s - (count + 1))} (omega arith)
+        ∙ ap (tally count at (last .0)) g
 
     fault-is : h .fault ≡ headFault rt sfn end s lo at
     unfolding headAt
@@ -103,26 +104,26 @@ module _ (w : Walk) (rt sfn end : ℕ) (s : List ℕ) (at lo count last : ℕ) (
     unfolding headAt
     len-is = ap (λ (x : Head). x .len) q
 
-    number-is : h .number ≡ numberAt s at
+    number-is : h .number .0 ≡ numberAt s at
     unfolding headAt
-    number-is = ap (λ (x : Head). x .number) q
+    number-is = ap (λ (x : Head). x .number .0) q
 
-    pub loop-fault : (h .fault .number ≡ 0 → ⊥) → record { fault = h .fault; count = 0; end = 0; last = 0 } ≡ w
+    pub loop-fault : (h .fault .number ≡ 0 → ⊥) → record { fault = h .fault; count = 0; end = 0; last = record { 0 = 0 } } ≡ w
     loop-fault k =
-        sym (one-more (stop (h .fault)) (rw fault-is (walk-bad _ rt sfn end s lo at l (rw (← fault-is) k))) ∙ tally-bad count at last (h .fault) k)
+        sym (one-more (stop (h .fault)) (rw fault-is (walk-bad _ rt sfn end s lo at l (rw (← fault-is) k))) ∙ tally-bad count at (last .0) (h .fault) k)
 
     module _ (k : h .fault .number ≡ 0) where
       none : headFault rt sfn end s lo at .number ≡ 0
       none = rw (← fault-is) k
 
       pub loop-cut : length s < at + 4 + h .len → record { fault = accept; count = count; end = at; last = last } ≡ w
-      loop-cut m = sym (one-more (stop accept) (walk-short _ rt sfn end s lo at l none (rw (← len-is) m)) ∙ tally-stop count at last)
+      loop-cut m = sym (one-more (stop accept) (walk-short _ rt sfn end s lo at l none (rw (← len-is) m)) ∙ tally-stop count at (last .0))
 
-      pub loop-more : at + 4 + h .len ≤ length s → w ≡ left rt sfn end s (at + 4 + h .len) (h .number + 1) (count + 1) (h .number)
+      pub loop-more : at + 4 + h .len ≤ length s → w ≡ left rt sfn end s (at + 4 + h .len) (h .number .0 + 1) (count + 1) (h .number .0)
       unfolding descAt
       loop-more m =
           let g : at + 4 + lengthAt s at ≤ length s = rw (← len-is) m in
           let x : at + length (bytes (descAt s at)) ≡ at + 4 + lengthAt s at = omega (arith, length-descAt s at g) in
           one-more _ (walk-step _ rt sfn end s lo at l none g)
-          ∙ tally-onward count at last (descAt s at) _
+          ∙ tally-onward count at (last .0) (descAt s at) _
           ∙ rw (x, len-is, number-is)

@@ -22,7 +22,7 @@ refusal r = record { reading = refused r; last = record { 0 = 0 } }
 
 -- the four header bytes at a place: number, Additional Length, and what they are refused for
 unfoldable pub headAt : (rt sfn end : ℕ) (s : List ℕ) (lo at : ℕ) → Head
-headAt rt sfn end s lo at = record { number = numberAt s at; len = lengthAt s at; fault = headFault rt sfn end s lo at }
+headAt rt sfn end s lo at = record { number = record { 0 = numberAt s at }; len = lengthAt s at; fault = headFault rt sfn end s lo at }
 
 -- the number of the last of ds behind a descriptor numbered n
 unfoldable pub lastFrom : ℕ → List Desc → ℕ
@@ -34,6 +34,6 @@ lastFrom n (d ∷ ds) = lastFrom (d .number) ds
 unfoldable pub tally : (count place last : ℕ) → Walked → Walk
 tally count place last w =
     elim (w .fault .number) [
-      | zero ↦ record { fault = accept; count = count + length (w .found); end = place + length (flat bytes (w .found)); last = lastFrom last (w .found) }
-      | suc e ↦ record { fault = w .fault; count = 0; end = 0; last = 0 }
+      | zero ↦ record { fault = accept; count = count + length (w .found); end = place + length (flat bytes (w .found)); last = record { 0 = lastFrom last (w .found) } }
+      | suc e ↦ record { fault = w .fault; count = 0; end = 0; last = record { 0 = 0 } }
     ]

@@ -7,7 +7,7 @@ ghost use lib.ListN.{length};
 ghost use Rattle.text.specs.Flags.{current};
 ghost use Rattle.text.specs.Reading.{headerRule, headRule, walk, reading};
 ghost use Rattle.reading.specs.Scan.{scanned, refusal, headAt, tally};
-ghost use Rattle.reading.specs.Held.{heldIn, heldOf};
+ghost use Rattle.reading.specs.Held.{HeldIn, HeldOf};
 use text::Feature;
 use text::Header;
 use text::Profile;
@@ -22,7 +22,7 @@ pub struct Scanned {
 
 // The header bytes of a descriptor: number, Additional Length, and a refusal or none.
 struct Head {
-    number: u16,
+    number: Feature,
     len: u8,
     fault: Refusal,
 }
@@ -32,7 +32,7 @@ struct Walk {
     fault: Refusal,
     count: u32,
     end: usize,
-    last: u16,
+    last: Feature,
 }
 
 // ---- the rules, on numbers
@@ -65,13 +65,13 @@ fn header_rule(limit: usize, rt: u8, received: usize, stated: u32) -> Refusal
 }
 
 // RT 2: not the feature that was asked for.
-fn other_feature(rt: u8, sfn: u16, number: u16) -> bool
-    ensures { λ r. ⌜ r ≡ (eqb rt 2 && not (eqb number sfn)) ⌝ }
+fn other_feature(rt: u8, sfn: Feature, number: Feature) -> bool
+    ensures { λ r. ⌜ r ≡ (eqb rt 2 && not (eqb (number .0) (sfn .0))) ⌝ }
 {
     if rt != 2 {
         return false;
     }
-    number != sfn
+    number.0 != sfn.0
 }
 
 // RT 1: a feature that is not current.
@@ -84,23 +84,25 @@ fn not_current(rt: u8, flags: u8) -> bool
     flags % 2 == 0
 }
 
+// The lowest number that may stand, lo, is a bound and not a feature number: behind FFFFh it is 65,536.
+// Asks: a place of at most 65,534, the longest response, which 14 has shown before.
 fn head_rule(
     rt: u8,
-    sfn: u16,
+    sfn: Feature,
     end: usize,
     lo: u32,
     at: usize,
-    number: u16,
+    number: Feature,
     flags: u8,
     len: u8,
 ) -> Refusal
     requires { ⌜ at ≤ 65534 ⌝ }
-    ensures { λ r. ⌜ r ≡ headRule rt sfn end lo at number flags len ⌝ }
+    ensures { λ r. ⌜ r ≡ headRule rt (sfn .0) end lo at (number .0) flags len ⌝ }
 {
     if len % 4 != 0 {
         return text::ADDITIONAL_BAD;
     }
-    if (number as u32) < lo {
+    if (number.0 as u32) < lo {
         return text::FEATURE_BAD;
     }
     if other_feature(rt, sfn, number) {
@@ -118,11 +120,12 @@ fn head_rule(
 // ---- the walk
 
 // The header bytes at a place, judged.
-fn head_at(rt: u8, sfn: u16, end: usize, s: &[u8], lo: u32, at: usize) -> Head
+// Asks: a place of at most 65,534, the longest response, which 14 has shown before.
+fn head_at(rt: u8, sfn: Feature, end: usize, s: &[u8], lo: u32, at: usize) -> Head
     requires { ⌜ at ≤ 65534 ⌝ }
-    ensures { λ r. ⌜ r ≡ headAt rt sfn end (now (s .entry)) lo at ⌝ }
+    ensures { λ r. ⌜ r ≡ headAt rt (sfn .0) end (now (s .entry)) lo at ⌝ }
 {
-    let number = fields::get2(s, at);
+    let number = Feature(fields::get2(s, at));
     let flags = fields::byte(s, at + 2);
     let len = fields::byte(s, at + 3);
     let fault = head_rule(rt, sfn, end, lo, at, number, flags, len);
@@ -130,14 +133,15 @@ fn head_at(rt: u8, sfn: u16, end: usize, s: &[u8], lo: u32, at: usize) -> Head
 }
 
 // The walk over the descriptors of a response that ends at end, from sfn on.
-fn walk_over(rt: u8, sfn: u16, end: usize, s: &[u8]) -> Walk
+// Asks: 8 to 65,534 bytes, which 14 has shown before.
+fn walk_over(rt: u8, sfn: Feature, end: usize, s: &[u8]) -> Walk
     requires { ⌜ (8 ≤ length (now s)) × (length (now s) ≤ 65534) ⌝ }
-    ensures { λ r. ⌜ r ≡ tally 0 8 0 (walk (length (now (s .entry))) rt sfn end (now (s .entry)) sfn 8) ⌝ }
+    ensures { λ r. ⌜ r ≡ tally 0 8 0 (walk (length (now (s .entry))) rt (sfn .0) end (now (s .entry)) (sfn .0) 8) ⌝ }
 {
     let mut at: usize = 8;
-    let mut lo = sfn as u32;
+    let mut lo = sfn.0 as u32;
     let mut count: u32 = 0;
-    let mut last: u16 = 0;
+    let mut last = Feature(0);
     while at + 4 <= s.len() {
         let head = head_at(rt, sfn, end, s, lo, at);
         let fault = head.fault;
@@ -146,7 +150,7 @@ fn walk_over(rt: u8, sfn: u16, end: usize, s: &[u8]) -> Walk
                 fault,
                 count: 0,
                 end: 0,
-                last: 0,
+                last: Feature(0),
             };
         }
         let next = at + 4 + head.len as usize;
@@ -159,9 +163,9 @@ fn walk_over(rt: u8, sfn: u16, end: usize, s: &[u8]) -> Walk
             };
         }
         at = next;
-        lo = head.number as u32 + 1;
-        count += 1;
         last = head.number;
+        lo = last.0 as u32 + 1;
+        count += 1;
     }
     Walk {
         fault: text::ACCEPTED,
@@ -200,11 +204,12 @@ pub fn scan(limit: usize, rt: u8, sfn: Feature, s: &[u8]) -> Scanned
         return refusing(fault);
     }
     let end = stated as usize + 4;
-    let walk = walk_over(rt, sfn.0, end, s);
+    let walk = walk_over(rt, sfn, end, s);
     let fault = walk.fault;
     if fault.number != 0 {
         return refusing(fault);
     }
+    let last = walk.last;
     Scanned {
         reading: Reading {
             refusal: text::ACCEPTED,
@@ -214,7 +219,7 @@ pub fn scan(limit: usize, rt: u8, sfn: Feature, s: &[u8]) -> Scanned
             end: walk.end,
             complete: s.len() == end,
         },
-        last: Feature(walk.last),
+        last,
     }
 }
 
@@ -230,7 +235,7 @@ pub fn read(rt: u8, sfn: Feature, s: &[u8]) -> Reading
 
 // The descriptor of a feature as a part of a response to RT 0 from 0, empty where the response is refused or does not have it whole.
 fn held_in(feature: Feature, s: &[u8]) -> &[u8]
-    ensures { λ r. ⌜ now r ≡ heldIn (feature .0) (now (s .entry)) ⌝ }
+    ensures { λ r. ⌜ HeldIn (feature .0) (s .entry) r ⌝ }
 {
     let reading = read(0, Feature(0), s);
     let end = reading.end;
@@ -242,17 +247,17 @@ fn held_in(feature: Feature, s: &[u8]) -> &[u8]
             return fields::part(s, at, size);
         }
         if number > feature.0 {
-            return &s[..0];
+            return fields::part(s, at, 0);
         }
         at += size;
     }
-    &s[..0]
+    fields::part(s, at, 0)
 }
 
 // The descriptor of a feature, its header bytes and body, as a part of the fresh response if whole there, else of the kept one, else empty. Both are
 // responses to RT 0 from 0.
 pub fn held<'a>(feature: Feature, fresh: &'a [u8], kept: &'a [u8]) -> &'a [u8]
-    ensures { λ r. ⌜ now r ≡ heldOf (feature .0) (now (fresh .entry)) (now (kept .entry)) ⌝ }
+    ensures { λ r. ⌜ HeldOf (feature .0) (fresh .entry) (kept .entry) r ⌝ }
 {
     let part = held_in(feature, fresh);
     if part.len() != 0 {

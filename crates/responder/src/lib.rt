@@ -28,13 +28,14 @@ struct Range {
 }
 
 // The half of a range where the first entry numbered sfn or more is.
-fn halved(s: &[u8], sfn: u16, low: u16, high: u16) -> Range
+// Asks: a range that is not empty; the bisection stops at an empty one.
+fn halved(s: &[u8], sfn: Feature, low: u16, high: u16) -> Range
     requires { ⌜ low < high ⌝ }
-    ensures { λ r. ⌜ r ≡ half (now (s .entry)) sfn low high ⌝ }
+    ensures { λ r. ⌜ r ≡ half (now (s .entry)) (sfn .0) low high ⌝ }
 {
     let middle = low + (high - low) / 2;
     let feature = layout::feature_at(s, middle);
-    if feature.0 < sfn {
+    if feature.0 < sfn.0 {
         return Range {
             low: middle + 1,
             high: high,
@@ -47,8 +48,8 @@ fn halved(s: &[u8], sfn: u16, low: u16, high: u16) -> Range
 }
 
 // The first of n entries numbered sfn or more, n if there is none.
-fn first_from(s: &[u8], n: u16, sfn: u16) -> u16
-    ensures { λ r. ⌜ r ≡ firstFrom (now (s .entry)) n sfn ⌝ }
+fn first_from(s: &[u8], n: u16, sfn: Feature) -> u16
+    ensures { λ r. ⌜ r ≡ firstFrom (now (s .entry)) n (sfn .0) ⌝ }
 {
     let mut low: u16 = 0;
     let mut high = n;
@@ -61,8 +62,8 @@ fn first_from(s: &[u8], n: u16, sfn: u16) -> u16
 }
 
 // The end of the wanted entries that start at from.
-fn wanted_end(s: &[u8], rt: u8, n: u16, sfn: u16, from: u16) -> u16
-    ensures { λ r. ⌜ r ≡ wantedEnd rt (now (s .entry)) n sfn from ⌝ }
+fn wanted_end(s: &[u8], rt: u8, n: u16, sfn: Feature, from: u16) -> u16
+    ensures { λ r. ⌜ r ≡ wantedEnd rt (now (s .entry)) n (sfn .0) from ⌝ }
 {
     if rt < 2 {
         return n;
@@ -71,7 +72,7 @@ fn wanted_end(s: &[u8], rt: u8, n: u16, sfn: u16, from: u16) -> u16
         return from;
     }
     let feature = layout::feature_at(s, from);
-    if feature.0 == sfn {
+    if feature.0 == sfn.0 {
         return from + 1;
     }
     from
@@ -139,10 +140,10 @@ fn entries_size(s: &[u8], rt: u8, from: u16, to: u16) -> usize
     span_size(s, from, to)
 }
 
-fn zero_size(s: &[u8], sfn: u16) -> usize
-    ensures { λ r. ⌜ (r ≡ zeroSize (now (s .entry)) sfn) × (r < 300000) ⌝ }
+fn zero_size(s: &[u8], sfn: Feature) -> usize
+    ensures { λ r. ⌜ (r ≡ zeroSize (now (s .entry)) (sfn .0)) × (r < 300000) ⌝ }
 {
-    if sfn == 0 {
+    if sfn.0 == 0 {
         return 4 + 4 * (layout::profile_count(s) as usize);
     }
     0
@@ -155,8 +156,8 @@ struct Plan {
 }
 
 // The entries that a request takes, and how many bytes stand behind the header.
-fn planned(s: &[u8], rt: u8, sfn: u16) -> Plan
-    ensures { λ r. ⌜ (r ≡ plan (now (s .entry)) rt sfn) × (r .size < 6000000000) ⌝ }
+fn planned(s: &[u8], rt: u8, sfn: Feature) -> Plan
+    ensures { λ r. ⌜ (r ≡ plan (now (s .entry)) rt (sfn .0)) × (r .size < 6000000000) ⌝ }
 {
     let n = layout::feature_count(s);
     let from = first_from(s, n, sfn);
@@ -220,10 +221,10 @@ fn put_zero(out: &mut [u8], at: usize, s: &[u8]) -> usize
     lent::copy(out, c, layout::profiles_part(s))
 }
 
-fn put_zero_part(out: &mut [u8], at: usize, s: &[u8], sfn: u16) -> usize
-    ensures { λ r. ⌜ Wrote (now (out .entry)) at (zeroPart (now (s .entry)) sfn) r (now (out .exit)) ⌝ }
+fn put_zero_part(out: &mut [u8], at: usize, s: &[u8], sfn: Feature) -> usize
+    ensures { λ r. ⌜ Wrote (now (out .entry)) at (zeroPart (now (s .entry)) (sfn .0)) r (now (out .exit)) ⌝ }
 {
-    if sfn == 0 {
+    if sfn.0 == 0 {
         return put_zero(out, at, s);
     }
     at
@@ -253,8 +254,8 @@ fn current_profile(s: &[u8], p: u16) -> Profile
 }
 
 // The whole response.
-fn put_full(out: &mut [u8], s: &[u8], rt: u8, sfn: u16, from: u16, to: u16, h: Header) -> usize
-    ensures { λ r. ⌜ Wrote (now (out .entry)) 0 (fullBytes (now (s .entry)) rt sfn from to (h .data_length) (h .profile .0)) r (now (out .exit)) ⌝ }
+fn put_full(out: &mut [u8], s: &[u8], rt: u8, sfn: Feature, from: u16, to: u16, h: Header) -> usize
+    ensures { λ r. ⌜ Wrote (now (out .entry)) 0 (fullBytes (now (s .entry)) rt (sfn .0) from to (h .data_length) (h .profile .0)) r (now (out .exit)) ⌝ }
 {
     let a = put_header(out, 0, h);
     let b = put_zero_part(out, a, s, sfn);
@@ -283,7 +284,7 @@ fn data_length(size: usize) -> u32
 pub fn send(s: &[u8], rt: u8, sfn: Feature, a: u16, out: &mut [u8]) -> Reply
     ensures { λ r. ⌜ outcome r (now (out .exit)) ≡ trusting (now (s .entry)) rt (sfn .0) a (now (out .entry)) ⌝ }
 {
-    let plan = planned(s, rt, sfn.0);
+    let plan = planned(s, rt, sfn);
     let limit = least(
         least(a as usize, Header::RETURN_LIMIT),
         Header::LENGTH + plan.size,
@@ -296,7 +297,7 @@ pub fn send(s: &[u8], rt: u8, sfn: Feature, a: u16, out: &mut [u8]) -> Reply
     }
     let profile = current_profile(s, layout::profile_count(s));
     let header = Header::new(data_length(plan.size), profile);
-    let count = put_full(&mut out[..limit], s, rt, sfn.0, plan.from, plan.to, header);
+    let count = put_full(&mut out[..limit], s, rt, sfn, plan.from, plan.to, header);
     Reply {
         refusal: text::ACCEPTED,
         count: count,

@@ -44,12 +44,12 @@ flagsRule f =
     accept
 
 -- 4: feature number 0, or not above the one before. 5: flags. 6: body length no multiple of 4. 7: offset not the end of the body before
-unfoldable pub entryRule : (number before flags length offset end : ℕ) → Refusal
-entryRule number before flags length offset end =
+unfoldable pub entryRule : (number before flags len offset end : ℕ) → Refusal
+entryRule number before flags len offset end =
     refuse 4 if eqb number 0 else
     refuse 4 if leb number before else
     flagsRule flags orElse
-    refuse 6 if not (eqb (length % 4) 0) else
+    refuse 6 if not (eqb (len % 4) 0) else
     refuse 7 if not (eqb offset end) else
     accept
 

@@ -3,15 +3,17 @@ ghost use mathlib.Core.Path.{_≡_};
 ghost use Rattle.layout.specs.Layout.{number, flags, bodyLength, offset};
 ghost use Rattle.text.specs.First.{firstOf};
 ghost use Rattle.sheet.specs.Check.{profileRule, sameProfile, profileFault, numberBefore, endBefore, flagsRule, entryRule, entryFault, counted, verdict};
+use text::Feature;
+use text::Profile;
 use text::Refusal;
 
 // ---- the rules, on numbers
 
 // 3 of a profile; `listed` is what its number's place among those before it gives.
-pub fn profile_rule(number: u16, listed: Refusal, current: u8, last: u8) -> Refusal
-    ensures { λ r. ⌜ r ≡ profileRule number listed current last ⌝ }
+pub fn profile_rule(number: Profile, listed: Refusal, current: u8, last: u8) -> Refusal
+    ensures { λ r. ⌜ r ≡ profileRule (number .0) listed current last ⌝ }
 {
-    if number == 0 {
+    if number.0 == 0 {
         return text::PROFILE_BAD;
     }
     if listed.number != 0 {
@@ -45,13 +47,20 @@ pub fn flags_rule(f: u8) -> Refusal
     text::ACCEPTED
 }
 
-fn entry_rule(number: u16, before: u16, flags: u8, len: u8, offset: u32, end: usize) -> Refusal
-    ensures { λ r. ⌜ r ≡ entryRule number before flags len offset end ⌝ }
+fn entry_rule(
+    number: Feature,
+    before: Feature,
+    flags: u8,
+    len: u8,
+    offset: u32,
+    end: usize,
+) -> Refusal
+    ensures { λ r. ⌜ r ≡ entryRule (number .0) (before .0) flags len offset end ⌝ }
 {
-    if number == 0 {
+    if number.0 == 0 {
         return text::ORDER_BAD;
     }
-    if number <= before {
+    if number.0 <= before.0 {
         return text::ORDER_BAD;
     }
     let fault = flags_rule(flags);
@@ -102,7 +111,7 @@ fn profile_fault(s: &[u8], i: u16) -> Refusal
     let profile = layout::profile_at(s, i);
     let listed = listed_before(s, i);
     profile_rule(
-        profile.0,
+        profile,
         listed,
         layout::current_at(s, i),
         layout::last_at(s, i),
@@ -125,14 +134,13 @@ fn profiles_fault(s: &[u8], p: u16) -> Refusal
 }
 
 // The feature number before entry i, 0 at the first.
-fn number_before(s: &[u8], i: u16) -> u16
-    ensures { λ r. ⌜ r ≡ numberBefore (now (s .entry)) i ⌝ }
+fn number_before(s: &[u8], i: u16) -> Feature
+    ensures { λ r. ⌜ r .0 ≡ numberBefore (now (s .entry)) i ⌝ }
 {
     if i == 0 {
-        return 0;
+        return Feature(0);
     }
-    let before = layout::feature_at(s, i - 1);
-    before.0
+    layout::feature_at(s, i - 1)
 }
 
 // Where the body before that of entry i ends.
@@ -146,12 +154,12 @@ pub fn end_before(s: &[u8], i: u16) -> usize
 }
 
 // The refusal of entry i, behind an entry with this number and a body that ends here.
-fn entry_fault(s: &[u8], i: u16, before: u16, end: usize) -> Refusal
-    ensures { λ r. ⌜ r ≡ entryRule (number (now (s .entry)) i) before (flags (now (s .entry)) i) (bodyLength (now (s .entry)) i) (offset (now (s .entry)) i) end ⌝ }
+fn entry_fault(s: &[u8], i: u16, before: Feature, end: usize) -> Refusal
+    ensures { λ r. ⌜ r ≡ entryRule (number (now (s .entry)) i) (before .0) (flags (now (s .entry)) i) (bodyLength (now (s .entry)) i) (offset (now (s .entry)) i) end ⌝ }
 {
     let feature = layout::feature_at(s, i);
     entry_rule(
-        feature.0,
+        feature,
         before,
         layout::flags_at(s, i),
         layout::length_at(s, i),
@@ -165,7 +173,7 @@ fn entries_fault(s: &[u8], n: u16) -> Refusal
     ensures { λ r. ⌜ r ≡ firstOf (entryFault (now (s .entry))) 0 n ⌝ }
 {
     let mut i: u16 = 0;
-    let mut before: u16 = 0;
+    let mut before = Feature(0);
     let mut end = layout::bodies_at(s);
     while i < n {
         let fault = entry_fault(s, i, before, end);

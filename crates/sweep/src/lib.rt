@@ -26,7 +26,7 @@ pub struct Step {
 }
 
 // The highest feature number: no start comes behind it.
-const LAST_FEATURE: u16 = 65535;
+const LAST_FEATURE: Feature = Feature(0xFFFF);
 
 // ---- the rules, on numbers
 
@@ -43,8 +43,8 @@ fn start_rule(rt: u8, allocation: u16) -> Refusal
 }
 
 // What is refused of a cut response of so many bytes, with so many whole descriptors, the last numbered last.
-fn cut_rule(complete: bool, received: usize, most: usize, count: u32, last: u16) -> Refusal
-    ensures { λ r. ⌜ r ≡ cutRule complete received most count last ⌝ }
+fn cut_rule(complete: bool, received: usize, most: usize, count: u32, last: Feature) -> Refusal
+    ensures { λ r. ⌜ r ≡ cutRule complete received most count (last .0) ⌝ }
 {
     if complete {
         return text::ACCEPTED;
@@ -55,7 +55,7 @@ fn cut_rule(complete: bool, received: usize, most: usize, count: u32, last: u16)
     if count == 0 {
         return text::NONE_WHOLE;
     }
-    if last == LAST_FEATURE {
+    if last.0 == LAST_FEATURE.0 {
         return text::CUT_AT_LAST;
     }
     text::ACCEPTED
@@ -136,7 +136,7 @@ impl Sweep {
             received,
             most(self.allocation),
             reading.count,
-            last.0,
+            last,
         );
         if fault.number != 0 {
             return fault;
@@ -163,6 +163,7 @@ impl Sweep {
     }
 
     // The record that an accepted scan gives, with so many bytes collected.
+    // Asks: fewer than 65,536 commands, and a cut response that does not end at FFFFh, which 26 and 27 have shown before.
     fn moved_on(self, scan: Scanned, collected: usize) -> Sweep
         requires { ⌜ (self .commands < 65536) × (scan .reading .complete ≡ false → scan .last .0 ≡ 65535 → ⊥) ⌝ }
         ensures { λ r. ⌜ r ≡ moved self scan collected ⌝ }

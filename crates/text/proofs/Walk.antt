@@ -117,31 +117,31 @@ headerRule-zero limit rt received stated e =
 -- ---- a descriptor's four header bytes
 
 -- what their acceptance says, and the other way round
-pub record HeadFine (rt sfn end lo at number flags length : ℕ) : Type 0 where
-  pub four : length % 4 ≡ 0
+pub record HeadFine (rt sfn end lo at number flags len : ℕ) : Type 0 where
+  pub four : len % 4 ≡ 0
   pub from : lo ≤ number
   pub one : (eqb rt 2 && not (eqb number sfn)) ≡ false
   pub on : (eqb rt 1 && eqb (current flags) 0) ≡ false
-  pub within : at + 4 + length ≤ end
+  pub within : at + 4 + len ≤ end
 
-pub headRule-accept : (rt sfn end lo at number flags length : ℕ) → HeadFine rt sfn end lo at number flags length → headRule rt sfn end lo at number flags length ≡ accept
+pub headRule-accept : (rt sfn end lo at number flags len : ℕ) → HeadFine rt sfn end lo at number flags len → headRule rt sfn end lo at number flags len ≡ accept
 unfolding headRule _if_else_
-headRule-accept rt sfn end lo at number flags length h =
-    rw (eq-eqb (length % 4) 0 (h .four), le-ltb number lo (h .from), h .one, h .on, le-ltb end (at + 4 + length) (h .within))
+headRule-accept rt sfn end lo at number flags len h =
+    rw (eq-eqb (len % 4) 0 (h .four), le-ltb number lo (h .from), h .one, h .on, le-ltb end (at + 4 + len) (h .within))
 
-pub headRule-zero : (rt sfn end lo at number flags length : ℕ) → headRule rt sfn end lo at number flags length .number ≡ 0 → HeadFine rt sfn end lo at number flags length
+pub headRule-zero : (rt sfn end lo at number flags len : ℕ) → headRule rt sfn end lo at number flags len .number ≡ 0 → HeadFine rt sfn end lo at number flags len
 unfolding headRule
-headRule-zero rt sfn end lo at number flags length e =
+headRule-zero rt sfn end lo at number flags len e =
     let a = if-zero _ _ _ e in
     let b = if-zero _ _ _ (a .1) in
     let c = if-zero _ _ _ (b .1) in
     let d = if-zero _ _ _ (c .1) in
     record {
-      four = eqb-true (length % 4) 0 (not-false (eqb (length % 4) 0) (a .0));
+      four = eqb-true (len % 4) 0 (not-false (eqb (len % 4) 0) (a .0));
       from = ltb-false number lo (b .0);
       one = c .0;
       on = d .0;
-      within = ltb-false end (at + 4 + length) (if-zero _ _ _ (d .1) .0);
+      within = ltb-false end (at + 4 + len) (if-zero _ _ _ (d .1) .0);
     }
 
 abbrev pub head : Desc → List ℕ

@@ -40,13 +40,13 @@ headerRule limit rt received stated =
 -- the four header bytes of a descriptor at place `at`, where lo is the lowest number allowed (SFN, or one above the number before) and end is
 -- Data Length + 4. 17: Additional Length no multiple of 4. 18: number below lo, or with RT 2 not SFN. 19: with RT 1 not current. 20: it ends
 -- beyond end
-unfoldable pub headRule : (rt sfn end lo at number flags length : ℕ) → Refusal
-headRule rt sfn end lo at number flags length =
-    refuse 17 if not (eqb (length % 4) 0) else
+unfoldable pub headRule : (rt sfn end lo at number flags len : ℕ) → Refusal
+headRule rt sfn end lo at number flags len =
+    refuse 17 if not (eqb (len % 4) 0) else
     refuse 18 if ltb number lo else
     refuse 18 if eqb rt 2 && not (eqb number sfn) else
     refuse 19 if eqb rt 1 && eqb (current flags) 0 else
-    refuse 20 if ltb end (at + 4 + length) else
+    refuse 20 if ltb end (at + 4 + len) else
     accept
 
 -- the descriptor at a place: its number, flags, Additional Length, and all of it

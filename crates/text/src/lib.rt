@@ -2,10 +2,12 @@
 ghost use mathlib.Core.Path.{_≡_};
 ghost use Rattle.text.specs.Command.{commandFault, commandOf, headerOf};
 
-// A feature number.
+// A feature number. C takes it as a struct of one number (include/gcf.h).
+#[repr(C)]
 pub struct Feature(pub u16);
 
 // A profile number. No function takes one for the other.
+#[repr(C)]
 pub struct Profile(pub u16);
 
 // Why something was refused: the paper's number, 0 where nothing was.

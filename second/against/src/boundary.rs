@@ -5,6 +5,14 @@
 
 use second::sweep::Record;
 
+/// A feature number as the functions take it: gcf_feature.
+#[repr(C)]
+struct Feature(u16);
+
+/// A profile number as the functions take it: gcf_profile.
+#[repr(C)]
+struct Profile(u16);
+
 extern "C" {
     fn gcf_check_sheet(sheet: *const u8, sheet_len: usize) -> u8;
     fn gcf_respond(
@@ -29,14 +37,14 @@ extern "C" {
     ) -> u8;
     fn gcf_read(
         rt: u8,
-        sfn: u16,
+        sfn: Feature,
         response: *const u8,
         response_len: usize,
         numbers: *mut u64,
         numbers_len: usize,
     ) -> u8;
     fn gcf_held(
-        feature: u16,
+        feature: Feature,
         fresh: *const u8,
         fresh_len: usize,
         kept: *const u8,
@@ -50,7 +58,7 @@ extern "C" {
     fn gcf_sweep_take(
         rt: u8,
         allocation: u16,
-        next: u16,
+        next: Feature,
         commands: u32,
         collected: usize,
         ended: bool,
@@ -82,7 +90,7 @@ extern "C" {
         numbers_len: usize,
     ) -> u8;
     fn gcf_check_profile(
-        profile: u16,
+        profile: Profile,
         response: *const u8,
         response_len: usize,
         numbers: *mut u64,
@@ -137,14 +145,16 @@ pub fn respond_accepted(sheet: &[u8], command: &[u8], response: &mut [u8], numbe
 
 /// Reads a response; the numbers are: profile, Data Length, whole descriptors, place behind the last, complete.
 pub fn read(rt: u8, sfn: u16, response: &[u8], numbers: &mut [u64]) -> u8 {
-    unsafe { gcf_read(rt, sfn, response.as_ptr(), response.len(), numbers.as_mut_ptr(), numbers.len()) }
+    unsafe {
+        gcf_read(rt, Feature(sfn), response.as_ptr(), response.len(), numbers.as_mut_ptr(), numbers.len())
+    }
 }
 
 /// Copies a feature's descriptor from the fresh response, else from the kept one; gives how many bytes it wrote.
 pub fn held(feature: u16, fresh: &[u8], kept: &[u8], descriptor: &mut [u8]) -> usize {
     unsafe {
         gcf_held(
-            feature,
+            Feature(feature),
             fresh.as_ptr(),
             fresh.len(),
             kept.as_ptr(),
@@ -176,7 +186,7 @@ pub fn sweep_take(record: Record, response: &[u8], collecting: &mut [u8], number
         gcf_sweep_take(
             record.rt,
             record.allocation,
-            record.next.0,
+            Feature(record.next.0),
             record.commands,
             record.collected,
             record.ended,
@@ -226,7 +236,13 @@ pub fn check_descriptors(response: &[u8], numbers: &mut [u64]) -> u8 {
 /// Checks a profile's features; the numbers are: whether one is missing, and which.
 pub fn check_profile(profile: u16, response: &[u8], numbers: &mut [u64]) -> u8 {
     unsafe {
-        gcf_check_profile(profile, response.as_ptr(), response.len(), numbers.as_mut_ptr(), numbers.len())
+        gcf_check_profile(
+            Profile(profile),
+            response.as_ptr(),
+            response.len(),
+            numbers.as_mut_ptr(),
+            numbers.len(),
+        )
     }
 }
 

@@ -9,7 +9,7 @@ use Rattle.import.proofs.body_at.Tie as tie
 
 returns : tie.Need-returns
 unfolding descAt lengthAt
-returns c = (cc, omega (arith, simp length-take at (ap length (c .part .ensures))))
+returns c = (cc, omega (arith, simp length-take at (ap length (c .part .ensures .holds))))
 
 pub body-at-spec : {M : Type 1} → statement M
 body-at-spec = tie.close (tie.spec (λ c. search needs) (λ c. search needs) (λ c κs. search needs) (λ c. search needs) (λ c κs. search needs) returns)

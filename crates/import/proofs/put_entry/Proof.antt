@@ -9,7 +9,7 @@ use Rattle.import.proofs.put_entry.Tie as tie
 returns : tie.Need-returns
 unfolding entryOf descAt numberAt flagsAt
 returns c =
-    rw (← c .before .before .before .before .before .before .before .before .before .before .before .before .before .before .before .before .get2 .ensures, ← c .before .before .before .before .before .before .before .before .before .before .before .byte .ensures, ← c .before .before .before .before .before .before .before .before .before .before .before .before .before .before .before .before .before .before .body-at .ensures .0)
+    rw (← c .before .before .before .before .before .before .before .before .before .before .before .before .before .before .before .before .before .get2 .ensures, ← c .before .before .before .before .before .before .before .before .before .before .before .byte .ensures, ← c .before .before .before .before .before .before .before .before .before .before .before .before .before .before .before .before .before .before .body-at .ensures .0)
     (then (then (then (c .before .before .before .before .before .before .before .before .before .before .before .before .before .before .before .put2 .ensures) (c .before .before .before .before .before .before .before .before .before .before .put .ensures)) (c .before .before .before .before .before .before .put3 .ensures)) (c .before .before .put4 .ensures))
 
 pub put-entry-spec : {M : Type 1} → statement M

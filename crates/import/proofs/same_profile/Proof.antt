@@ -7,11 +7,11 @@ use Rattle.import.proofs.same_profile.Tie as tie
 
 returns : tie.Need-returns
 unfolding numberIn
-returns c = search (tests, ← c .before .before .get2 .ensures, ← c .before .get22 .ensures)
+returns c = search (tests, ← c .before .before .before .before .get2 .ensures, ← c .before .before .before .get22 .ensures)
 
 returns-2 : tie.Need-returns-2
 unfolding numberIn
-returns-2 c = search (tests, ← c .before .before .get2 .ensures, ← c .before .get22 .ensures)
+returns-2 c = search (tests, ← c .before .before .before .before .get2 .ensures, ← c .before .before .before .get22 .ensures)
 
 pub same-profile-spec : {M : Type 1} → statement M
 same-profile-spec =

@@ -32,4 +32,4 @@ returns-6 c = search (tests, ← c .before .before .before .before .other-featur
 pub head-rule-spec : {M : Type 1} → statement M
 head-rule-spec =
     tie.close
-    (tie.spec returns returns-2 (λ c κs. search needs) returns-3 (λ c κs. search needs) returns-4 (λ c. search needs) (λ c. search needs) returns-5 returns-6)
+    (tie.spec returns (λ c. search needs) returns-2 (λ c κs. search needs) returns-3 (λ c κs. search needs) returns-4 (λ c. search needs) (λ c. search needs) returns-5 returns-6)

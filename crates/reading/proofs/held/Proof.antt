@@ -1,15 +1,14 @@
 -- `reading::held` meets its contract: the fresh part where it is not empty, else the kept one.
-use mathlib.Core.Path.{_∙_}
-use Rattle.reading.proofs.Fresh.{held-fresh, held-kept}
+use Rattle.reading.proofs.Fresh.{part-fresh, part-kept}
 use borrow.Author.Needs.{needs}
 use Rattle.reading.proofs.held.Statement.{statement}
 use Rattle.reading.proofs.held.Tie as tie
 
 returns : tie.Need-returns
-returns c = search held-fresh
+returns c = search part-fresh
 
 returns-2 : tie.Need-returns-2
-returns-2 c = c .held-in2 .ensures ∙ search held-kept
+returns-2 c = search part-kept
 
 pub held-spec : {M : Type 1} → statement M
 held-spec = tie.close (tie.spec (λ c κs. search needs) returns (λ c κs. search needs) returns-2)

@@ -1,7 +1,6 @@
 -- `reading::held_in` meets its contract: the loop carries what is left of the search.
 use borrow.Author.Needs.{needs}
 use Prim.Native.Nat.{_-_, _≤_}
-use mathlib.Core.Path.{_∙_}
 use lib.ListN.{length}
 use Rattle.reading.proofs.Rest.{Rest, rest-start, rest-within, rest-here, rest-above, rest-next, rest-end}
 use Rattle.reading.proofs.held_in.Statement.{statement}
@@ -17,7 +16,7 @@ loop-holds : tie.Need-loop-holds Inv-loop μ-loop
 loop-holds c = (search rest-within, rest-start _ _ _ (c .read .ensures) (λ i. c .before .shared-slice-known .given i .fits))
 
 returns : tie.Need-returns Inv-loop μ-loop
-returns c = c .part .ensures ∙ search rest-here
+returns c = search rest-here
 
 returns-2 : tie.Need-returns-2 Inv-loop μ-loop
 returns-2 c = search rest-above

@@ -11,7 +11,7 @@ use Rattle.reading.proofs.walk_over.Statement.{statement}
 use Rattle.reading.proofs.walk_over.Tie as tie
 
 abbrev Inv-loop : tie.InvT-loop
-Inv-loop rt sfn end s at₀ lo₀ count₀ last₀ at lo count last = (at ≤ length s) × (4 * count + 8 ≤ at) × (tally 0 8 0 (walk (length s) rt sfn end s sfn 8) ≡ left rt sfn end s at lo count last)
+Inv-loop rt sfn end s at₀ lo₀ count₀ last₀ at lo count last = (at ≤ length s) × (4 * count + 8 ≤ at) × (tally 0 8 0 (walk (length s) rt (sfn .0) end s (sfn .0) 8) ≡ left rt (sfn .0) end s at lo count (last .0))
 
 abbrev μ-loop : tie.MeasureT-loop
 μ-loop rt sfn end s at₀ lo₀ count₀ last₀ at lo count last = length s - at
@@ -34,4 +34,4 @@ returns-3 c = search loop-end
 pub walk-over-spec : {M : Type 1} → statement M
 walk-over-spec =
     tie.close
-    (tie.spec Inv-loop μ-loop loop-holds (λ c. search needs) (λ c κs. search needs) returns (λ c. search needs) (λ c. search needs) (λ c. search needs) returns-2 (λ c. search needs) (λ c. search needs) (λ c. search needs) (λ c. search needs) loop-again returns-3)
+    (tie.spec Inv-loop μ-loop (λ c. search needs) loop-holds (λ c. search needs) (λ c κs. search needs) returns (λ c. search needs) (λ c. search needs) (λ c. search needs) returns-2 (λ c. search needs) (λ c. search needs) (λ c. search needs) (λ c. search needs) loop-again returns-3)

@@ -6,7 +6,7 @@ use Rattle.responder.proofs.first_from.Statement.{statement}
 use Rattle.responder.proofs.first_from.Tie as tie
 
 abbrev Inv-loop : tie.InvT-loop
-Inv-loop s n sfn low₀ high₀ low high = Turning s n sfn low high
+Inv-loop s n sfn low₀ high₀ low high = Turning s n (sfn .0) low high
 
 abbrev μ-loop : tie.MeasureT-loop
 μ-loop s n sfn low₀ high₀ low high = high - low

@@ -7,10 +7,10 @@ use Rattle.responder.proofs.halved.Statement.{statement}
 use Rattle.responder.proofs.halved.Tie as tie
 
 returns : tie.Need-returns
-returns c = let a = c .before .before .before .before .args in sym (half-above (a .s .now) (a .sfn) (a .low) (a .high) (omega (arith, c .before .before .feature-at .ensures, c .if1 .taken)))
+returns c = let a = c .before .before .before .before .before .args in sym (half-above (a .s .now) (a .sfn .0) (a .low) (a .high) (omega (arith, c .before .before .before .feature-at .ensures, c .if1 .taken)))
 
 returns-2 : tie.Need-returns-2
-returns-2 c = let a = c .before .before .before .before .args in sym (half-below (a .s .now) (a .sfn) (a .low) (a .high) (omega (arith, c .before .before .feature-at .ensures, c .if1 .left)))
+returns-2 c = let a = c .before .before .before .before .before .args in sym (half-below (a .s .now) (a .sfn .0) (a .low) (a .high) (omega (arith, c .before .before .before .feature-at .ensures, c .if1 .left)))
 
 pub halved-spec : {M : Type 1} → statement M
 halved-spec =

@@ -8,7 +8,7 @@ use Rattle.responder.proofs.put_entry.Tie as tie
 returns : tie.Need-returns
 unfolding entryBytes
 returns c =
-    rw (← c .before .before .before .before .before .before .before .before .before .before .before .before .before .before .before .before .before .before .before .before .feature-at .ensures, ← c .before .before .before .before .before .before .before .before .before .before .before .flags-at .ensures, ← c .before .before .before .before .before .before .before .before .before .before .before .before .before .before .before .before .before .before .before .length-at .ensures, ← c .before .before .before .before .before .before .before .before .before .before .before .before .before .before .before .before .before .before .offset-at .ensures, ← c .before .before .before .before .before .before .before .before .before .before .before .before .before .before .before .before .before .part .ensures)
+    rw (← c .before .before .before .before .before .before .before .before .before .before .before .before .before .before .before .before .before .before .before .before .feature-at .ensures, ← c .before .before .before .before .before .before .before .before .before .before .before .flags-at .ensures, ← c .before .before .before .before .before .before .before .before .before .before .before .before .before .before .before .before .before .before .before .length-at .ensures, ← c .before .before .before .before .before .before .before .before .before .before .before .before .before .before .before .before .before .before .offset-at .ensures, ← c .before .before .before .before .before .before .before .before .before .before .before .before .before .before .before .before .before .part .ensures .holds)
     (then (then (then (c .before .before .before .before .before .before .before .before .before .before .before .before .before .before .before .put2 .ensures) (c .before .before .before .before .before .before .before .before .before .before .put .ensures)) (c .before .before .before .before .before .before .put3 .ensures)) (c .before .before .copy .ensures))
 
 pub put-entry-spec : {M : Type 1} → statement M

@@ -8,7 +8,7 @@ use Rattle.responder.proofs.put_zero.Tie as tie
 returns : tie.Need-returns
 unfolding zeroBytes
 returns c =
-    rw (← c .before .before .before .before .before .before .before .before .before .before .before .before .before .before .before .before .before .profile-count .ensures, ← c .before .before .before .profiles-part .ensures)
+    rw (← c .before .before .before .before .before .before .before .before .before .before .before .before .before .before .before .before .before .profile-count .ensures, ← c .before .before .before .profiles-part .ensures .holds)
     (then (then (then (c .before .before .before .before .before .before .before .before .before .before .before .before .before .before .before .put2 .ensures) (c .before .before .before .before .before .before .before .before .before .before .before .put .ensures)) (c .before .before .before .before .before .before .before .put3 .ensures)) (c .before .before .copy .ensures))
 
 pub put-zero-spec : {M : Type 1} → statement M

@@ -7,10 +7,10 @@ use Rattle.responder.proofs.zero_size.Statement.{statement}
 use Rattle.responder.proofs.zero_size.Tie as tie
 
 returns : tie.Need-returns
-returns c = let k = zero-size-sent (c .before .before .before .args .s .now) (c .before .before .before .args .sfn) (c .before .if1 .taken) in (omega arith, omega arith)
+returns c = let k = zero-size-sent (c .before .before .before .before .args .s .now) (c .before .before .before .before .args .sfn .0) (c .before .if1 .taken) in (omega arith, omega arith)
 
 returns-2 : tie.Need-returns-2
-returns-2 c = (sym (zero-size-left (c .before .before .args .s .now) (c .before .before .args .sfn) (c .if1 .left)), omega arith)
+returns-2 c = (sym (zero-size-left (c .before .before .before .args .s .now) (c .before .before .before .args .sfn .0) (c .if1 .left)), omega arith)
 
 pub zero-size-spec : {M : Type 1} → statement M
 zero-size-spec =

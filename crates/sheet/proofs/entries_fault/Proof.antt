@@ -12,7 +12,7 @@ use Rattle.sheet.proofs.entries_fault.Tie as tie
 
 abbrev Inv-loop : tie.InvT-loop
 Inv-loop s n i₀ before₀ end₀ i before end =
-    (i ≤ n) × (firstOf (entryFault s) 0 n ≡ rest (entryFault s) n i) × (before ≡ numberBefore s i) × (end ≡ endBefore s i)
+    (i ≤ n) × (firstOf (entryFault s) 0 n ≡ rest (entryFault s) n i) × (before .0 ≡ numberBefore s i) × (end ≡ endBefore s i)
 
 abbrev μ-loop : tie.MeasureT-loop
 μ-loop s n i₀ before₀ end₀ i before end = n - i

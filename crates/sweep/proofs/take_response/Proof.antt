@@ -70,8 +70,8 @@ abbrev mach : Sweep → Val
 mach s = LL.val T.the-type T′.the-laws s
 
 -- the contract that the proof cites
-abbrev Take : {M : Type 1} (𝓤 : URA M) (H : Heap 𝓤) (A : Atoms 𝓤) (mem : Memory → SProp 𝓤) (run : Routine → Fun 𝓤) → Contract 𝓤
-Take 𝓤 H A mem run = tripleOf 𝓤 H A take.signature (take.spec 𝓤 H A mem run)
+abbrev Take : {M : Type 1} (𝓤 : URA M) (H : Heap 𝓤) (A : Atoms 𝓤) (at-mem : Memory → SProp 𝓤) (run : Routine → Fun 𝓤) → Contract 𝓤
+Take 𝓤 H A at-mem run = tripleOf 𝓤 H A take.signature (take.spec 𝓤 H A at-mem run)
 
 module _ {M : Type 1} (𝓤 : URA M) (H : Heap 𝓤) (A : Atoms 𝓤) (W : Given 𝓤 H A) (at-mem : Memory → SProp 𝓤) (run : Routine → Fun 𝓤) (κ κ′ κ″ : Lft) (q q′ q″ : Share) (b o : ℕ) (γ : GName) (h : Sweep) (x y : RefT (List ℕ)) where
   abbrev Arg : Type 0

@@ -28,7 +28,7 @@ row-at-requires c κs = search needs
 
 returns : tie.Need-returns Inv-loop μ-loop
 unfolding other
-returns c = sym (row-above (c .before .before .args .f .0) (c .if1 .taken))
+returns c = sym (row-above (c .before .before .before .args .f .0) (c .if1 .taken))
 
 returns-2 : tie.Need-returns-2 Inv-loop μ-loop
 unfolding legal rowOf
@@ -44,7 +44,7 @@ loop-less c = search needs
 
 loop-again : tie.Need-loop-again Inv-loop μ-loop
 unfolding legal rowOf
-loop-again c = (search needs, search (pick-next, ne-eqb))
+loop-again c = (search needs, pick-next _ _ _ _ _ _ _ (c .before .before .before .before .before .loop .inv .1) (c .before .before .before .before .loop-test .taken) (c .before .before .before .row-at .ensures) (ne-eqb _ _ (c .if2 .left)))
 
 returns-3 : tie.Need-returns-3 Inv-loop μ-loop
 unfolding legal rowOf other

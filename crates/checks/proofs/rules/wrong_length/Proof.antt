@@ -16,7 +16,7 @@ returns-2 c = search tests
 
 returns-3 : tie.Need-returns-3
 unfolding wrongLength
-returns-3 c = rw (c .before .length .given .1, wrongLength)
+returns-3 c = rw (c .before .wanted .given .1, wrongLength)
 
 returns-4 : tie.Need-returns-4
 unfolding wrongLength

@@ -21,7 +21,7 @@ returns-3 c =
     let j = c .before .before .before .before .before .before .before .before in
     let k = j .before .before .before .before .before in
     take-taken _ _ _ _ (k .before .before .closed-rule .ensures) (k .if1 .left) _ (j .before .before .before .before .most .ensures) _ (j .before .before .before .scan .ensures) _ (j .before .before .scan-rule .ensures)
-    (j .if2 .left) (λ i. k .before .before .before .before .shared-slice-known .given i .fits) _ _ _ _ (c .before .before .before .before .before .before .behind-header .ensures) (c .before .before .before .before .before .part .ensures) (c .before .before .before .copy .ensures)
+    (j .if2 .left) (λ i. k .before .before .before .before .shared-slice-known .given i .fits) _ _ _ _ (c .before .before .before .before .before .before .behind-header .ensures) (c .before .before .before .before .before .part .ensures .holds) (c .before .before .before .copy .ensures)
     _ (c .moved-on .ensures)
 
 pub take-spec : {M : Type 1} → statement M

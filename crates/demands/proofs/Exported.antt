@@ -1,0 +1,112 @@
+-- The exported functions over their own contracts: what each leaves shows in numbers an outcome of which the demand's property holds, the one that
+-- Tied.antt ties to the function behind it. Assumes nothing.
+use mathlib.Core.Path.{_≡_}
+use mathlib.Core.List.{List}
+use Prim.Native.Nat.{ℕ, _<_, min}
+use lib.ListN.{length, take}
+use Rattle.lent.specs.Wrote.{Wrote}
+use Rattle.lent.proofs.Laws.{room-left}
+use Rattle.text.specs.declared.Refusal.{Refusal}
+use Rattle.sweep.specs.declared.Step.{Step}
+use Rattle.abi.specs.Left.{left, none, recordOf}
+use Rattle.abi.specs.Left as abi
+use Rattle.abi.proofs.gcf_check_sheet as gcf-check-sheet
+use Rattle.abi.proofs.gcf_respond as gcf-respond
+use Rattle.abi.proofs.gcf_respond_accepted as gcf-respond-accepted
+use Rattle.abi.proofs.gcf_read as gcf-read
+use Rattle.abi.proofs.gcf_held as gcf-held
+use Rattle.abi.proofs.gcf_list as gcf-list
+use Rattle.abi.proofs.gcf_most as gcf-most
+use Rattle.abi.proofs.gcf_sweep_start as gcf-sweep-start
+use Rattle.abi.proofs.gcf_sweep_take as gcf-sweep-take
+use Rattle.abi.proofs.gcf_bench as gcf-bench
+use Rattle.abi.proofs.gcf_check_descriptors as gcf-check-descriptors
+use Rattle.abi.proofs.gcf_check_profile as gcf-check-profile
+use Rattle.abi.proofs.gcf_import as gcf-import
+use Rattle.base.proofs.Promise.{Promised, promises, by, Shows, shows}
+use Rattle.reading.proofs.Promised.{Holds, holds}
+use Rattle.demands.proofs.Sheets.{Checks, checks}
+use Rattle.demands.proofs.Sending.{Answers, demand2, Trusts, trusts}
+use Rattle.demands.proofs.Readings.{Reads, reads}
+use Rattle.demands.proofs.Listings.{Lists, lists}
+use Rattle.demands.proofs.Steps.{Starts, starts, Takes, takes}
+use Rattle.demands.proofs.Sweeping.{Benches, benches}
+use Rattle.demands.proofs.Checking.{Finds, finds, Judges, judges}
+use Rattle.demands.proofs.Importing.{Imports, imports}
+
+-- ---- the box
+
+pub gcf-check-sheet-tied : Promised gcf-check-sheet.ended (λ M. gcf-check-sheet.clauses) (λ M. gcf-check-sheet.spec)
+    (λ x o. Shows (Checks (x .args .0 .now)) (λ (r : Refusal). r .number) (o .0))
+gcf-check-sheet-tied x = promises (x .𝓤) (λ o. shows _ (checks _))
+
+pub gcf-respond-tied : Promised gcf-respond.ended (λ M. gcf-respond.clauses) (λ M. gcf-respond.spec)
+    (λ x o. Shows (Answers (x .args .0 .now) (x .args .1 .0 .now) (x .args .1 .1 .0 .now)) (λ z. abi.replied z (x .args .1 .1 .1 .0 .now))
+    (left (o .0) (o .1 .1 .1 .0) (o .1 .1 .1 .1 .0)))
+gcf-respond-tied x = promises (x .𝓤) (λ o. shows _ (demand2 _ _ _))
+
+pub gcf-respond-accepted-tied : Promised gcf-respond-accepted.ended (λ M. gcf-respond-accepted.clauses) (λ M. gcf-respond-accepted.spec)
+    (λ x o. Shows (Trusts (x .args .0 .now) (x .args .1 .0 .now) (x .args .1 .1 .0 .now)) (λ z. abi.replied z (x .args .1 .1 .1 .0 .now))
+    (left (o .0) (o .1 .1 .1 .0) (o .1 .1 .1 .1 .0)))
+gcf-respond-accepted-tied x = promises (x .𝓤) (λ o. shows _ (trusts _ _ _))
+
+-- ---- the driver
+
+pub gcf-read-tied : Promised gcf-read.ended (λ M. gcf-read.clauses) (λ M. gcf-read.spec)
+    (λ x o. Shows (Reads 65534 (x .args .0) (x .args .1 .0 .0) (x .args .1 .1 .0 .now)) (λ z. abi.read z (x .args .1 .1 .1 .0 .now)) (left (o .0) none (o .1 .1 .1 .1 .0)))
+gcf-read-tied x = promises (x .𝓤) (λ o. shows _ (reads _ _ _ _))
+
+-- A part of which P holds stands in the buffer e, which was d, as far as there is room; where the count r is below the buffer's length, it is whole.
+pub record Copies (P : List ℕ → Type 0) (d : List ℕ) (r : ℕ) (e : List ℕ) : Type 0 where
+  pub part : List ℕ
+  pub fine : P part
+  pub wrote : Wrote d 0 part r e
+  pub whole : r < length d → (r ≡ length part) × P (take r e)
+
+copies : {P : List ℕ → Type 0} {d : List ℕ} {r : ℕ} {e : List ℕ} (part : List ℕ) → P part → Wrote d 0 part r e → Copies P d r e
+copies {P} part p w = record { part = part; fine = p; wrote = w; whole = λ h. (room-left w h .0, by P p (room-left w h .1)) }
+
+pub gcf-held-tied : Promised gcf-held.ended (λ M. gcf-held.clauses) (λ M. gcf-held.spec)
+    (λ x o. Copies (Holds (x .args .0 .0) (x .args .1 .0 .now) (x .args .1 .1 .0 .now)) (x .args .1 .1 .1 .0 .now) (o .0) (o .1 .1 .1 .1 .0))
+gcf-held-tied x = promises (x .𝓤) (λ o. copies _ (holds _ _ _))
+
+pub gcf-list-tied : Promised gcf-list.ended (λ M. gcf-list.clauses) (λ M. gcf-list.spec) (λ x o. Lists (x .args .0 .now) (x .args .1 .0 .now) (o .0) (o .1 .1 .0))
+gcf-list-tied x = promises (x .𝓤) (λ o. lists)
+
+-- ---- the sweep
+
+pub gcf-most-tied : Promised gcf-most.ended (λ M. gcf-most.clauses) (λ M. gcf-most.spec) (λ x o. o .0 ≡ min (x .args .0) 65534)
+gcf-most-tied x = promises (x .𝓤) (λ o e. e)
+
+pub gcf-sweep-start-tied : Promised gcf-sweep-start.ended (λ M. gcf-sweep-start.clauses) (λ M. gcf-sweep-start.spec)
+    (λ x o. Shows (Starts (x .args .0) (x .args .1 .0)) (λ z. abi.stepped z none (x .args .1 .1 .0 .now)) (left (o .0) none (o .1 .1 .1 .0)))
+gcf-sweep-start-tied x = promises (x .𝓤) (λ o. shows _ (starts _ _))
+
+pub gcf-sweep-take-tied : Promised gcf-sweep-take.ended (λ M. gcf-sweep-take.clauses) (λ M. gcf-sweep-take.spec)
+    (λ x o. Shows {A = Step × List ℕ}
+    (λ z. Takes (recordOf (x .args .0) (x .args .1 .0) (x .args .1 .1 .0) (x .args .1 .1 .1 .0) (x .args .1 .1 .1 .1 .0) (x .args .1 .1 .1 .1 .1 .0))
+    (x .args .1 .1 .1 .1 .1 .1 .0 .now) (x .args .1 .1 .1 .1 .1 .1 .1 .0 .now) (z .0) (z .1))
+    (λ z. abi.stepped (z .0) (z .1) (x .args .1 .1 .1 .1 .1 .1 .1 .1 .0 .now))
+    (left (o .0) (o .1 .1 .1 .1 .1 .1 .1 .1 .0) (o .1 .1 .1 .1 .1 .1 .1 .1 .1 .0)))
+gcf-sweep-take-tied x = promises (x .𝓤) (λ o. shows _ (takes _ _ _))
+
+pub gcf-bench-tied : Promised gcf-bench.ended (λ M. gcf-bench.clauses) (λ M. gcf-bench.spec)
+    (λ x o. Shows
+    (Benches (x .args .0 .now) (x .args .1 .0) (x .args .1 .1 .0) (x .args .1 .1 .1 .0 .now) (x .args .1 .1 .1 .1 .0 .now) (x .args .1 .1 .1 .1 .1 .0 .now))
+    (λ z. abi.benched z (x .args .1 .1 .1 .1 .1 .1 .0 .now))
+    (left (o .0) (o .1 .1 .1 .1 .0, o .1 .1 .1 .1 .1 .0, o .1 .1 .1 .1 .1 .1 .0) (o .1 .1 .1 .1 .1 .1 .1 .0)))
+gcf-bench-tied x = promises (x .𝓤) (λ o. shows _ (benches _ _ _ _ _ _))
+
+-- ---- the checks and the import
+
+pub gcf-check-descriptors-tied : Promised gcf-check-descriptors.ended (λ M. gcf-check-descriptors.clauses) (λ M. gcf-check-descriptors.spec)
+    (λ x o. Shows (Finds (x .args .0 .now)) (λ z. abi.found z (x .args .1 .0 .now)) (left (o .0) none (o .1 .1 .0)))
+gcf-check-descriptors-tied x = promises (x .𝓤) (λ o. shows _ (finds _))
+
+pub gcf-check-profile-tied : Promised gcf-check-profile.ended (λ M. gcf-check-profile.clauses) (λ M. gcf-check-profile.spec)
+    (λ x o. Shows (Judges (x .args .0 .0) (x .args .1 .0 .now)) (λ z. abi.judged z (x .args .1 .1 .0 .now)) (left (o .0) none (o .1 .1 .1 .0)))
+gcf-check-profile-tied x = promises (x .𝓤) (λ o. shows _ (judges _ _))
+
+pub gcf-import-tied : Promised gcf-import.ended (λ M. gcf-import.clauses) (λ M. gcf-import.spec)
+    (λ x o. Shows (Imports (x .args .0 .now) (x .args .1 .0 .now)) (λ z. abi.imported z (x .args .1 .1 .0 .now)) (left (o .0) (o .1 .1 .0) (o .1 .1 .1 .0)))
+gcf-import-tied x = promises (x .𝓤) (λ o. shows _ (imports _ _))

@@ -1,0 +1,138 @@
+-- The ties of the functions that the others stand on: every outcome that a function's own contract allows is the definition's value, in one line. Assumes nothing.
+use mathlib.Core.Path.{_≡_}
+use mathlib.Core.List.{[], _∷_}
+use lib.ListN.{length, take, drop, getD, replicate}
+use Rattle.base.proofs.Promise.{Promised, promises}
+use Rattle.fields.specs.Field.{field, spell}
+use Rattle.fields.specs.Part.{PartOf}
+use Rattle.lent.specs.Wrote.{Wrote}
+use Rattle.text.specs.Command.{commandFault, commandOf, headerOf}
+use Rattle.layout.specs.Layout as layout
+use Rattle.sheet.specs.Check.{profileRule, flagsRule, endBefore}
+use Rattle.fields.proofs.byte as byte
+use Rattle.fields.proofs.get2 as get2
+use Rattle.fields.proofs.get3 as get3
+use Rattle.fields.proofs.get4 as get4
+use Rattle.fields.proofs.part as part
+use Rattle.lent.proofs.put as put
+use Rattle.lent.proofs.put2 as put2
+use Rattle.lent.proofs.put4 as put4
+use Rattle.lent.proofs.copy as copy
+use Rattle.lent.proofs.note as note
+use Rattle.lent.proofs.clear as clear
+use Rattle.lent.proofs.clear_list as clear-list
+use Rattle.text.proofs.Command.fault as command-fault
+use Rattle.text.proofs.Command.read as command-read
+use Rattle.text.proofs.Header.new as header-new
+use Rattle.layout.proofs.feature_count as feature-count
+use Rattle.layout.proofs.profile_count as profile-count
+use Rattle.layout.proofs.bodies_at as bodies-at
+use Rattle.layout.proofs.feature_at as feature-at
+use Rattle.layout.proofs.flags_at as flags-at
+use Rattle.layout.proofs.length_at as length-at
+use Rattle.layout.proofs.offset_at as offset-at
+use Rattle.layout.proofs.profile_at as profile-at
+use Rattle.layout.proofs.current_at as current-at
+use Rattle.layout.proofs.last_at as last-at
+use Rattle.layout.proofs.profiles_part as profiles-part
+use Rattle.sheet.proofs.end_before as end-before
+use Rattle.sheet.proofs.profile_rule as profile-rule
+use Rattle.sheet.proofs.flags_rule as flags-rule
+
+-- ---- fields
+
+pub byte-tied : Promised byte.ended (λ M. byte.clauses) (λ M. byte.spec) (λ x o. o .0 ≡ getD (x .args .0 .now) (x .args .1 .0) 0)
+byte-tied x = promises (x .𝓤) (λ o e. e)
+
+pub get2-tied : Promised get2.ended (λ M. get2.clauses) (λ M. get2.spec) (λ x o. o .0 ≡ field 2 (x .args .0 .now) (x .args .1 .0))
+get2-tied x = promises (x .𝓤) (λ o e. e)
+
+pub get3-tied : Promised get3.ended (λ M. get3.clauses) (λ M. get3.spec) (λ x o. o .0 ≡ field 3 (x .args .0 .now) (x .args .1 .0))
+get3-tied x = promises (x .𝓤) (λ o e. e)
+
+pub get4-tied : Promised get4.ended (λ M. get4.clauses) (λ M. get4.spec) (λ x o. o .0 ≡ field 4 (x .args .0 .now) (x .args .1 .0))
+get4-tied x = promises (x .𝓤) (λ o e. e)
+
+pub part-tied : Promised part.ended (λ M. part.clauses) (λ M. part.spec) (λ x o. PartOf (x .args .0) (x .args .1 .0) (take (x .args .1 .1 .0) (drop (x .args .1 .0) (x .args .0 .now))) (o .0))
+part-tied x = promises (x .𝓤) (λ o e. e)
+
+-- ---- lent
+
+pub put-tied : Promised put.ended (λ M. put.clauses) (λ M. put.spec) (λ x o. Wrote (x .args .0 .now) (x .args .1 .0) (x .args .1 .1 .0 ∷ []) (o .0) (o .1 .0))
+put-tied x = promises (x .𝓤) (λ o e. e)
+
+pub put2-tied : Promised put2.ended (λ M. put2.clauses) (λ M. put2.spec) (λ x o. Wrote (x .args .0 .now) (x .args .1 .0) (spell 2 (x .args .1 .1 .0)) (o .0) (o .1 .0))
+put2-tied x = promises (x .𝓤) (λ o e. e)
+
+pub put4-tied : Promised put4.ended (λ M. put4.clauses) (λ M. put4.spec) (λ x o. Wrote (x .args .0 .now) (x .args .1 .0) (spell 4 (x .args .1 .1 .0)) (o .0) (o .1 .0))
+put4-tied x = promises (x .𝓤) (λ o e. e)
+
+pub copy-tied : Promised copy.ended (λ M. copy.clauses) (λ M. copy.spec) (λ x o. Wrote (x .args .0 .now) (x .args .1 .0) (x .args .1 .1 .0 .now) (o .0) (o .1 .0))
+copy-tied x = promises (x .𝓤) (λ o e. e)
+
+pub note-tied : Promised note.ended (λ M. note.clauses) (λ M. note.spec) (λ x o. Wrote (x .args .0 .now) (x .args .1 .0) (x .args .1 .1 .0 ∷ []) (o .0) (o .1 .0))
+note-tied x = promises (x .𝓤) (λ o e. e)
+
+pub clear-tied : Promised clear.ended (λ M. clear.clauses) (λ M. clear.spec) (λ x o. o .1 .0 ≡ replicate (length (x .args .0 .now)) 0)
+clear-tied x = promises (x .𝓤) (λ o e. e)
+
+pub clear-list-tied : Promised clear-list.ended (λ M. clear-list.clauses) (λ M. clear-list.spec) (λ x o. o .1 .0 ≡ replicate (length (x .args .0 .now)) 0)
+clear-list-tied x = promises (x .𝓤) (λ o e. e)
+
+-- ---- text
+
+pub command-fault-tied : Promised command-fault.ended (λ M. command-fault.clauses) (λ M. command-fault.spec) (λ x o. o .0 ≡ commandFault (x .args .0 .now))
+command-fault-tied x = promises (x .𝓤) (λ o e. e)
+
+pub command-read-tied : Promised command-read.ended (λ M. command-read.clauses) (λ M. command-read.spec) (λ x o. o .0 ≡ commandOf (x .args .0 .now))
+command-read-tied x = promises (x .𝓤) (λ o e. e)
+
+pub header-new-tied : Promised header-new.ended (λ M. header-new.clauses) (λ M. header-new.spec) (λ x o. o .0 ≡ headerOf (x .args .0) (x .args .1 .0 .0))
+header-new-tied x = promises (x .𝓤) (λ o e. e)
+
+-- ---- layout
+
+pub feature-count-tied : Promised feature-count.ended (λ M. feature-count.clauses) (λ M. feature-count.spec) (λ x o. o .0 ≡ layout.featureCount (x .args .0 .now))
+feature-count-tied x = promises (x .𝓤) (λ o e. e)
+
+pub profile-count-tied : Promised profile-count.ended (λ M. profile-count.clauses) (λ M. profile-count.spec) (λ x o. o .0 ≡ layout.profileCount (x .args .0 .now))
+profile-count-tied x = promises (x .𝓤) (λ o e. e)
+
+pub bodies-at-tied : Promised bodies-at.ended (λ M. bodies-at.clauses) (λ M. bodies-at.spec) (λ x o. o .0 ≡ layout.bodiesAt (x .args .0 .now))
+bodies-at-tied x = promises (x .𝓤) (λ o e. e)
+
+pub feature-at-tied : Promised feature-at.ended (λ M. feature-at.clauses) (λ M. feature-at.spec) (λ x o. o .0 .0 ≡ layout.number (x .args .0 .now) (x .args .1 .0))
+feature-at-tied x = promises (x .𝓤) (λ o e. e)
+
+pub flags-at-tied : Promised flags-at.ended (λ M. flags-at.clauses) (λ M. flags-at.spec) (λ x o. o .0 ≡ layout.flags (x .args .0 .now) (x .args .1 .0))
+flags-at-tied x = promises (x .𝓤) (λ o e. e)
+
+pub length-at-tied : Promised length-at.ended (λ M. length-at.clauses) (λ M. length-at.spec) (λ x o. o .0 ≡ layout.bodyLength (x .args .0 .now) (x .args .1 .0))
+length-at-tied x = promises (x .𝓤) (λ o e. e)
+
+pub offset-at-tied : Promised offset-at.ended (λ M. offset-at.clauses) (λ M. offset-at.spec) (λ x o. o .0 ≡ layout.offset (x .args .0 .now) (x .args .1 .0))
+offset-at-tied x = promises (x .𝓤) (λ o e. e)
+
+pub profile-at-tied : Promised profile-at.ended (λ M. profile-at.clauses) (λ M. profile-at.spec) (λ x o. o .0 .0 ≡ layout.profile (x .args .0 .now) (x .args .1 .0))
+profile-at-tied x = promises (x .𝓤) (λ o e. e)
+
+pub current-at-tied : Promised current-at.ended (λ M. current-at.clauses) (λ M. current-at.spec) (λ x o. o .0 ≡ layout.current (x .args .0 .now) (x .args .1 .0))
+current-at-tied x = promises (x .𝓤) (λ o e. e)
+
+pub last-at-tied : Promised last-at.ended (λ M. last-at.clauses) (λ M. last-at.spec) (λ x o. o .0 ≡ layout.last (x .args .0 .now) (x .args .1 .0))
+last-at-tied x = promises (x .𝓤) (λ o e. e)
+
+pub profiles-part-tied : Promised profiles-part.ended (λ M. profiles-part.clauses) (λ M. profiles-part.spec)
+    (λ x o. PartOf (x .args .0) (layout.profileAt (x .args .0 .now) 0) (layout.profilesPart (x .args .0 .now)) (o .0))
+profiles-part-tied x = promises (x .𝓤) (λ o e. e)
+
+-- ---- sheet
+
+pub profile-rule-tied : Promised profile-rule.ended (λ M. profile-rule.clauses) (λ M. profile-rule.spec) (λ x o. o .0 ≡ profileRule (x .args .0 .0) (x .args .1 .0) (x .args .1 .1 .0) (x .args .1 .1 .1 .0))
+profile-rule-tied x = promises (x .𝓤) (λ o e. e)
+
+pub flags-rule-tied : Promised flags-rule.ended (λ M. flags-rule.clauses) (λ M. flags-rule.spec) (λ x o. o .0 ≡ flagsRule (x .args .0))
+flags-rule-tied x = promises (x .𝓤) (λ o e. e)
+
+pub end-before-tied : Promised end-before.ended (λ M. end-before.clauses) (λ M. end-before.spec) (λ x o. o .0 ≡ endBefore (x .args .0 .now) (x .args .1 .0))
+end-before-tied x = promises (x .𝓤) (λ o e. e)
