@@ -14,8 +14,8 @@ ghost use Rattle.sweep.specs.Sweep as sweep;
 ghost use Rattle.bench.specs.Bench as bench;
 ghost use Rattle.checks.specs.Check.{checked};
 ghost use Rattle.checks.specs.Judge as checks;
-ghost use Rattle.import.specs.Import as import;
-ghost use Rattle.abi.specs.Left.{left, none, replied, readingNumbers, read, recordNumbers, recordOf, stepped, benched, found, judged, imported};
+ghost use Rattle.import.specs.Import.{imported};
+ghost use Rattle.abi.specs.Left.{left, noBuffer, showMade, readingNumbers, showRead, recordNumbers, recordOf, showStep, showBenched, showFinding, showJudged};
 use checks::Judgement;
 use sweep::Sweep;
 use text::Feature;
@@ -88,7 +88,7 @@ pub extern "C" fn gcf_respond(
     numbers: &mut [u64],
 ) -> u8
     ensures { λ r. ⌜ left r (now (response .exit)) (now (numbers .exit))
-        ≡ replied (answered (now (sheet .entry)) (now (command .entry)) (now (response .entry))) (now (numbers .entry)) ⌝ }
+        ≡ showMade (answered (now (sheet .entry)) (now (command .entry)) (now (response .entry))) (now (numbers .entry)) ⌝ }
 {
     let reply = responder::respond(sheet, command, response);
     let fault = reply.refusal;
@@ -105,7 +105,7 @@ pub extern "C" fn gcf_respond_accepted(
     numbers: &mut [u64],
 ) -> u8
     ensures { λ r. ⌜ left r (now (response .exit)) (now (numbers .exit))
-        ≡ replied (trustingCommand (now (sheet .entry)) (now (command .entry)) (now (response .entry))) (now (numbers .entry)) ⌝ }
+        ≡ showMade (trustingCommand (now (sheet .entry)) (now (command .entry)) (now (response .entry))) (now (numbers .entry)) ⌝ }
 {
     let trusted = responder::respond_accepted(sheet, command, response);
     let fault = trusted.refusal;
@@ -118,7 +118,7 @@ pub extern "C" fn gcf_respond_accepted(
 // Reads a response. Numbers: profile, Data Length, whole descriptors, the place behind the last, 1 if complete.
 #[no_mangle]
 pub extern "C" fn gcf_read(rt: u8, sfn: Feature, response: &[u8], numbers: &mut [u64]) -> u8
-    ensures { λ r. ⌜ left r none (now (numbers .exit)) ≡ read (reading 65534 rt (sfn .0) (now (response .entry))) (now (numbers .entry)) ⌝ }
+    ensures { λ r. ⌜ left r noBuffer (now (numbers .exit)) ≡ showRead (reading 65534 rt (sfn .0) (now (response .entry))) (now (numbers .entry)) ⌝ }
 {
     let reading = reading::read(rt, sfn, response);
     let fault = reading.refusal;
@@ -159,7 +159,7 @@ pub extern "C" fn gcf_most(allocation: u16) -> usize
 // Starts a sweep. Numbers: the record.
 #[no_mangle]
 pub extern "C" fn gcf_sweep_start(rt: u8, allocation: u16, numbers: &mut [u64]) -> u8
-    ensures { λ r. ⌜ left r none (now (numbers .exit)) ≡ stepped (started rt allocation) none (now (numbers .entry)) ⌝ }
+    ensures { λ r. ⌜ left r noBuffer (now (numbers .exit)) ≡ showStep (started rt allocation) noBuffer (now (numbers .entry)) ⌝ }
 {
     let step = Sweep::start(rt, allocation);
     let fault = step.refusal;
@@ -181,7 +181,7 @@ pub extern "C" fn gcf_sweep_take(
     numbers: &mut [u64],
 ) -> u8
     ensures { λ r. ⌜ left r (now (out .exit)) (now (numbers .exit))
-        ≡ stepped (sweep.stepped (recordOf rt allocation next commands collected ended) (now (response .entry)) (now (out .entry)))
+        ≡ showStep (sweep.stepped (recordOf rt allocation next commands collected ended) (now (response .entry)) (now (out .entry)))
         (sweep.collecting (recordOf rt allocation next commands collected ended) (now (response .entry)) (now (out .entry)))
         (now (numbers .entry)) ⌝ }
 {
@@ -213,7 +213,7 @@ pub extern "C" fn gcf_bench(
     numbers: &mut [u64],
 ) -> u8
     ensures { λ r. ⌜ left r (now (response .exit), now (collected .exit), now (starts .exit)) (now (numbers .exit))
-        ≡ benched (bench.benched (now (sheet .entry)) rt allocation (now (response .entry)) (now (collected .entry)) (now (starts .entry))) (now (numbers .entry)) ⌝ }
+        ≡ showBenched (bench.benched (now (sheet .entry)) rt allocation (now (response .entry)) (now (collected .entry)) (now (starts .entry))) (now (numbers .entry)) ⌝ }
 {
     let end = bench::bench(sheet, rt, allocation, response, collected, starts);
     let fault = end.refusal;
@@ -224,7 +224,7 @@ pub extern "C" fn gcf_bench(
 // Checks the descriptors of a response. Numbers: the feature at fault.
 #[no_mangle]
 pub extern "C" fn gcf_check_descriptors(response: &[u8], numbers: &mut [u64]) -> u8
-    ensures { λ r. ⌜ left r none (now (numbers .exit)) ≡ found (checked (now (response .entry))) (now (numbers .entry)) ⌝ }
+    ensures { λ r. ⌜ left r noBuffer (now (numbers .exit)) ≡ showFinding (checked (now (response .entry))) (now (numbers .entry)) ⌝ }
 {
     let finding = checks::check_descriptors(response);
     let fault = finding.refusal;
@@ -236,7 +236,7 @@ pub extern "C" fn gcf_check_descriptors(response: &[u8], numbers: &mut [u64]) ->
 // Whether a response has what a profile requires. Numbers: 1 if a feature is missing, the lowest that is.
 #[no_mangle]
 pub extern "C" fn gcf_check_profile(profile: Profile, response: &[u8], numbers: &mut [u64]) -> u8
-    ensures { λ r. ⌜ left r none (now (numbers .exit)) ≡ judged (checks.judged (profile .0) (now (response .entry))) (now (numbers .entry)) ⌝ }
+    ensures { λ r. ⌜ left r noBuffer (now (numbers .exit)) ≡ showJudged (checks.judged (profile .0) (now (response .entry))) (now (numbers .entry)) ⌝ }
 {
     let judgement = checks::check_profile(profile, response);
     match judgement {
@@ -261,7 +261,7 @@ pub extern "C" fn gcf_check_profile(profile: Profile, response: &[u8], numbers: 
 #[no_mangle]
 pub extern "C" fn gcf_import(response: &[u8], sheet: &mut [u8], numbers: &mut [u64]) -> u8
     ensures { λ r. ⌜ left r (now (sheet .exit)) (now (numbers .exit))
-        ≡ imported (import.imported (now (response .entry)) (now (sheet .entry))) (now (numbers .entry)) ⌝ }
+        ≡ showMade (imported (now (response .entry)) (now (sheet .entry))) (now (numbers .entry)) ⌝ }
 {
     let made = import::import(response, sheet);
     let fault = made.refusal;

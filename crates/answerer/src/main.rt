@@ -5,11 +5,12 @@ ghost use Rattle.io.specs.Counts.{Counts};
 ghost use Rattle.text.specs.Response.{sent};
 ghost use Rattle.sheet.specs.Check.{verdict};
 ghost use Rattle.sheet.specs.Meaning.{meaning};
-ghost use Rattle.responder.specs.Answer.{outcome, sending, unless};
+ghost use Rattle.refusal.specs.First.{unless};
+ghost use Rattle.lent.specs.Maker.{outcome, refusing, making};
+use lent::Made;
 use libc::STDERR_FILENO;
 use libc::STDIN_FILENO;
 use libc::STDOUT_FILENO;
-use responder::Reply;
 use text::Header;
 
 // The longest sheet that is taken: the stack has room for it, but not for the 17,039,356 bytes that a sheet may have.
@@ -19,9 +20,9 @@ const MOST: usize = 1048576;
 const ROOM: usize = MOST + 1;
 
 // The answer, whole: the command is a good one and the buffer has room for the longest answer, so only the sheet can be refused.
-fn answer_of(sheet: &[u8], response: &mut [u8; Header::RETURN_LIMIT]) -> Reply
+fn answer_of(sheet: &[u8], response: &mut [u8; Header::RETURN_LIMIT]) -> Made
     ensures { λ r. ⌜ Counts (r .count) (now (response .exit)) ⌝ }
-    ensures { λ r. ⌜ outcome r (now (response .exit)) ≡ unless (verdict (now (sheet .entry))) (sending (sent 0 0 65535 (meaning (now (sheet .entry)))) (now (response .entry))) (now (response .entry)) ⌝ }
+    ensures { λ r. ⌜ outcome r (now (response .exit)) ≡ unless (verdict (now (sheet .entry))) (refusing (now (response .entry))) (making (sent 0 0 65535 (meaning (now (sheet .entry)))) (now (response .entry))) ⌝ }
 {
     responder::respond(sheet, b"\x46\0\0\0\0\0\0\xFF\xFF\0", response)
 }
@@ -32,31 +33,6 @@ fn say(what: &[u8]) {
     io::write_all(STDERR_FILENO, what);
 }
 
-// What a number means.
-fn say_meaning(number: u8) {
-    match number {
-        1 => say(b"the sheet has under 4 bytes, or under 4 + 8n + 4p"),
-        2 => say(b"the sheet has more than 63 profiles"),
-        3 => say(
-            b"a profile's number is 0 or listed before, its third byte is over 1 or its last is not 0",
-        ),
-        4 => say(b"a feature number is 0, or not above the one before"),
-        5 => say(b"a feature's flags are other than 00h, 01h, 03h"),
-        6 => say(b"a body length is no multiple of 4"),
-        7 => say(b"a body offset is not the end of the body before"),
-        8 => say(b"the sheet does not end where the last body ends"),
-        _ => say(b"the sheet is refused"),
-    }
-}
-
-fn say_refused(number: u8) {
-    say(b"refused ");
-    io::print_decimal(STDERR_FILENO, number as u64);
-    say(b": ");
-    say_meaning(number);
-    say(b"\n");
-}
-
 // ---- the program
 
 fn answer(sheet: &[u8]) {
@@ -64,7 +40,7 @@ fn answer(sheet: &[u8]) {
     let reply = answer_of(sheet, &mut response);
     let refusal = reply.refusal;
     if refusal.number != 0 {
-        say_refused(refusal.number);
+        words::say_refused(STDERR_FILENO, refusal);
         return;
     }
     let count = reply.count;

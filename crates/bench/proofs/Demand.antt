@@ -11,12 +11,12 @@ use lib.Seq.{sets, sets-eq}
 use borrow.Author.Tests.{le-ltb, lt-ltb, ltb-false}
 use Rattle.base.specs.Lists.{flat, keep, All, Bytes}
 use Rattle.base.proofs.Lists.{all-right}
-use Rattle.text.specs.declared.Refusal.{Refusal}
-use Rattle.text.specs.First.{refuse, accept, _if_else_, pickZero, _orElse_}
+use Rattle.refusal.specs.declared.Refusal.{Refusal}
+use Rattle.refusal.specs.First.{refuse, accept, _if_else_, pickZero, _orElse_}
 use Rattle.text.specs.Drive.{Desc, Drive, Sound}
 use Rattle.text.specs.Response.{bytes, feature0, wants, selected}
 use Rattle.text.specs.Packing.{total, groups, joined}
-use Rattle.text.proofs.First.{if-true, if-false, if-zero, orElse-zero}
+use Rattle.refusal.proofs.First.{if-true, if-false, if-zero, orElse-zero, unless-none, unless-fault}
 use Rattle.base.proofs.Compare.{le-or-lt}
 use Rattle.text.proofs.Selection.{selected-asc, selected-zero}
 use Rattle.text.proofs.Sizes.{selected-count}
@@ -25,9 +25,9 @@ use Rattle.sheet.specs.Check.{verdict, Accepted}
 use Rattle.sheet.specs.Meaning.{meaning}
 use Rattle.sheet.proofs.Meaning.{meaning-fine}
 use Rattle.sweep.specs.Sweep.{most, startRule, fresh}
-use Rattle.bench.specs.Bench.{State, Outcome, refusing, firstFault, opened, runFrom, benched}
-use Rattle.bench.specs.Swept.{room, Fits, Premises, Swept, Ended, Numbers, swept, short, long, narrow, many}
-use Rattle.bench.proofs.Run.{unless-none, unless-fault, unless-zero, unless-settled, run-settled}
+use Rattle.bench.specs.Bench.{State, Ending, failing, firstFault, opened, runFrom, benched}
+use Rattle.bench.specs.Swept.{room, HasRoom, Premises, Swept, Ended, Numbers, swept, short, long, narrow, many}
+use Rattle.bench.proofs.Run.{unless-zero, unless-settled, run-settled}
 use Rattle.bench.proofs.Rounds.{startsOf, length-startsOf}
 use Rattle.bench.proofs.Honest.{rounds}
 use Rattle.bench.proofs.Ends.{finished, Runs, done, stuck, tight, spent, ends}
@@ -37,19 +37,19 @@ front-sets : (d xs : List ℕ) → length xs ≤ length d → sets d 0 xs ≡ xs
 front-sets d xs h = sets-eq xs d 0 (omega arith) ∙ ap (λ (n : ℕ). xs ++ drop n d) (zero-add (length xs))
 
 -- with the premises nothing is refused
-ended-swept : {m : Drive} {rt a : ℕ} {response collected starts : List ℕ} {o : Outcome} → Premises m rt a response collected starts → Ended m rt a response collected starts o
+ended-swept : {m : Drive} {rt a : ℕ} {response collected starts : List ℕ} {o : Ending} → Premises m rt a response collected starts → Ended m rt a response collected starts o
     → Swept m rt a response collected starts o
 ended-swept p (swept s) = s
 ended-swept p (short e h) = absurd (omega (arith, p .response-room))
-ended-swept {m} {rt} {a} p (long e xs d ys q t u b) = absurd (omega (arith, all-right (Fits a) xs (d ∷ ys) (rw q at (p .small)) .0))
+ended-swept {m} {rt} {a} p (long e xs d ys q t u b) = absurd (omega (arith, all-right (HasRoom a) xs (d ∷ ys) (rw q at (p .small)) .0))
 ended-swept p (narrow e h) = absurd (omega (arith, p .collected-room))
 ended-swept p (many e h) = absurd (omega (arith, p .starts-room))
 
-abbrev number : Outcome → ℕ
+abbrev number : Ending → ℕ
 number o = o .reply .refusal .number
 
-ended-number : {m : Drive} {rt a : ℕ} {response collected starts : List ℕ} {o : Outcome} → Ended m rt a response collected starts o → Numbers (number o)
-unfolding refusing
+ended-number : {m : Drive} {rt a : ℕ} {response collected starts : List ℕ} {o : Ending} → Ended m rt a response collected starts o → Numbers (number o)
+unfolding failing
 ended-number (swept s) = inl (ap (λ (r : Refusal). r .number) (s .fine))
 ended-number (short e h) = inr (inl (ap number e))
 ended-number (long e xs d ys q t u b) = inr (inr (inl (ap number e)))
@@ -57,9 +57,9 @@ ended-number (narrow e h) = inr (inr (inr (inl (ap number e))))
 ended-number (many e h) = inr (inr (inr (inr (ap number e))))
 
 -- no number: a successful sweep
-ended-zero : {m : Drive} {rt a : ℕ} {response collected starts : List ℕ} {o : Outcome} → Ended m rt a response collected starts o → number o ≡ 0
+ended-zero : {m : Drive} {rt a : ℕ} {response collected starts : List ℕ} {o : Ending} → Ended m rt a response collected starts o → number o ≡ 0
     → Swept m rt a response collected starts o
-unfolding refusing
+unfolding failing
 ended-zero (swept s) z = s
 ended-zero (short e h) z = absurd (omega (arith, ap number e))
 ended-zero (long e xs d ys q t u b) z = absurd (omega (arith, ap number e))
@@ -74,7 +74,7 @@ module _ {m : Drive} (good : Sound m) (rt a : ℕ) (two : rt < 2) (eight : 8 ≤
   all = groups (room a) 65536 wanted
 
   -- (k - 1) * (C - 8) < 2 * D
-  few-rounds : All (Fits a) wanted → (length all - 1) * room a < 2 * total wanted
+  few-rounds : All (HasRoom a) wanted → (length all - 1) * room a < 2 * total wanted
   few-rounds s =
       let e : wanted ≡ feature0 (m .profiles) ∷ keep (wants rt 0) (m .features) = selected-zero rt m in
       rw e (packing (room a) 65536 (feature0 (m .profiles)) (keep (wants rt 0) (m .features)) (rw e at s) (rw e at (selected-count good rt 0)) .1)
@@ -86,7 +86,7 @@ module _ {m : Drive} (good : Sound m) (rt a : ℕ) (two : rt < 2) (eight : 8 ≤
   swept-done j c t =
       let ts : List ℕ = startsOf 0 all in
       let n : length ts ≡ length all = length-startsOf 0 all in
-      let s : All (Fits a) wanted = rw j at (groups-fit (room a) 65536 wanted) in
+      let s : All (HasRoom a) wanted = rw j at (groups-fit (room a) 65536 wanted) in
       let x : sets collected 0 (flat bytes (joined all)) ≡ flat bytes wanted ++ drop (length (flat bytes wanted)) collected =
       ap (λ (r : List Desc). sets collected 0 (flat bytes r)) j ∙ front-sets collected (flat bytes wanted) c in
       let k : 0 < length wanted = omega (arith, ap length (selected-zero rt m)) in
@@ -105,7 +105,7 @@ module _ {m : Drive} (good : Sound m) (rt a : ℕ) (two : rt < 2) (eight : 8 ≤
         few = rw (zero-add (length all), zero-add (length (flat bytes (joined all))), j, length-flat-bytes wanted) (few-rounds s);
       }
 
-  runs-ended : {o : Outcome} → Runs m rt a (opened rt a response collected starts) 65536 0 0 0 response collected starts o → Ended m rt a response collected starts o
+  runs-ended : {o : Ending} → Runs m rt a (opened rt a response collected starts) 65536 0 0 0 response collected starts o → Ended m rt a response collected starts o
   runs-ended (done e j c t) = swept (rw e (swept-done j (omega arith) (omega arith)))
   runs-ended (stuck e xs d ys q t u b) = long e xs d ys q t u b
   runs-ended (tight e q) = narrow e (omega (arith, length-flat-bytes wanted))
@@ -133,11 +133,11 @@ module _ (s : List ℕ) (rt a : ℕ) (response collected starts : List ℕ) wher
   abbrev came : State
   came = opened rt a response collected starts
 
-  abbrev result : Outcome
+  abbrev result : Ending
   result = benched s rt a response collected starts
 
   -- any refusal at all, whatever the sheet: both counts 0, all three buffers zero throughout
-  pub settled : (number result ≡ 0) ⊎ (result ≡ refusing (result .reply .refusal) came)
+  pub settled : (number result ≡ 0) ⊎ (result ≡ failing came (result .reply .refusal))
   unfolding benched
   settled = unless-settled (firstFault s rt a response) came (runFrom (meaning s) came) (run-settled 65537 (meaning s) came came)
 
@@ -164,10 +164,10 @@ module _ (s : List ℕ) (rt a : ℕ) (response collected starts : List ℕ) wher
   unfolding benched
   ended b accepted two eight = ⊎-elim
       (λ (h : most a ≤ length response).
-      rw (first-room accepted two eight, le-ltb (length response) (most a) h, if-false, unless-none accept came (runFrom (meaning s) came) refl)
+      rw (first-room accepted two eight, le-ltb (length response) (most a) h, if-false, unless-none accept (failing came) (runFrom (meaning s) came) refl)
       (run-ends (meaning-fine s b accepted .sound) rt a two eight response collected starts h))
       (λ (h : length response < most a).
-      short (rw (first-room accepted two eight, lt-ltb (length response) (most a) h, if-true) (unless-fault (refuse 12) came (runFrom (meaning s) came) (λ z. omega arith))) h)
+      short (rw (first-room accepted two eight, lt-ltb (length response) (most a) h, if-true) (unless-fault (refuse 12) (failing came) (runFrom (meaning s) came) (λ z. omega arith))) h)
       (le-or-lt (most a) (length response))
 
   pub numbers : Bytes s → Accepted s → rt < 2 → 8 ≤ a → Numbers (number result)

@@ -11,8 +11,8 @@ use lib.Seq.{sets, length-sets}
 use Rattle.base.specs.Lists.{flat, All}
 use Rattle.base.proofs.Lists.{flat-append, all-append}
 use Rattle.lent.proofs.Sets.{sets-append}
-use Rattle.text.specs.declared.Refusal.{Refusal}
-use Rattle.text.specs.First.{refuse, accept}
+use Rattle.refusal.specs.declared.Refusal.{Refusal}
+use Rattle.refusal.specs.First.{refuse, accept}
 use Rattle.text.specs.Drive.{Desc, Drive, Sound}
 use Rattle.text.specs.Response.{bytes, selected, sent}
 use Rattle.text.specs.Reading.{lastNumber}
@@ -22,29 +22,29 @@ use Rattle.text.proofs.Sent.{length-sent}
 use Rattle.text.proofs.Packing.{whole-rest, rest-fits, whole-every, whole-fits, whole-none, groups-last, groups-some, flat-parts}
 use Rattle.text.proofs.Next.{selected-next}
 use Rattle.sweep.specs.Sweep.{most, takeFault, stepped}
-use Rattle.bench.specs.Bench.{State, state, Outcome, outcome, filled, refusing, succeeding, rounded, run}
-use Rattle.bench.specs.Swept.{room, Fits, lastOf, behind}
+use Rattle.bench.specs.Bench.{State, state, Ending, ending, filled, failing, succeeding, rounded, rounds}
+use Rattle.bench.specs.Swept.{room, HasRoom, lastOf, nextStart}
 use Rattle.bench.proofs.Run.{length-filled, filled-filled, run-ended, run-full, run-fault, run-round}
 use Rattle.bench.proofs.Round.{going, gone, fits, left, gain, later, plan, standing, Takes, take-narrow, take-fine, take-stuck, round-last, round-more}
 use Rattle.bench.proofs.Rounds.{startsOf, length-startsOf, behind-append, last-some, selected-split, selected-count, selected-bytes, plan-more}
 
 -- the outcome of a run that takes gs in its rounds, the first from f with c commands and k bytes before it
-unfoldable pub finished : (m : Drive) (rt a f c k : ℕ) (response out starts : List ℕ) → List (List Desc) → Outcome
+unfoldable pub finished : (m : Drive) (rt a f c k : ℕ) (response out starts : List ℕ) → List (List Desc) → Ending
 finished m rt a f c k response out starts gs =
-    outcome record { refusal = accept; commands = c + length gs; collected = k + length (flat bytes (joined gs)) }
+    ending record { refusal = accept; commands = c + length gs; collected = k + length (flat bytes (joined gs)) }
     (filled (sent rt (lastOf f (startsOf f gs)) a m) response)
     (sets out k (flat bytes (joined gs)))
     (sets starts c (startsOf f gs))
 
 module _ (m : Drive) (rt a : ℕ) (came : State) where
   -- a run from f with room for n rounds
-  pub data Runs (n f c k : ℕ) (response out starts : List ℕ) (o : Outcome) : Type 0 where
+  pub data Runs (n f c k : ℕ) (response out starts : List ℕ) (o : Ending) : Type 0 where
     done : o ≡ finished m rt a f c k response out starts (plan m rt a n f) → joined (plan m rt a n f) ≡ selected rt f m
         → k + length (flat bytes (selected rt f m)) ≤ length out → c + length (plan m rt a n f) ≤ length starts → Runs n f c k response out starts o
-    stuck : o ≡ refusing (refuse 23) came → (xs : List Desc) (d : Desc) (ys : List Desc)
-        → selected rt f m ≡ xs ++ d ∷ ys → selected rt (behind f xs) m ≡ d ∷ ys → room a < size d → All (Fits a) xs → Runs n f c k response out starts o
-    tight : o ≡ refusing (refuse 24) came → length out < k + length (flat bytes (selected rt f m)) → Runs n f c k response out starts o
-    spent : o ≡ refusing (refuse 25) came → length starts < c + length (plan m rt a n f) → Runs n f c k response out starts o
+    stuck : o ≡ failing came (refuse 23) → (xs : List Desc) (d : Desc) (ys : List Desc)
+        → selected rt f m ≡ xs ++ d ∷ ys → selected rt (nextStart f xs) m ≡ d ∷ ys → room a < size d → All (HasRoom a) xs → Runs n f c k response out starts o
+    tight : o ≡ failing came (refuse 24) → length out < k + length (flat bytes (selected rt f m)) → Runs n f c k response out starts o
+    spent : o ≡ failing came (refuse 25) → length starts < c + length (plan m rt a n f) → Runs n f c k response out starts o
 
 -- a round that takes g, and those behind it
 finished-more : (m : Drive) (rt a f c k : ℕ) (response out starts : List ℕ) (g : List Desc) (gs : List (List Desc))
@@ -74,24 +74,24 @@ module _ {m : Drive} (good : Sound m) (rt a : ℕ) (two : rt < 2) (eight : 8 ≤
     abbrev w : State
     w = standing rt a f c k response out starts
 
-    refused-by : (r : Refusal) → (r .number ≡ 0 → ⊥) → takeFault (going rt a f c k) (sent rt f a m) (length out) ≡ r → run (suc n) m came w ≡ refusing r came
+    refused-by : (r : Refusal) → (r .number ≡ 0 → ⊥) → takeFault (going rt a f c k) (sent rt f a m) (length out) ≡ r → rounds (suc n) m came w ≡ failing came r
     unfolding stepped
-    refused-by r h e = run-fault n m came w refl another (λ z. h (sym (ap (λ (r : Refusal). r .number) e) ∙ z)) ∙ ap (λ (r : Refusal). refusing r came) e
+    refused-by r h e = run-fault n m came w refl another (λ z. h (sym (ap (λ (r : Refusal). r .number) e) ∙ z)) ∙ ap (λ (r : Refusal). failing came r) e
 
-    taken-by : takeFault (going rt a f c k) (sent rt f a m) (length out) ≡ accept → run (suc n) m came w ≡ run n m came (rounded m w)
+    taken-by : takeFault (going rt a f c k) (sent rt f a m) (length out) ≡ accept → rounds (suc n) m came w ≡ rounds n m came (rounded m w)
     unfolding stepped
     taken-by e = run-round n m came w refl another (ap (λ (r : Refusal). r .number) e)
 
     -- 24
-    ends-tight : Takes m rt a f → length out < k + gain m rt a f → Runs m rt a came n f c k response out starts (run (suc n) m came w)
+    ends-tight : Takes m rt a f → length out < k + gain m rt a f → Runs m rt a came n f c k response out starts (rounds (suc n) m came w)
     ends-tight t h =
         tight
         (refused-by (refuse 24) (λ z. omega arith) (take-narrow good rt a f eight two c k few t (length out) h))
         (omega (arith, flat-parts (room a) (selected rt f m)))
 
     -- 23
-    ends-stuck : (x : Desc) (xs : List Desc) → fits m rt a f ≡ [] → left m rt a f ≡ x ∷ xs → Runs m rt a came n f c k response out starts (run (suc n) m came w)
-    unfolding behind
+    ends-stuck : (x : Desc) (xs : List Desc) → fits m rt a f ≡ [] → left m rt a f ≡ x ∷ xs → Runs m rt a came n f c k response out starts (rounds (suc n) m came w)
+    unfolding nextStart
     ends-stuck x xs e l =
         let q : selected rt f m ≡ x ∷ xs = sym (whole-rest (room a) (selected rt f m)) ∙ ap (λ (r : List Desc). r ++ left m rt a f) e ∙ l in
         stuck
@@ -113,13 +113,13 @@ module _ {m : Drive} (good : Sound m) (rt a : ℕ) (two : rt < 2) (eight : 8 ≤
   all f e = whole-every (room a) (selected rt f m) (rest-fits (room a) (selected rt f m) e)
 
   ends-last : (n f c k : ℕ) (response out starts : List ℕ) → c ≤ 65535 → c < length starts → left m rt a f ≡ []
-      → Runs m rt a came (suc n) f c k response out starts (run (suc (suc n)) m came (standing rt a f c k response out starts))
+      → Runs m rt a came (suc n) f c k response out starts (rounds (suc (suc n)) m came (standing rt a f c k response out starts))
   unfolding joined
   ends-last n f c k response out starts few another e = ⊎-elim
       (λ (h : k + gain m rt a f ≤ length out).
       done
       (taken-by (suc n) f c k response out starts few another (take-fine good rt a f eight two c k few (inl e) (length out) h)
-      ∙ ap (run (suc n) m came) (round-last good rt a f eight two c k few response out starts h e)
+      ∙ ap (rounds (suc n) m came) (round-last good rt a f eight two c k few response out starts h e)
       ∙ run-ended n m came (ended f c k response out starts) refl
       ∙ finish n f c k response out starts e)
       (rw (groups-last (room a) n (selected rt f m) e) (append-nil (fits m rt a f) ∙ all f e))
@@ -130,7 +130,7 @@ module _ {m : Drive} (good : Sound m) (rt a : ℕ) (two : rt < 2) (eight : 8 ≤
 
   -- something is left: what comes of the rounds from the next start on comes of those from this one
   module _ (f : ℕ) (x : Desc) (xs : List Desc) (l : left m rt a f ≡ x ∷ xs) (h : 0 < length (fits m rt a f)) where
-    onward : (n c k : ℕ) (response out starts : List ℕ) (o : Outcome) → 0 < n → length (sent rt f a m) ≤ length response
+    onward : (n c k : ℕ) (response out starts : List ℕ) (o : Ending) → 0 < n → length (sent rt f a m) ≤ length response
         → Runs m rt a came n (later m rt a f) (c + 1) (k + gain m rt a f) (filled (sent rt f a m) response) (sets out k (flat bytes (fits m rt a f))) (set starts c f) o
         → Runs m rt a came (suc n) f c k response out starts o
     unfolding joined
@@ -149,7 +149,7 @@ module _ {m : Drive} (good : Sound m) (rt a : ℕ) (two : rt < 2) (eight : 8 ≤
         (selected-split good rt a f two h ∙ ap (λ (r : List Desc). fits m rt a f ++ r) q ∙ sym (append-assoc (fits m rt a f) ys (d ∷ zs)))
         (ap (λ (n : ℕ). selected rt n m) (sym (behind-append f (fits m rt a f) ys h)) ∙ t)
         u
-        (all-append (Fits a) (fits m rt a f) ys (whole-fits (room a) (selected rt f m)) b)
+        (all-append (HasRoom a) (fits m rt a f) ys (whole-fits (room a) (selected rt f m)) b)
     onward n c k response out starts o p r (tight e q) =
         tight e (omega (arith, length-sets out k (flat bytes (fits m rt a f)), selected-bytes good rt a f two h))
     onward n c k response out starts o p r (spent e q) = spent e (omega (arith, length-set starts c f, ap length (plan-more good rt a f two h x xs l n)))
@@ -158,7 +158,7 @@ module _ {m : Drive} (good : Sound m) (rt a : ℕ) (two : rt < 2) (eight : 8 ≤
   abbrev Claim : (n : ℕ) → Type 0
   Claim n =
       (f c k : ℕ) (response out starts : List ℕ) → 0 < length (selected rt f m) → length (selected rt f m) ≤ n → c + length (selected rt f m) ≤ 65536
-      → most a ≤ length response → Runs m rt a came n f c k response out starts (run (suc n) m came (standing rt a f c k response out starts))
+      → most a ≤ length response → Runs m rt a came n f c k response out starts (rounds (suc n) m came (standing rt a f c k response out starts))
 
   pub ends : (n : ℕ) → Claim n
   ends zero f c k response out starts p q r s = absurd (omega arith)
@@ -171,7 +171,7 @@ module _ {m : Drive} (good : Sound m) (rt a : ℕ) (two : rt < 2) (eight : 8 ≤
       w = standing rt a f c k response out starts
 
       go : c < length starts → (xs : List Desc) → left m rt a f ≡ xs → (ys : List Desc) → fits m rt a f ≡ ys → Claim n
-          → Runs m rt a came (suc n) f c k response out starts (run (suc (suc n)) m came w)
+          → Runs m rt a came (suc n) f c k response out starts (rounds (suc (suc n)) m came w)
       go h [] e ys d ih = ends-last n f c k response out starts (omega arith) h e
       go h (x ∷ xs) l [] d ih = ends-stuck (suc n) f c k response out starts (omega arith) h x xs d l
       go h (x ∷ xs) l (y ∷ ys) d ih =

@@ -10,14 +10,15 @@ use borrow.Author.Tests.{ltb-false, not-true, not-false}
 use Rattle.base.specs.Lists.{Bytes}
 use Rattle.lent.specs.Wrote.{Wrote}
 use Rattle.lent.proofs.Laws.{kept}
-use Rattle.text.specs.declared.Refusal.{Refusal}
-use Rattle.text.specs.First.{refuse, accept}
+use Rattle.refusal.specs.declared.Refusal.{Refusal}
+use Rattle.refusal.specs.First.{refuse, accept, unless}
 use Rattle.text.specs.Drive.{Drive}
 use Rattle.text.specs.Response.{sent}
-use Rattle.text.proofs.First.{if-zero, orElse-zero}
+use Rattle.refusal.proofs.First.{if-zero, orElse-zero, unless-none, unless-fault}
 use Rattle.sheet.specs.Check.{Accepted}
 use Rattle.sheet.specs.Meaning.{meaning}
-use Rattle.responder.specs.declared.Reply.{Reply}
+use Rattle.lent.specs.declared.Made.{Made}
+use Rattle.lent.specs.Maker as maker
 use Rattle.responder.specs.Answer as box
 use Rattle.responder.specs.Trusting.{trusting}
 use Rattle.responder.proofs.Trusting.{trusting-accepted}
@@ -26,10 +27,10 @@ use Rattle.sweep.specs.declared.Step.{Step}
 use Rattle.sweep.specs.Sweep.{most, startRule, fresh, started, advanced, endedNow, stepped, collecting}
 use Rattle.sweep.proofs.Numbers.{start-fresh}
 use Rattle.sweep.proofs.Cases.{step-cases}
-use Rattle.bench.specs.Bench.{State, state, Outcome, outcome, zeros, refusing, succeeding, unless, reply, filled, roundFault, rounded, run, runFrom, firstFault, opened, benched}
-use Rattle.bench.specs.Loop.{openFault, refused, Kept, Rounded, Ran}
+use Rattle.bench.specs.Bench.{State, state, Ending, ending, zeros, failing, succeeding, reply, filled, roundFault, rounded, rounds, runFrom, firstFault, opened, benched}
+use Rattle.bench.specs.inner.Loop.{openFault, cleared, Kept, Rounded, Ran}
 use Rattle.bench.proofs.Asked.{sent-most, take-filled, asked}
-use Rattle.bench.proofs.Run.{unless-none, unless-fault, length-filled, round-full, round-room}
+use Rattle.bench.proofs.Run.{length-filled, round-full, round-room}
 use Rattle.bench.proofs.Turns.{onwards, onwards-ended, onwards-fault, onwards-round, round-commands, rounded-few}
 
 -- ---- before any round
@@ -51,19 +52,19 @@ module _ (s : List ℕ) (rt a n : ℕ) (e : openFault s rt a n .number ≡ 0) wh
 -- ---- a round
 
 -- the box of a sheet that is accepted is asked into a buffer with room for a response
-module _ (s : List ℕ) (b : Bytes s) (ok : Accepted s) (rt f a : ℕ) (d : List ℕ) {blank : List ℕ} {r : Reply} {e : List ℕ} (room : most a ≤ length d) (clear : blank ≡ replicate (length d) 0) (q : box.outcome r e ≡ trusting s rt f a blank) where
+module _ (s : List ℕ) (b : Bytes s) (ok : Accepted s) (rt f a : ℕ) (d : List ℕ) {blank : List ℕ} {r : Made} {e : List ℕ} (room : most a ≤ length d) (clear : blank ≡ replicate (length d) 0) (q : maker.outcome r e ≡ trusting s rt f a blank) where
   abbrev due : List ℕ
   due = sent rt f a (meaning s)
 
-  answers : box.outcome r e ≡ box.outcome record { refusal = accept; count = length due } (filled due d)
+  answers : maker.outcome r e ≡ maker.outcome (maker.written (length due)) (filled due d)
   unfolding zeros
   answers = q ∙ trusting-accepted s b ok rt f a blank ∙ ap (box.requested s rt f a) clear ∙ asked s rt f a d room
 
   pub asked-count : r .count ≡ length due
-  asked-count = ap (λ (o : box.Outcome). o .reply .count) answers
+  asked-count = ap (λ (o : maker.Outcome). o .made .count) answers
 
   pub asked-filled : e ≡ filled due d
-  asked-filled = ap (λ (o : box.Outcome). o .buffer) answers
+  asked-filled = ap (λ (o : maker.Outcome). o .buffer) answers
 
   pub asked-length : length e ≡ length d
   asked-length = ap length asked-filled ∙ length-filled due d (omega (arith, sent-most rt f a (meaning s)))
@@ -85,9 +86,9 @@ round-short {m} {w} {response} {collected} {starts} h = record {
 }
 
 -- the start is noted, the box is asked, the record takes the bytes sent
-module _ (s : List ℕ) (w : Sweep) (response collected starts : List ℕ) {blank e out noted : List ℕ} {r : Reply} {n : ℕ} {t : Step} where
+module _ (s : List ℕ) (w : Sweep) (response collected starts : List ℕ) {blank e out noted : List ℕ} {r : Made} {n : ℕ} {t : Step} where
   pub round-asked : Bytes s → Accepted s → most (w .allocation) ≤ length response → w .commands < length starts → Wrote starts (w .commands) (w .next .0 ∷ []) n noted
-      → blank ≡ replicate (length response) 0 → box.outcome r e ≡ trusting s (w .rt) (w .next .0) (w .allocation) blank
+      → blank ≡ replicate (length response) 0 → maker.outcome r e ≡ trusting s (w .rt) (w .next .0) (w .allocation) blank
       → (t ≡ stepped w (take (r .count) e) collected) × (out ≡ collecting w (take (r .count) e) collected) → length out ≡ length collected
       → Rounded (meaning s) (state w response collected starts) (t .refusal) (state (t .sweep) e out noted)
   unfolding rounded
@@ -114,7 +115,7 @@ pub record Standing (m : Drive) (was w : State) : Type 0 where
 
 pub standing-start : {m : Drive} {was : State} → was .sweep .commands ≡ 0 → Standing m was was
 standing-start {m} {was} e = record {
-  runs = ap (λ (n : ℕ). run n m was was) (omega arith);
+  runs = ap (λ (n : ℕ). rounds n m was was) (omega arith);
   few = omega arith;
   allocation = refl;
   kept = record { response = refl; collected = refl; starts = refl };
@@ -146,8 +147,8 @@ module _ {m : Drive} {was w v : State} {r : Refusal} (at : Standing m was w) (te
   pub standing-fault : (r .number ≡ 0 → ⊥) → Ran m was r v
   standing-fault h = record {
     ends =
-        unless-fault r was (succeeding v) h
-        ∙ ap (λ (k : Refusal). refusing k was) (did .fault)
+        unless-fault r (failing was) (succeeding v) h
+        ∙ ap (λ (k : Refusal). failing was k) (did .fault)
         ∙ sym (onwards-fault m was w (at .few) goes (λ z. h (ap (λ (k : Refusal). k .number) (did .fault) ∙ z)))
         ∙ at .runs;
     kept = standing-kept;
@@ -174,32 +175,32 @@ module _ {m : Drive} {was w v : State} {r : Refusal} (at : Standing m was w) (te
 -- it has ended
 pub standing-ended : {m : Drive} {was w : State} → Standing m was w → not (w .sweep .ended) ≡ false → Ran m was accept w
 standing-ended {m} {was} {w} at test = record {
-  ends = unless-none accept was (succeeding w) refl ∙ sym (onwards-ended m was w (at .few) (not-false (w .sweep .ended) test)) ∙ at .runs;
+  ends = unless-none accept (failing was) (succeeding w) refl ∙ sym (onwards-ended m was w (at .few) (not-false (w .sweep .ended) test)) ∙ at .runs;
   kept = at .kept;
 }
 
 -- ---- the outcome
 
 -- a refusal, whatever the buffers hold by then
-pub refused-kept : (r : Refusal) {was w : State} → Kept was w → refused r (w .response) (w .collected) (w .starts) ≡ refusing r was
-unfolding refused refusing zeros
+pub refused-kept : (r : Refusal) {was w : State} → Kept was w → cleared r (w .response) (w .collected) (w .starts) ≡ failing was r
+unfolding cleared failing zeros
 refused-kept r k = rw (k .response, k .collected, k .starts)
 
 module _ (s : List ℕ) (rt a : ℕ) (response collected starts : List ℕ) {r : Refusal} (q : r ≡ openFault s rt a (length response)) where
   abbrev from : State
   from = opened rt a response collected starts
 
-  abbrev rest : Outcome
+  abbrev rest : Ending
   rest = runFrom (meaning s) from
 
-  opens : benched s rt a response collected starts ≡ unless r from rest
+  opens : benched s rt a response collected starts ≡ unless r (failing from) rest
   unfolding benched firstFault openFault
-  opens = ap (λ (k : Refusal). unless k from rest) (sym q)
+  opens = ap (λ (k : Refusal). unless k (failing from) rest) (sym q)
 
   -- refused before any round
-  pub bench-first : {o : Outcome} → (r .number ≡ 0 → ⊥) → o ≡ refused r response collected starts → o ≡ benched s rt a response collected starts
+  pub bench-first : {o : Ending} → (r .number ≡ 0 → ⊥) → o ≡ cleared r response collected starts → o ≡ benched s rt a response collected starts
   unfolding opened
-  bench-first h e = e ∙ refused-kept r {was = from} {w = from} record { response = refl; collected = refl; starts = refl } ∙ sym (opens ∙ unless-fault r from rest h)
+  bench-first h e = e ∙ refused-kept r {was = from} {w = from} record { response = refl; collected = refl; starts = refl } ∙ sym (opens ∙ unless-fault r (failing from) rest h)
 
   module _ (h : r .number ≡ 0) {start : Step} (b : start ≡ started rt a) where
     accepts : openFault s rt a (length response) .number ≡ 0
@@ -218,17 +219,17 @@ module _ (s : List ℕ) (rt a : ℕ) (response collected starts : List ℕ) {r :
       unfolding opened
       begins = ap (λ (x : Sweep). state x response collected starts) afresh
 
-      ends : benched s rt a response collected starts ≡ unless t from (succeeding w)
-      ends = opens ∙ unless-none r from rest h ∙ sym (rw begins at (ran .ends))
+      ends : benched s rt a response collected starts ≡ unless t (failing from) (succeeding w)
+      ends = opens ∙ unless-none r (failing from) rest h ∙ sym (rw begins at (ran .ends))
 
       -- refused in a round
-      pub bench-later : {o : Outcome} → (t .number ≡ 0 → ⊥) → o ≡ refused t (w .response) (w .collected) (w .starts) → o ≡ benched s rt a response collected starts
-      bench-later k e = e ∙ refused-kept t {was = from} {w = w} (rw begins at (ran .kept)) ∙ sym (ends ∙ unless-fault t from (succeeding w) k)
+      pub bench-later : {o : Ending} → (t .number ≡ 0 → ⊥) → o ≡ cleared t (w .response) (w .collected) (w .starts) → o ≡ benched s rt a response collected starts
+      bench-later k e = e ∙ refused-kept t {was = from} {w = w} (rw begins at (ran .kept)) ∙ sym (ends ∙ unless-fault t (failing from) (succeeding w) k)
 
       -- refused nowhere
       pub bench-done : t .number ≡ 0
-          → outcome record { refusal = t; commands = w .sweep .commands; collected = w .sweep .collected } (w .response) (w .collected) (w .starts) ≡ benched s rt a response collected starts
+          → ending record { refusal = t; commands = w .sweep .commands; collected = w .sweep .collected } (w .response) (w .collected) (w .starts) ≡ benched s rt a response collected starts
       unfolding succeeding
       bench-done k =
-          ap (λ (n : ℕ). outcome record { refusal = refuse n; commands = w .sweep .commands; collected = w .sweep .collected } (w .response) (w .collected) (w .starts)) k
-          ∙ sym (ends ∙ unless-none t from (succeeding w) k)
+          ap (λ (n : ℕ). ending record { refusal = refuse n; commands = w .sweep .commands; collected = w .sweep .collected } (w .response) (w .collected) (w .starts)) k
+          ∙ sym (ends ∙ unless-none t (failing from) (succeeding w) k)

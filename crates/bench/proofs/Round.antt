@@ -10,18 +10,18 @@ use lib.ListN.{length, set}
 use lib.Seq.{sets, sets-eq}
 use borrow.Author.Tests.{le-leb, lt-leb, le-ltb, lt-ltb, ne-eqb}
 use Rattle.base.specs.Lists.{flat}
-use Rattle.text.specs.First.{refuse, accept, _if_else_, pickZero, _orElse_}
+use Rattle.refusal.specs.First.{refuse, accept, _if_else_, pickZero, _orElse_}
 use Rattle.text.specs.Drive.{Desc, Drive, Sound}
 use Rattle.text.specs.Response.{bytes, selected, full, sent}
 use Rattle.text.specs.Reading.{Walked, lastNumber}
 use Rattle.text.specs.Packing.{whole, rest, groups}
-use Rattle.text.proofs.First.{if-true, if-false}
+use Rattle.refusal.proofs.First.{if-true, if-false}
 use Rattle.base.proofs.Compare.{le-or-lt}
 use Rattle.text.proofs.Sent.{length-sent}
 use Rattle.text.proofs.Own.{walked-sent, readFault-sent, complete-sent, complete-none, cut-some}
 use Rattle.text.proofs.Next.{next-low}
 use Rattle.sweep.specs.declared.Sweep.{Sweep}
-use Rattle.sweep.specs.Sweep.{most, startRule, openRule, roomRule, takeFault, cut, empty, found, advanced, after, stepped, collecting}
+use Rattle.sweep.specs.Sweep.{most, startRule, openRule, roomRule, takeFault, cut, empty, wholesOf, advanced, after, stepped, collecting}
 use Rattle.bench.specs.Bench.{State, state, filled, rounded}
 use Rattle.bench.specs.Swept.{room}
 
@@ -87,8 +87,8 @@ module _ {m : Drive} (good : Sound m) (rt a f : ℕ) (eight : 8 ≤ a) where
       (le-or-lt (length (full rt f m)) (most a))
 
   module _ (two : rt < 2) (c k : ℕ) (few : c ≤ 65535) where
-    found-sent : found (going rt a f c k) (sent rt f a m) ≡ fits m rt a f
-    unfolding found
+    found-sent : wholesOf (going rt a f c k) (sent rt f a m) ≡ fits m rt a f
+    unfolding wholesOf
     found-sent = ap (λ (w : Walked). w .found) (walked-sent good rt f a eight)
 
     -- neither 21, 22, 26 nor a number of the reading

@@ -11,7 +11,7 @@ use Rattle.text.specs.Reading.{lastNumber}
 use Rattle.text.specs.Packing.{groups}
 use Rattle.text.proofs.Packing.{whole-rest, groups-more, flat-parts}
 use Rattle.text.proofs.Next.{selected-next, last-append}
-use Rattle.bench.specs.Swept.{room, lastOf, behind}
+use Rattle.bench.specs.Swept.{room, lastOf, nextStart}
 use Rattle.bench.proofs.Round.{fits, left, gain, later, plan}
 
 -- the starts of rounds that take these, the first from f
@@ -25,10 +25,10 @@ length-startsOf f [] = refl
 length-startsOf f (g ∷ gs) = ap suc (length-startsOf (lastNumber g + 1) gs)
 
 -- behind two lists
-pub behind-append : (f : ℕ) (xs ys : List Desc) → 0 < length xs → behind (lastNumber xs + 1) ys ≡ behind f (xs ++ ys)
-unfolding behind
+pub behind-append : (f : ℕ) (xs ys : List Desc) → 0 < length xs → nextStart (lastNumber xs + 1) ys ≡ nextStart f (xs ++ ys)
+unfolding nextStart
 behind-append f [] ys h = absurd (omega arith)
-behind-append f (x ∷ xs) [] h = ap (behind f) (sym (append-nil (x ∷ xs)))
+behind-append f (x ∷ xs) [] h = ap (nextStart f) (sym (append-nil (x ∷ xs)))
 behind-append f (x ∷ xs) (y ∷ ys) h = ap (λ (n : ℕ). n + 1) (sym (last-append (x ∷ xs) (y ∷ ys) (omega arith)))
 
 -- the last of a list that is not empty

@@ -7,37 +7,23 @@ use Prim.Native.Nat.{ℕ, zero, suc, _≤_, _<_}
 use native.Mathlib.Omega.{arith}
 use lib.ListN.{length, drop, replicate, length-append, length-drop, length-replicate}
 use borrow.Author.Tests.{le-leb, lt-leb}
-use Rattle.text.specs.declared.Refusal.{Refusal}
-use Rattle.text.specs.First.{refuse}
+use Rattle.refusal.specs.declared.Refusal.{Refusal}
+use Rattle.refusal.specs.First.{refuse, unless}
 use Rattle.text.specs.Drive.{Drive}
-use Rattle.text.proofs.First.{if-true, if-false}
+use Rattle.refusal.proofs.First.{if-true, if-false, unless-none, unless-fault}
 use Rattle.sweep.specs.Sweep.{stepped}
-use Rattle.bench.specs.Bench.{State, Outcome, zeros, refusing, succeeding, unless, reply, filled, roundFault, rounded, run}
+use Rattle.bench.specs.Bench.{State, Ending, zeros, failing, succeeding, reply, filled, roundFault, rounded, rounds}
 
 -- ---- the first refusal
 
--- no refusal: what comes next counts
-pub unless-none : (r : Refusal) (w : State) (x : Outcome) → r .number ≡ 0 → unless r w x ≡ x
-unfolding unless
-unless-none r w x e = rw (e, unless)
-
--- a refusal is the answer
-pub unless-fault : (r : Refusal) (w : State) (x : Outcome) → (r .number ≡ 0 → ⊥) → unless r w x ≡ refusing r w
-unfolding unless refusing
-unless-fault r w x h = go (r .number) refl
-  where
-    go : (n : ℕ) → r .number ≡ n → unless r w x ≡ refusing r w
-    go zero e = absurd (h e)
-    go (suc n) e = rw (e, unless) (ap (λ (k : ℕ). refusing (refuse k) w) e)
-
 -- no refusal afterwards: none before
-pub unless-zero : (r : Refusal) (w : State) (x : Outcome) → unless r w x .reply .refusal .number ≡ 0 → r .number ≡ 0
-unfolding refusing
+pub unless-zero : (r : Refusal) (w : State) (x : Ending) → unless r (failing w) x .reply .refusal .number ≡ 0 → r .number ≡ 0
+unfolding failing
 unless-zero r w x h = go (r .number) refl
   where
     go : (n : ℕ) → r .number ≡ n → r .number ≡ 0
     go zero e = e
-    go (suc n) e = absurd (omega (arith, ap (λ (o : Outcome). o .reply .refusal .number) (unless-fault r w x (λ z. omega arith))))
+    go (suc n) e = absurd (omega (arith, ap (λ (o : Ending). o .reply .refusal .number) (unless-fault r (failing w) x (λ z. omega arith))))
 
 -- ---- the response buffer
 
@@ -72,45 +58,45 @@ module _ (m : Drive) (w : State) where
 
 module _ (n : ℕ) (m : Drive) (came w : State) where
   -- it has ended
-  pub run-ended : w .sweep .ended ≡ true → run (suc n) m came w ≡ succeeding w
-  unfolding run
-  run-ended e = ap (λ (b : Bool). elim b [ true ↦ succeeding w | false ↦ unless (roundFault m w) came (run n m came (rounded m w)) ]) e
+  pub run-ended : w .sweep .ended ≡ true → rounds (suc n) m came w ≡ succeeding w
+  unfolding rounds
+  run-ended e = ap (λ (b : Bool). elim b [ true ↦ succeeding w | false ↦ unless (roundFault m w) (failing came) (rounds n m came (rounded m w)) ]) e
 
-  pub run-turn : w .sweep .ended ≡ false → run (suc n) m came w ≡ unless (roundFault m w) came (run n m came (rounded m w))
-  unfolding run
-  run-turn e = ap (λ (b : Bool). elim b [ true ↦ succeeding w | false ↦ unless (roundFault m w) came (run n m came (rounded m w)) ]) e
+  pub run-turn : w .sweep .ended ≡ false → rounds (suc n) m came w ≡ unless (roundFault m w) (failing came) (rounds n m came (rounded m w))
+  unfolding rounds
+  run-turn e = ap (λ (b : Bool). elim b [ true ↦ succeeding w | false ↦ unless (roundFault m w) (failing came) (rounds n m came (rounded m w)) ]) e
 
   -- it has not, and there is no room for another start
-  pub run-full : w .sweep .ended ≡ false → length (w .starts) ≤ w .sweep .commands → run (suc n) m came w ≡ refusing (refuse 25) came
-  run-full e h = run-turn e ∙ rw (round-full m w h) (unless-fault (refuse 25) came (run n m came (rounded m w)) (λ z. omega arith))
+  pub run-full : w .sweep .ended ≡ false → length (w .starts) ≤ w .sweep .commands → rounds (suc n) m came w ≡ failing came (refuse 25)
+  run-full e h = run-turn e ∙ rw (round-full m w h) (unless-fault (refuse 25) (failing came) (rounds n m came (rounded m w)) (λ z. omega arith))
 
   -- there is room for it, and the record refuses the response
-  pub run-fault : w .sweep .ended ≡ false → w .sweep .commands < length (w .starts) → (answer m w .number ≡ 0 → ⊥) → run (suc n) m came w ≡ refusing (answer m w) came
-  run-fault e h k = run-turn e ∙ rw (round-room m w h) (unless-fault (answer m w) came (run n m came (rounded m w)) k)
+  pub run-fault : w .sweep .ended ≡ false → w .sweep .commands < length (w .starts) → (answer m w .number ≡ 0 → ⊥) → rounds (suc n) m came w ≡ failing came (answer m w)
+  run-fault e h k = run-turn e ∙ rw (round-room m w h) (unless-fault (answer m w) (failing came) (rounds n m came (rounded m w)) k)
 
   -- or takes it: a further turn
-  pub run-round : w .sweep .ended ≡ false → w .sweep .commands < length (w .starts) → answer m w .number ≡ 0 → run (suc n) m came w ≡ run n m came (rounded m w)
-  run-round e h k = run-turn e ∙ rw (round-room m w h) (unless-none (answer m w) came (run n m came (rounded m w)) k)
+  pub run-round : w .sweep .ended ≡ false → w .sweep .commands < length (w .starts) → answer m w .number ≡ 0 → rounds (suc n) m came w ≡ rounds n m came (rounded m w)
+  run-round e h k = run-turn e ∙ rw (round-room m w h) (unless-none (answer m w) (failing came) (rounds n m came (rounded m w)) k)
 
 -- ---- any refusal
 
 -- nothing is refused, or the outcome is just the refusal: both counts 0, all three buffers zero throughout
-abbrev pub Settled : (came : State) → Outcome → Type 0
-Settled came o = (o .reply .refusal .number ≡ 0) ⊎ (o ≡ refusing (o .reply .refusal) came)
+abbrev pub Settled : (came : State) → Ending → Type 0
+Settled came o = (o .reply .refusal .number ≡ 0) ⊎ (o ≡ failing came (o .reply .refusal))
 
-pub unless-settled : (r : Refusal) (w : State) (x : Outcome) → Settled w x → Settled w (unless r w x)
-unfolding refusing
+pub unless-settled : (r : Refusal) (w : State) (x : Ending) → Settled w x → Settled w (unless r (failing w) x)
+unfolding failing
 unless-settled r w x s = go (r .number) refl
   where
-    go : (n : ℕ) → r .number ≡ n → Settled w (unless r w x)
-    go zero e = rw (unless-none r w x e) s
-    go (suc n) e = rw (unless-fault r w x (λ z. omega arith)) (inr refl)
+    go : (n : ℕ) → r .number ≡ n → Settled w (unless r (failing w) x)
+    go zero e = rw (unless-none r (failing w) x e) s
+    go (suc n) e = rw (unless-fault r (failing w) x (λ z. omega arith)) (inr refl)
 
-pub run-settled : (n : ℕ) (m : Drive) (came w : State) → Settled came (run n m came w)
-unfolding run refusing succeeding
+pub run-settled : (n : ℕ) (m : Drive) (came w : State) → Settled came (rounds n m came w)
+unfolding rounds failing succeeding
 run-settled zero m came w = inr refl
 run-settled (suc n) m came w = go (w .sweep .ended) refl (run-settled n m came (rounded m w))
   where
-    go : (b : Bool) → w .sweep .ended ≡ b → Settled came (run n m came (rounded m w)) → Settled came (run (suc n) m came w)
+    go : (b : Bool) → w .sweep .ended ≡ b → Settled came (rounds n m came (rounded m w)) → Settled came (rounds (suc n) m came w)
     go true e s = rw (run-ended n m came w e) (inl refl)
-    go false e s = rw (run-turn n m came w e) (unless-settled (roundFault m w) came (run n m came (rounded m w)) s)
+    go false e s = rw (run-turn n m came w e) (unless-settled (roundFault m w) came (rounds n m came (rounded m w)) s)

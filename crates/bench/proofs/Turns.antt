@@ -9,11 +9,12 @@ use lib.Dec.{leb, ltb}
 use lib.ListN.{length}
 use borrow.Author.Tests.{ltb-false}
 use Rattle.text.specs.Drive.{Drive}
-use Rattle.text.proofs.First.{if-zero, orElse-zero}
+use Rattle.refusal.specs.First.{unless}
+use Rattle.refusal.proofs.First.{if-zero, orElse-zero, unless-none, unless-fault}
 use Rattle.sweep.specs.declared.Sweep.{Sweep}
 use Rattle.sweep.specs.Sweep.{fresh, openRule, takeFault, advanced, after, stepped}
-use Rattle.bench.specs.Bench.{State, Outcome, refusing, succeeding, unless, reply, roundFault, rounded, run, opened, runFrom}
-use Rattle.bench.proofs.Run.{unless-none, unless-fault, run-ended, run-turn}
+use Rattle.bench.specs.Bench.{State, Ending, failing, succeeding, reply, roundFault, rounded, rounds, opened, runFrom}
+use Rattle.bench.proofs.Run.{run-ended, run-turn}
 
 -- ---- a response that a record takes
 
@@ -50,49 +51,49 @@ module _ (m : Drive) (w : State) (f : roundFault m w .number ≡ 0) where
 -- ---- the fuel is enough
 
 -- more of it changes nothing
-pub run-enough : (j n : ℕ) (m : Drive) (came w : State) → w .sweep .commands ≤ 65536 → 65537 ≤ w .sweep .commands + n → run (n + j) m came w ≡ run n m came w
+pub run-enough : (j n : ℕ) (m : Drive) (came w : State) → w .sweep .commands ≤ 65536 → 65537 ≤ w .sweep .commands + n → rounds (n + j) m came w ≡ rounds n m came w
 run-enough j zero m came w h k = absurd (omega arith)
 run-enough j (suc n) m came w h k = rw suc-add (go (w .sweep .ended) refl (run-enough j n m came (rounded m w)))
   where
     go : (b : Bool) → w .sweep .ended ≡ b
-        → (rounded m w .sweep .commands ≤ 65536 → 65537 ≤ rounded m w .sweep .commands + n → run (n + j) m came (rounded m w) ≡ run n m came (rounded m w))
-        → run (suc (n + j)) m came w ≡ run (suc n) m came w
+        → (rounded m w .sweep .commands ≤ 65536 → 65537 ≤ rounded m w .sweep .commands + n → rounds (n + j) m came (rounded m w) ≡ rounds n m came (rounded m w))
+        → rounds (suc (n + j)) m came w ≡ rounds (suc n) m came w
     go true e ih = run-ended (n + j) m came w e ∙ sym (run-ended n m came w e)
     go false e ih = run-turn (n + j) m came w e ∙ same (roundFault m w .number) refl ih ∙ sym (run-turn n m came w e)
       where
         same : (i : ℕ) → roundFault m w .number ≡ i
-            → (rounded m w .sweep .commands ≤ 65536 → 65537 ≤ rounded m w .sweep .commands + n → run (n + j) m came (rounded m w) ≡ run n m came (rounded m w))
-            → unless (roundFault m w) came (run (n + j) m came (rounded m w)) ≡ unless (roundFault m w) came (run n m came (rounded m w))
-        same zero q ih = ap (unless (roundFault m w) came) (ih (rounded-few m w q) (omega (arith, round-commands m w q)))
+            → (rounded m w .sweep .commands ≤ 65536 → 65537 ≤ rounded m w .sweep .commands + n → rounds (n + j) m came (rounded m w) ≡ rounds n m came (rounded m w))
+            → unless (roundFault m w) (failing came) (rounds (n + j) m came (rounded m w)) ≡ unless (roundFault m w) (failing came) (rounds n m came (rounded m w))
+        same zero q ih = ap (unless (roundFault m w) (failing came)) (ih (rounded-few m w q) (omega (arith, round-commands m w q)))
         same (suc i) q ih =
-            unless-fault (roundFault m w) came (run (n + j) m came (rounded m w)) (λ z. omega arith)
-            ∙ sym (unless-fault (roundFault m w) came (run n m came (rounded m w)) (λ z. omega arith))
+            unless-fault (roundFault m w) (failing came) (rounds (n + j) m came (rounded m w)) (λ z. omega arith)
+            ∙ sym (unless-fault (roundFault m w) (failing came) (rounds n m came (rounded m w)) (λ z. omega arith))
 
 -- ---- the loop
 
 -- the run from w on, with the fuel that its commands leave
-abbrev pub onwards : (m : Drive) (came w : State) → Outcome
-onwards m came w = run (65537 - w .sweep .commands) m came w
+abbrev pub onwards : (m : Drive) (came w : State) → Ending
+onwards m came w = rounds (65537 - w .sweep .commands) m came w
 
 module _ (m : Drive) (came w : State) where
   abbrev n : ℕ
   n = 65536 - w .sweep .commands
 
-  fuel : w .sweep .commands ≤ 65536 → onwards m came w ≡ run (suc n) m came w
-  fuel h = ap (λ (k : ℕ). run k m came w) (omega arith)
+  fuel : w .sweep .commands ≤ 65536 → onwards m came w ≡ rounds (suc n) m came w
+  fuel h = ap (λ (k : ℕ). rounds k m came w) (omega arith)
 
   -- the test says that it has ended
   pub onwards-ended : w .sweep .commands ≤ 65536 → w .sweep .ended ≡ true → onwards m came w ≡ succeeding w
   onwards-ended h e = fuel h ∙ run-ended n m came w e
 
   -- a round is refused
-  pub onwards-fault : w .sweep .commands ≤ 65536 → w .sweep .ended ≡ false → (roundFault m w .number ≡ 0 → ⊥) → onwards m came w ≡ refusing (roundFault m w) came
-  onwards-fault h e f = fuel h ∙ run-turn n m came w e ∙ unless-fault (roundFault m w) came (run n m came (rounded m w)) f
+  pub onwards-fault : w .sweep .commands ≤ 65536 → w .sweep .ended ≡ false → (roundFault m w .number ≡ 0 → ⊥) → onwards m came w ≡ failing came (roundFault m w)
+  onwards-fault h e f = fuel h ∙ run-turn n m came w e ∙ unless-fault (roundFault m w) (failing came) (rounds n m came (rounded m w)) f
 
   -- or not: a further turn
   pub onwards-round : w .sweep .ended ≡ false → roundFault m w .number ≡ 0 → onwards m came w ≡ onwards m came (rounded m w)
   onwards-round e f =
       fuel (omega (arith, round-few m w f))
       ∙ run-turn n m came w e
-      ∙ unless-none (roundFault m w) came (run n m came (rounded m w)) f
-      ∙ ap (λ (k : ℕ). run k m came (rounded m w)) (omega (arith, round-commands m w f))
+      ∙ unless-none (roundFault m w) (failing came) (rounds n m came (rounded m w)) f
+      ∙ ap (λ (k : ℕ). rounds k m came (rounded m w)) (omega (arith, round-commands m w f))

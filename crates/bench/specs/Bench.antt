@@ -4,8 +4,8 @@ use mathlib.Core.List.{List, _++_}
 use Prim.Native.Nat.{ℕ, zero, suc}
 use lib.Dec.{ltb, leb}
 use lib.ListN.{length, set, drop, replicate}
-use Rattle.text.specs.declared.Refusal.{Refusal}
-use Rattle.text.specs.First.{refuse, accept, _if_else_, _orElse_}
+use Rattle.refusal.specs.declared.Refusal.{Refusal}
+use Rattle.refusal.specs.First.{refuse, accept, _if_else_, _orElse_, unless}
 use Rattle.text.specs.Drive.{Drive}
 use Rattle.text.specs.Response.{sent}
 use Rattle.sheet.specs.Check.{verdict}
@@ -25,30 +25,27 @@ abbrev pub state : Sweep → (response collected starts : List ℕ) → State
 state w response collected starts = record { sweep = w; response = response; collected = collected; starts = starts }
 
 -- what comes of it: the reply, and the three buffers afterwards
-pub record Outcome : Type 0 where
+pub record Ending : Type 0 where
   pub reply : Benched
   pub response : List ℕ
   pub collected : List ℕ
   pub starts : List ℕ
 
-abbrev pub outcome : Benched → (response collected starts : List ℕ) → Outcome
-outcome r response collected starts = record { reply = r; response = response; collected = collected; starts = starts }
+abbrev pub ending : Benched → (response collected starts : List ℕ) → Ending
+ending r response collected starts = record { reply = r; response = response; collected = collected; starts = starts }
 
 -- a buffer set to zero throughout
 unfoldable pub zeros : List ℕ → List ℕ
 zeros d = replicate (length d) 0
 
 -- a refusal, where `came` has the buffers as they came: its number, both counts 0, all three buffers zero throughout
-unfoldable pub refusing : Refusal → (came : State) → Outcome
-refusing r came =
-    outcome record { refusal = r; commands = 0; collected = 0 } (zeros (came .response)) (zeros (came .collected)) (zeros (came .starts))
+unfoldable pub failing : (came : State) → Refusal → Ending
+failing came r =
+    ending record { refusal = r; commands = 0; collected = 0 } (zeros (came .response)) (zeros (came .collected)) (zeros (came .starts))
 
 -- success: the command count, the count of collected bytes, and the buffers as the rounds left them
-unfoldable pub succeeding : State → Outcome
-succeeding w = outcome record { refusal = accept; commands = w .sweep .commands; collected = w .sweep .collected } (w .response) (w .collected) (w .starts)
-
-unfoldable pub unless : Refusal → (came : State) → Outcome → Outcome
-unless r came x = elim (r .number) [ zero ↦ x | suc e ↦ refusing r came ]
+unfoldable pub succeeding : State → Ending
+succeeding w = ending record { refusal = accept; commands = w .sweep .commands; collected = w .sweep .collected } (w .response) (w .collected) (w .starts)
 
 -- ---- a round
 
@@ -78,9 +75,9 @@ rounded m w = record {
 -- Round after round, from where w stands until the sweep has ended; `came` has the buffers as they came. n is fuel, spent by each test of the
 -- mark that it has ended. From a fresh record 65,537 are enough, whatever the drive: a round that nothing refuses counts as a command, and with
 -- 65,536 commands a record takes nothing more (26). So the first line is never reached, and more fuel changes nothing (`run-enough`).
-unfoldable pub run : (n : ℕ) (m : Drive) (came w : State) → Outcome
-run zero m came w = refusing (refuse 26) came
-run (suc n) m came w = elim (w .sweep .ended) [ true ↦ succeeding w | false ↦ unless (roundFault m w) came (run n m came (rounded m w)) ]
+unfoldable pub rounds : (n : ℕ) (m : Drive) (came w : State) → Ending
+rounds zero m came w = failing came (refuse 26)
+rounds (suc n) m came w = elim (w .sweep .ended) [ true ↦ succeeding w | false ↦ unless (roundFault m w) (failing came) (rounds n m came (rounded m w)) ]
 
 -- ---- the bench sweep
 
@@ -97,11 +94,11 @@ unfoldable pub opened : (rt a : ℕ) (response collected starts : List ℕ) → 
 opened rt a response collected starts = state (fresh rt a) response collected starts
 
 -- all rounds from there
-abbrev pub runFrom : Drive → State → Outcome
-runFrom m came = run 65537 m came came
+abbrev pub runFrom : Drive → State → Ending
+runFrom m came = rounds 65537 m came came
 
 -- the bench sweep of the sheet s
-unfoldable pub benched : (s : List ℕ) (rt a : ℕ) (response collected starts : List ℕ) → Outcome
+unfoldable pub benched : (s : List ℕ) (rt a : ℕ) (response collected starts : List ℕ) → Ending
 benched s rt a response collected starts =
-    unless (firstFault s rt a response) (opened rt a response collected starts)
+    unless (firstFault s rt a response) (failing (opened rt a response collected starts))
     (runFrom (meaning s) (opened rt a response collected starts))

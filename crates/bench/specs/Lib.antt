@@ -1,3 +1,3 @@
 pub mod Bench
-pub mod Loop
 pub mod Swept
+pub mod inner

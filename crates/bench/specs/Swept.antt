@@ -7,21 +7,21 @@ use mathlib.Core.List.{List, [], _∷_, _++_}
 use Prim.Native.Nat.{ℕ, _+_, _-_, _*_, _≤_, _<_}
 use lib.ListN.{length, take, drop}
 use Rattle.base.specs.Lists.{flat, All}
-use Rattle.text.specs.First.{refuse, accept}
+use Rattle.refusal.specs.First.{refuse, accept}
 use Rattle.text.specs.Drive.{Desc, Drive, Asc}
 use Rattle.text.specs.Response.{bytes, selected, sent}
 use Rattle.text.specs.Reading.{wholes, lastNumber}
 use Rattle.text.specs.Packing.{size, total, groups, joined}
 use Rattle.sweep.specs.Sweep.{most, cut}
-use Rattle.bench.specs.Bench.{Outcome, filled, refusing, opened}
+use Rattle.bench.specs.Bench.{Ending, filled, failing, opened}
 
 -- C - 8: the room behind the header of a response to allocation length a
 abbrev pub room : ℕ → ℕ
 room a = most a - 8
 
 -- a descriptor that has room in a response
-abbrev pub Fits : ℕ → Desc → Type 0
-Fits a d = size d ≤ room a
+abbrev pub HasRoom : ℕ → Desc → Type 0
+HasRoom a d = size d ≤ room a
 
 -- ---- what is asked for
 
@@ -31,7 +31,7 @@ pub record Premises (m : Drive) (rt a : ℕ) (response collected starts : List �
   pub kind : rt < 2
   pub eight : 8 ≤ a
   -- each wanted descriptor has at most C - 8 bytes
-  pub small : All (Fits a) (selected rt 0 m)
+  pub small : All (HasRoom a) (selected rt 0 m)
   -- room in the response buffer: C bytes
   pub response-room : most a ≤ length response
   -- room in the collecting buffer: all wanted descriptors
@@ -46,9 +46,9 @@ unfoldable pub lastOf : ℕ → List ℕ → ℕ
 lastOf z [] = z
 lastOf z (t ∷ ts) = lastOf t ts
 
-unfoldable pub some : List ℕ → Bool
-some [] = false
-some (t ∷ ts) = true
+unfoldable pub another : List ℕ → Bool
+another [] = false
+another (t ∷ ts) = true
 
 -- a round from start t that takes the descriptors g, where out has the collected bytes, `before` of them from the rounds before
 pub record Round (m : Drive) (rt a : ℕ) (out : List ℕ) (before t : ℕ) (g : List Desc) (more : Bool) : Type 0 where
@@ -65,10 +65,10 @@ Honest m rt a out before f [] [] = Unit {0}
 Honest m rt a out before f [] (g ∷ gs) = ⊥
 Honest m rt a out before f (t ∷ ts) [] = ⊥
 Honest m rt a out before f (t ∷ ts) (g ∷ gs) =
-    (t ≡ f) × Round m rt a out before t g (some ts) × Honest m rt a out (before + length (flat bytes g)) (lastNumber g + 1) ts gs
+    (t ≡ f) × Round m rt a out before t g (another ts) × Honest m rt a out (before + length (flat bytes g)) (lastNumber g + 1) ts gs
 
 -- o is a successful sweep
-pub record Swept (m : Drive) (rt a : ℕ) (response collected starts : List ℕ) (o : Outcome) : Type 0 where
+pub record Swept (m : Drive) (rt a : ℕ) (response collected starts : List ℕ) (o : Ending) : Type 0 where
   -- the starts, and what each round took
   pub asked : List ℕ
   pub taken : List (List Desc)
@@ -93,22 +93,22 @@ pub record Swept (m : Drive) (rt a : ℕ) (response collected starts : List ℕ)
 -- ---- how it can end, whatever the room
 
 -- the next start behind the descriptors that were collected: the last number plus 1, f if there are none
-unfoldable pub behind : ℕ → List Desc → ℕ
-behind f [] = f
-behind f (d ∷ ds) = lastNumber (d ∷ ds) + 1
+unfoldable pub nextStart : ℕ → List Desc → ℕ
+nextStart f [] = f
+nextStart f (d ∷ ds) = lastNumber (d ∷ ds) + 1
 
 -- success, or one of four refusals with its ground
-pub data Ended (m : Drive) (rt a : ℕ) (response collected starts : List ℕ) (o : Outcome) : Type 0 where
+pub data Ended (m : Drive) (rt a : ℕ) (response collected starts : List ℕ) (o : Ending) : Type 0 where
   swept : Swept m rt a response collected starts o → Ended m rt a response collected starts o
   -- 12: the response buffer has fewer than C bytes
-  short : o ≡ refusing (refuse 12) (opened rt a response collected starts) → length response < most a → Ended m rt a response collected starts o
+  short : o ≡ failing (opened rt a response collected starts) (refuse 12) → length response < most a → Ended m rt a response collected starts o
   -- 23: xs were collected, d is the first descriptor that is wanted from the next start on, and it has more than C - 8 bytes; it is the first such one
-  long : o ≡ refusing (refuse 23) (opened rt a response collected starts) → (xs : List Desc) (d : Desc) (ys : List Desc)
-      → selected rt 0 m ≡ xs ++ d ∷ ys → selected rt (behind 0 xs) m ≡ d ∷ ys → room a < size d → All (Fits a) xs → Ended m rt a response collected starts o
+  long : o ≡ failing (opened rt a response collected starts) (refuse 23) → (xs : List Desc) (d : Desc) (ys : List Desc)
+      → selected rt 0 m ≡ xs ++ d ∷ ys → selected rt (nextStart 0 xs) m ≡ d ∷ ys → room a < size d → All (HasRoom a) xs → Ended m rt a response collected starts o
   -- 24: the collecting buffer has no room for all wanted descriptors
-  narrow : o ≡ refusing (refuse 24) (opened rt a response collected starts) → length collected < total (selected rt 0 m) → Ended m rt a response collected starts o
+  narrow : o ≡ failing (opened rt a response collected starts) (refuse 24) → length collected < total (selected rt 0 m) → Ended m rt a response collected starts o
   -- 25: the list of starts has no room for all rounds
-  many : o ≡ refusing (refuse 25) (opened rt a response collected starts) → length starts < length (groups (room a) 65536 (selected rt 0 m))
+  many : o ≡ failing (opened rt a response collected starts) (refuse 25) → length starts < length (groups (room a) 65536 (selected rt 0 m))
       → Ended m rt a response collected starts o
 
 -- the numbers that this leaves

@@ -5,11 +5,11 @@ ghost use lib.ListN.{length};
 ghost use Rattle.sheet.specs.Check.{Accepted};
 ghost use Rattle.sheet.specs.Meaning.{meaning};
 ghost use Rattle.sweep.specs.Sweep.{most};
-ghost use Rattle.bench.specs.Bench.{state, outcome, benched};
-ghost use Rattle.bench.specs.Loop.{openFault, refused, Rounded, Ran};
+ghost use Rattle.bench.specs.Bench.{state, ending, benched};
+ghost use Rattle.bench.specs.inner.Loop.{openFault, cleared, Rounded, Ran};
+use refusal::Refusal;
 use sweep::Step;
 use sweep::Sweep;
-use text::Refusal;
 
 // What a bench sweep answers: the refusal or none, how many commands were sent (starts written), and how many bytes were collected.
 pub struct Benched {
@@ -32,9 +32,9 @@ fn first_fault(s: &[u8], rt: u8, a: u16, space: usize) -> Refusal
         return fault;
     }
     if space < sweep::most(a) {
-        return text::BUFFER_SHORT;
+        return refusal::BUFFER_SHORT;
     }
-    text::ACCEPTED
+    refusal::ACCEPTED
 }
 
 // One round against a sheet that is accepted: the start is noted, the box is asked, the driver takes just the bytes sent.
@@ -53,7 +53,7 @@ fn one_round(
     let at = w.commands as usize;
     if starts.len() <= at {
         return Step {
-            refusal: text::STARTS_FULL,
+            refusal: refusal::STARTS_FULL,
             sweep: w,
         };
     }
@@ -88,15 +88,15 @@ fn all_rounds(
         sweep = step.sweep;
     }
     Step {
-        refusal: text::ACCEPTED,
+        refusal: refusal::ACCEPTED,
         sweep: sweep,
     }
 }
 
 // A refusal: its number, both counts 0, all three buffers set to zero.
 fn refuse(fault: Refusal, response: &mut [u8], collected: &mut [u8], starts: &mut [u16]) -> Benched
-    ensures { λ r. ⌜ outcome r (now (response .exit)) (now (collected .exit)) (now (starts .exit))
-        ≡ refused fault (now (response .entry)) (now (collected .entry)) (now (starts .entry)) ⌝ }
+    ensures { λ r. ⌜ ending r (now (response .exit)) (now (collected .exit)) (now (starts .exit))
+        ≡ cleared fault (now (response .entry)) (now (collected .entry)) (now (starts .entry)) ⌝ }
 {
     lent::clear(response);
     lent::clear(collected);
@@ -117,7 +117,7 @@ pub fn bench(
     collected: &mut [u8],
     starts: &mut [u16],
 ) -> Benched
-    ensures { λ r. ⌜ outcome r (now (response .exit)) (now (collected .exit)) (now (starts .exit))
+    ensures { λ r. ⌜ ending r (now (response .exit)) (now (collected .exit)) (now (starts .exit))
         ≡ benched (now (s .entry)) rt a (now (response .entry)) (now (collected .entry)) (now (starts .entry)) ⌝ }
 {
     let fault = first_fault(s, rt, a, response.len());

@@ -4,10 +4,10 @@ use checks::Judgement;
 use libc::STDERR_FILENO;
 use libc::STDIN_FILENO;
 use libc::STDOUT_FILENO;
+use refusal::Refusal;
 use text::Feature;
 use text::Header;
 use text::Profile;
-use text::Refusal;
 
 // One byte more than a response may have: an input that fills it is refused, not shortened.
 const ROOM: usize = Header::RETURN_LIMIT + 1;
@@ -47,44 +47,6 @@ fn say_profile(profile: Profile) {
     say_hex4(profile.0);
 }
 
-// Why a response is not checked.
-fn say_unread(number: u8) {
-    match number {
-        14 => say(b"the response has under 8 or over 65,534 bytes"),
-        15 => say(b"Data Length is under 4 or no multiple of 4"),
-        16 => say(b"more bytes than Data Length + 4 were received"),
-        17 => say(b"an Additional Length is no multiple of 4"),
-        18 => say(b"a feature number is not above the one before"),
-        20 => say(b"a descriptor ends beyond Data Length + 4"),
-        29 => say(b"the response is cut"),
-        _ => say(b"the response is refused"),
-    }
-}
-
-// What is wrong with a descriptor or with the profile asked for.
-fn say_finding(number: u8) {
-    match number {
-        30 => say(b"every response has to report it, and it is missing"),
-        31 => say(b"its body has not the length that it must have"),
-        32 => say(b"Persistent and Current are not both 1"),
-        33 => say(b"a reserved flag bit or Version is not 0"),
-        34 => say(b"Persistent is 1 and Current is 0"),
-        35 => say(b"Persistent is 1, and feature 0003 is reported"),
-        36 => say(b"a reserved body bit or a pad byte is not 0"),
-        37 => say(b"SAO is 0 and the cue sheet length is not 0"),
-        39 => say(b"a profile number is 0"),
-        _ => say(b"no table for this profile"),
-    }
-}
-
-fn say_meaning(number: u8) {
-    if number < 30 {
-        say_unread(number);
-        return;
-    }
-    say_finding(number);
-}
-
 // ---- the descriptors
 
 // Where a fault is. Numbers under 30 are of the whole response, not of a feature.
@@ -96,11 +58,11 @@ fn say_place(number: u8, feature: Feature) {
     say_feature(feature);
 }
 
-fn say_fault(number: u8, feature: Feature) {
-    io::print_decimal(STDOUT_FILENO, number as u64);
-    say_place(number, feature);
+fn say_fault(refusal: Refusal, feature: Feature) {
+    io::print_decimal(STDOUT_FILENO, refusal.number as u64);
+    say_place(refusal.number, feature);
     say(b": ");
-    say_meaning(number);
+    words::say_meaning(STDOUT_FILENO, refusal);
 }
 
 fn say_descriptors(s: &[u8]) {
@@ -111,7 +73,7 @@ fn say_descriptors(s: &[u8]) {
         say(b"no fault\n");
         return;
     }
-    say_fault(refusal.number, finding.feature);
+    say_fault(refusal, finding.feature);
     say(b"\n");
 }
 
@@ -125,7 +87,7 @@ fn say_missing(feature: Feature) {
 fn say_refused(refusal: Refusal) {
     io::print_decimal(STDOUT_FILENO, refusal.number as u64);
     say(b": ");
-    say_meaning(refusal.number);
+    words::say_meaning(STDOUT_FILENO, refusal);
     say(b"\n");
 }
 

@@ -1,13 +1,13 @@
 -- What a call gave, a bool or a number, said of the definition that its contract cites. Assumes nothing.
 use borrow.Author.Tests.{eq-eqb, ne-eqb}
-use mathlib.Core.Path.{_≡_, sym, ap, _∙_}
+use mathlib.Core.Path.{_≡_, sym, _∙_}
 use mathlib.Core.Bool.{Bool, true, false, not}
 use Prim.Native.Nat.{ℕ}
 use lib.Dec.{eqb}
-use Rattle.text.specs.declared.Refusal.{Refusal}
-use Rattle.text.specs.First.{_if_else_}
+use Rattle.refusal.specs.declared.Refusal.{Refusal}
+use Rattle.refusal.specs.First.{_if_else_}
 use Rattle.checks.proofs.Bools.{not-yes, not-no}
-use Rattle.text.proofs.First.{if-true, if-false, orElse-none, orElse-fault}
+use Rattle.refusal.proofs.First.{if-true, if-false, call-none, call-fault}
 
 pub if-yes : (x y : Refusal) (b : Bool) → b ≡ true → (x if b else y) ≡ x
 if-yes x y b h = rw h (if-true x y)
@@ -29,19 +29,11 @@ pub call-ne : (r a k : ℕ) → r ≡ a → (r ≡ k → ⊥) → eqb a k ≡ fa
 call-ne r a k e h = ne-eqb a k (λ z. h (e ∙ z))
 
 -- a refusal, tested
-pub call-none : (r a : Refusal) → r ≡ a → r .number ≡ 0 → a .number ≡ 0
-call-none r a e h = sym (ap (λ (x : Refusal). x .number) e) ∙ h
-
-pub call-fault : (r a : Refusal) → r ≡ a → (r .number ≡ 0 → ⊥) → a .number ≡ 0 → ⊥
-call-fault r a e h z = h (ap (λ (x : Refusal). x .number) e ∙ z)
-
 pub call-some : (r a : Refusal) → r ≡ a → (r .number ≡ 0 → ⊥) → not (eqb (a .number) 0) ≡ true
 call-some r a e h = not-yes _ (ne-eqb (a .number) 0 (call-fault r a e h))
 
 pub call-zero : (r a : Refusal) → r ≡ a → r .number ≡ 0 → not (eqb (a .number) 0) ≡ false
 call-zero r a e h = not-no _ (eq-eqb (a .number) 0 (call-none r a e h))
 
--- the tests on a way are bools that calls gave, or refusals
+-- the tests on a way are bools that calls gave
 pub ruleset calls = (if-yes, if-no, not-yes, not-no, call-true, call-false)
-
-pub ruleset faults = (orElse-none, orElse-fault, call-none, call-fault)

@@ -12,17 +12,19 @@ use lib.ListN.{length}
 use Rattle.base.specs.Lists.{All}
 use Rattle.base.proofs.Lists.{all-map}
 use Rattle.fields.specs.Field.{field}
-use Rattle.text.specs.declared.Refusal.{Refusal}
-use Rattle.text.specs.First.{refuse, accept}
-use Rattle.text.specs.Flags.{reserved, version, persistent, current}
+use Rattle.refusal.specs.declared.Refusal.{Refusal}
+use Rattle.refusal.specs.First.{refuse, accept}
+use Rattle.text.specs.Flags.{persistent, current}
 use Rattle.text.specs.Drive.{Desc}
-use Rattle.text.proofs.First.{if-zero, orElse-zero, orElse-none, first-all, first-accept}
+use Rattle.text.proofs.FlagsRule.{flags-good, flags-accept}
+use Rattle.refusal.proofs.First.{if-zero, orElse-zero, orElse-none, first-all, first-accept}
 use Rattle.checks.specs.declared.legal.Length.{Length}
 use Rattle.checks.specs.declared.legal.Length.the-variants.{Any, Exactly, Counted}
 use Rattle.checks.specs.declared.Finding.{Finding}
 use Rattle.checks.specs.Legal.{rowOf}
-use Rattle.checks.specs.Rules.{byteOf, flagsRule, wrongLength, flagsShort, flagsBarred, rowRule, reservedRule, reservedAt, cueRule, profileAt, profilesFault, bodyFault, descFault}
-use Rattle.checks.specs.Input.{descs, reported}
+use Rattle.checks.specs.Rules.{byteOf, flagsFault, wrongLength, flagsShort, flagsBarred, rowRule, reservedRule, reservedAt, cueRule, profileAt, profilesFault, bodyFault, descFault}
+use Rattle.reading.specs.Places.{descs}
+use Rattle.checks.specs.Reported.{reported}
 use Rattle.checks.specs.Check.{finding, firstFault, checkedAll, checked}
 use Rattle.checks.specs.Faultless.{Fits, Faultless, Passes}
 use Rattle.checks.proofs.Bools.{not-yes, not-no, and-false, false-and, and-true, true-and, or-false, false-or}
@@ -36,37 +38,8 @@ module _ (n : ℕ) where
   bit-low : n % 2 < 2
   bit-low = mod-lt n (omega arith)
 
-  bit-one : eqb (n % 2) 0 ≡ false → n % 2 ≡ 1
-  bit-one e = let k : n % 2 ≡ 0 → ⊥ = eqb-false _ _ e in omega (arith, bit-low)
-
   bit-zero : eqb (n % 2) 1 ≡ false → n % 2 ≡ 0
   bit-zero e = let k : n % 2 ≡ 1 → ⊥ = eqb-false _ _ e in omega (arith, bit-low)
-
--- ---- 33 and 34
-
-record Flagged (f : ℕ) : Type 0 where
-  reserved-zero : reserved f ≡ 0
-  version-zero : version f ≡ 0
-  current-too : persistent f ≡ 1 → current f ≡ 1
-
-flags-good : (f : ℕ) → flagsRule f .number ≡ 0 → Flagged f
-unfolding flagsRule
-flags-good f e =
-    let a = if-zero _ _ _ e in
-    let b = if-zero _ _ _ (a .1) in
-    let c = if-zero _ _ _ (b .1) in
-    record {
-      reserved-zero = eqb-true _ _ (not-false _ (a .0));
-      version-zero = eqb-true _ _ (not-false _ (b .0));
-      current-too = λ p. bit-one f (and-false _ _ (c .0) (eq-eqb _ _ p));
-    }
-
-flags-accept : (f : ℕ) → Flagged f → flagsRule f ≡ accept
-unfolding flagsRule
-flags-accept f g =
-    if-no _ _ _ (not-no _ (eq-eqb _ _ (g .reserved-zero)))
-    ∙ if-no _ _ _ (not-no _ (eq-eqb _ _ (g .version-zero)))
-    ∙ if-no _ _ _ (false-and _ _ (λ p. let h : current f ≡ 1 = g .current-too (eqb-true _ _ p) in ne-eqb (current f) 0 (λ z. absurd (omega arith))))
 
 -- ---- 31, 32 and 35
 
@@ -158,11 +131,11 @@ zero-of e = ap (λ (r : Refusal). r .number) e
 
 module _ (removable : Bool) (d : Desc) where
   desc-good : descFault removable d .number ≡ 0 → Faultless removable d
-  unfolding descFault rowRule bodyFault reservedAt
+  unfolding descFault flagsFault rowRule bodyFault reservedAt
   desc-good e =
       let a = orElse-zero _ _ e in
       let b = orElse-zero _ _ (a .1) in
-      let f = flags-good (d .flags) (a .0) in
+      let f = flags-good (refuse 33) (refuse 33) (refuse 34) (d .flags) (λ z. absurd (omega arith)) (λ z. absurd (omega arith)) (λ z. absurd (omega arith)) (a .0) in
       let r = if-zero _ _ _ (b .0) in
       let t = if-zero _ _ _ (r .1) in
       let u = if-zero _ _ _ (t .1) in
@@ -181,9 +154,9 @@ module _ (removable : Bool) (d : Desc) where
       }
 
   desc-accept : Faultless removable d → descFault removable d .number ≡ 0
-  unfolding descFault rowRule bodyFault reservedAt
+  unfolding descFault flagsFault rowRule bodyFault reservedAt
   desc-accept g =
-      let f = flags-accept (d .flags) (record { reserved-zero = g .reserved-zero; version-zero = g .version-zero; current-too = g .current-too }) in
+      let f = flags-accept (refuse 33) (refuse 33) (refuse 34) (d .flags) (record { reserved-zero = g .reserved-zero; version-zero = g .version-zero; current-too = g .current-too }) in
       let l = length-accept (rowOf (d .number) .length) (d .body) (g .fits) in
       let b = both-accept (d .number) (d .flags) (g .both) in
       let p = free-accept (rowOf (d .number) .barred) removable (d .flags) (g .free) in

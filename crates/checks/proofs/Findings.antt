@@ -3,12 +3,14 @@ use mathlib.Core.Path.{_≡_, refl, sym, ap, _∙_}
 use mathlib.Core.Bool.{Bool, true, false, not}
 use Prim.Native.Nat.{ℕ, zero, suc}
 use native.Mathlib.Omega.{arith}
-use Rattle.text.specs.declared.Refusal.{Refusal}
-use Rattle.text.specs.First.{refuse, accept, _if_else_}
+use Rattle.refusal.specs.declared.Refusal.{Refusal}
+use Rattle.text.specs.declared.Feature.{Feature}
+use Rattle.refusal.specs.First.{refuse, accept, _if_else_}
 use Rattle.checks.specs.declared.Finding.{Finding}
 use Rattle.checks.specs.Check.{finding, _orNext_}
 use Rattle.checks.proofs.Bools.{not-yes, not-no}
-use Rattle.checks.proofs.Calls.{if-yes, if-no, call-fault}
+use Rattle.refusal.proofs.First.{call-fault}
+use Rattle.checks.proofs.Calls.{if-yes, if-no}
 
 -- no number: the next one counts
 pub next-none : (a b : Finding) → a .refusal .number ≡ 0 → a orNext b ≡ b
@@ -49,5 +51,5 @@ core-there f there n e =
 pub next-call : (r a : Refusal) (f : ℕ) (n : Finding) → r ≡ a → (r .number ≡ 0 → ⊥) → finding r f ≡ finding a f orNext n
 next-call r a f n e k = ap (λ (x : Refusal). finding x f) e ∙ sym (next-fault (finding a f) n (call-fault r a e k))
 
-pub finding-eq : (a b : Refusal) (m n : ℕ) → a ≡ b → m ≡ n → finding a m ≡ finding b n
-finding-eq a b m n p q = cc
+pub finding-eq : (a b : Refusal) (f : Feature) (n : ℕ) → a ≡ b → f .0 ≡ n → record { refusal = a; feature = f } ≡ finding b n
+finding-eq a b f n p q = rw (p, ← q)

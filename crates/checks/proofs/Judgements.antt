@@ -5,12 +5,13 @@ use mathlib.Core.List.{List, [], _∷_}
 use Prim.Native.Nat.{ℕ, zero, suc}
 use native.Mathlib.Omega.{arith}
 use lib.ListN.{length}
-use Rattle.text.specs.declared.Refusal.{Refusal}
-use Rattle.text.specs.First.{refuse}
-use Rattle.text.proofs.First.{orElse-none, orElse-fault}
+use Rattle.refusal.specs.declared.Refusal.{Refusal}
+use Rattle.refusal.specs.First.{refuse}
+use Rattle.refusal.proofs.First.{orElse-none, orElse-fault}
 use Rattle.checks.specs.declared.Judgement.{Judgement}
 use Rattle.checks.specs.declared.Judgement.the-variants.{Conforms, Missing, Refused}
-use Rattle.checks.specs.Input.{inputFault, descs}
+use Rattle.reading.specs.Places.{descs}
+use Rattle.reading.specs.Completed.{completeFault}
 use Rattle.checks.specs.Required.{hasTable}
 use Rattle.checks.specs.Judge.{Said, says, said, lowest, judgeFault, judged}
 use Rattle.checks.proofs.Bools.{not-yes, not-no}
@@ -27,25 +28,25 @@ module _ (p : ℕ) (s : List ℕ) where
           let g : judgeFault p s .number ≡ suc n = ap (λ (x : Refusal). x .number) (sym e) ∙ f in
           rw (g, judged) (ap (λ (m : ℕ). says m false []) f)
 
-  pub judge-input : (r : Refusal) → r ≡ inputFault s → (r .number ≡ 0 → ⊥) → said (Refused r) ≡ judged p s
+  pub judge-input : (r : Refusal) → r ≡ completeFault s → (r .number ≡ 0 → ⊥) → said (Refused r) ≡ judged p s
   unfolding judgeFault
   judge-input r e k =
-      refused-is r (e ∙ sym (orElse-fault (inputFault s) _ (λ z. k (ap (λ (x : Refusal). x .number) e ∙ z)))) k
+      refused-is r (e ∙ sym (orElse-fault (completeFault s) _ (λ z. k (ap (λ (x : Refusal). x .number) e ∙ z)))) k
 
-  module _ (r : Refusal) (e : r ≡ inputFault s) (k : r .number ≡ 0) where
-    none : inputFault s .number ≡ 0
+  module _ (r : Refusal) (e : r ≡ completeFault s) (k : r .number ≡ 0) where
+    none : completeFault s .number ≡ 0
     none = ap (λ (x : Refusal). x .number) (sym e) ∙ k
 
     pub judge-table : hasTable p ≡ false → said (Refused (refuse 40)) ≡ judged p s
     unfolding judgeFault
     judge-table t =
-        refused-is (refuse 40) (sym (orElse-none (inputFault s) _ none ∙ if-yes _ _ _ (not-yes _ t))) (λ z. absurd (omega arith))
+        refused-is (refuse 40) (sym (orElse-none (completeFault s) _ none ∙ if-yes _ _ _ (not-yes _ t))) (λ z. absurd (omega arith))
 
     pub judge-lowest : (x : Said) → hasTable p ≡ true → x ≡ lowest p (descs s) → x ≡ judged p s
     unfolding judged judgeFault
     judge-lowest x t l =
         let g : judgeFault p s .number ≡ 0 =
-        ap (λ (x : Refusal). x .number) (orElse-none (inputFault s) _ none ∙ if-no _ _ _ (not-no _ t)) in
+        ap (λ (x : Refusal). x .number) (orElse-none (completeFault s) _ none ∙ if-no _ _ _ (not-no _ t)) in
         l ∙ sym (rw (g, judged))
 
 -- a judgement is known by what it says

@@ -12,7 +12,7 @@ use Rattle.base.proofs.Lists.{all-map}
 use Rattle.text.specs.Drive.{Desc}
 use Rattle.checks.specs.declared.required.Need.{Need}
 use Rattle.checks.specs.Pick.{pick, some}
-use Rattle.checks.specs.Input.{descs}
+use Rattle.reading.specs.Places.{descs}
 use Rattle.checks.specs.Required.{required, lacks}
 use Rattle.checks.specs.Judge.{Said, says, lowest, judgeFault, judged}
 use Rattle.checks.proofs.Bools.{and-true, true-and, false-and}

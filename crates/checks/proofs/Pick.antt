@@ -1,7 +1,7 @@
 -- A loop that looks for the first element of a list that passes a test. Assumes nothing.
 use mathlib.Core.Path.{_≡_, refl, sym, ap, _∙_}
 use mathlib.Core.Bool.{Bool, true, false}
-use mathlib.Core.List.{List, [], _∷_}
+use mathlib.Core.List.{List, [], _∷_, map}
 use Prim.Native.Nat.{ℕ, zero, suc, _+_, _≤_, _<_}
 use native.Mathlib.Numerals.{add-one}
 use native.Mathlib.Omega.{arith}
@@ -45,8 +45,8 @@ module _ {A B : Type 0} (test : A → Bool) (found : A → B) (none : B) where
     unfolding pick
     pick-none i e h = sym (e ∙ ap (pick test found none) (drop-of-length-le t h))
 
--- within a list the default does not matter
-pub getD-any : {A : Type 0} (t : List A) (i : ℕ) (d e : A) → i < length t → getD t i d ≡ getD t i e
-getD-any [] i d e h = absurd (omega arith)
-getD-any (x ∷ t) zero d e h = refl
-getD-any (x ∷ t) (suc i) d e h = getD-any t i d e (omega arith)
+-- what is made of an element is an element of what is made of the list
+pub made-at : {A B : Type 0} (f : A → B) (t : List A) (i : ℕ) (d : A) (e : B) → i < length t → f (getD t i d) ≡ getD (map f t) i e
+made-at f [] i d e h = absurd (omega arith)
+made-at f (x ∷ t) zero d e h = refl
+made-at f (x ∷ t) (suc i) d e h = made-at f t i d e (omega arith)

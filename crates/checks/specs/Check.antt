@@ -3,13 +3,15 @@ use mathlib.Core.Bool.{Bool, not}
 use mathlib.Core.List.{List}
 use Prim.Native.Nat.{ℕ, zero, suc}
 use lib.Dec.{eqb}
-use Rattle.text.specs.declared.Refusal.{Refusal}
-use Rattle.text.specs.First.{refuse, accept, _if_else_}
+use Rattle.refusal.specs.declared.Refusal.{Refusal}
+use Rattle.refusal.specs.First.{refuse, accept, _if_else_}
 use Rattle.text.specs.Drive.{Desc}
 use Rattle.checks.specs.declared.Finding.{Finding}
 use Rattle.checks.specs.Pick.{pick}
 use Rattle.checks.specs.Rules.{descFault}
-use Rattle.checks.specs.Input.{inputFault, descs, reported}
+use Rattle.reading.specs.Places.{descs}
+use Rattle.reading.specs.Completed.{completeFault}
+use Rattle.checks.specs.Reported.{reported}
 
 infixr 20 _orNext_
 -- a number and a feature
@@ -33,4 +35,4 @@ checkedAll ds =
     firstFault (reported 3 ds) ds
 
 unfoldable pub checked : List ℕ → Finding
-checked s = finding (inputFault s) 0 orNext checkedAll (descs s)
+checked s = finding (completeFault s) 0 orNext checkedAll (descs s)

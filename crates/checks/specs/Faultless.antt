@@ -13,7 +13,9 @@ use Rattle.checks.specs.declared.legal.Length.{Length}
 use Rattle.checks.specs.declared.legal.Length.the-variants.{Any, Exactly, Counted}
 use Rattle.checks.specs.Legal.{rowOf}
 use Rattle.checks.specs.Rules.{byteOf, maskAt}
-use Rattle.checks.specs.Input.{inputFault, descs, reported}
+use Rattle.reading.specs.Places.{descs}
+use Rattle.reading.specs.Completed.{completeFault}
+use Rattle.checks.specs.Reported.{reported}
 
 -- a body is as long as its row says
 abbrev pub Fits : Length → List ℕ → Type 0
@@ -43,7 +45,7 @@ pub record Faultless (removable : Bool) (d : Desc) : Type 0 where
 
 -- the response is complete, features 0 and 1 are reported, and no descriptor has a fault
 pub record Passes (s : List ℕ) : Type 0 where
-  pub input : inputFault s .number ≡ 0
+  pub input : completeFault s .number ≡ 0
   pub list : reported 0 (descs s) ≡ true
   pub core : reported 1 (descs s) ≡ true
   pub each : All (Faultless (reported 3 (descs s))) (descs s)

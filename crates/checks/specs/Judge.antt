@@ -2,13 +2,14 @@
 use mathlib.Core.Bool.{Bool, true, false, not}
 use mathlib.Core.List.{List, [], _∷_}
 use Prim.Native.Nat.{ℕ, zero, suc}
-use Rattle.text.specs.declared.Refusal.{Refusal}
-use Rattle.text.specs.First.{refuse, accept, _if_else_, _orElse_}
+use Rattle.refusal.specs.declared.Refusal.{Refusal}
+use Rattle.refusal.specs.First.{refuse, accept, _if_else_, _orElse_}
 use Rattle.text.specs.Drive.{Desc}
 use Rattle.checks.specs.declared.Judgement.{Judgement}
 use Rattle.checks.specs.declared.Judgement.the-variants.{Conforms, Missing, Refused}
 use Rattle.checks.specs.Pick.{pick}
-use Rattle.checks.specs.Input.{inputFault, descs}
+use Rattle.reading.specs.Places.{descs}
+use Rattle.reading.specs.Completed.{completeFault}
 use Rattle.checks.specs.Required.{required, lacks, hasTable}
 
 -- what a judgement says: the number, whether the response conforms, and the missing feature where one is named
@@ -33,7 +34,7 @@ lowest p ds = pick (lacks p ds) (λ n. says 0 false (n .feature .0 ∷ [])) (say
 -- what refuses a judgement: the reading's numbers, 29, then 40: no table for the profile
 unfoldable pub judgeFault : (profile : ℕ) → List ℕ → Refusal
 judgeFault p s =
-    inputFault s orElse
+    completeFault s orElse
     refuse 40 if not (hasTable p) else
     accept
 

@@ -21,8 +21,15 @@ all = bits 7 0
 abbrev pub none : ℕ
 none = 0
 
-abbrev pub four : ℕ → ℕ → ℕ → ℕ → List ℕ
-four a b c d = a ∷ b ∷ c ∷ d ∷ []
+-- the masks of twelve bytes by place; of a body of four bytes; of a list of four-byte records
+abbrev pub twelve : (a b c d e f g h i j k l : ℕ) → List ℕ
+twelve a b c d e f g h i j k l = a ∷ b ∷ c ∷ d ∷ e ∷ f ∷ g ∷ h ∷ i ∷ j ∷ k ∷ l ∷ []
+
+abbrev pub four : (a b c d : ℕ) → List ℕ
+four a b c d = twelve a b c d none none none none none none none none
+
+abbrev pub fours : (a b c d : ℕ) → List ℕ
+fours a b c d = twelve a b c d a b c d a b c d
 
 abbrev pub free : Bool
 free = false
@@ -33,11 +40,11 @@ barred = true
 abbrev pub row : ℕ → Length → List ℕ → Bool → Row
 row f l m b = record { feature = record { 0 = f }; length = l; masks = m; barred = b }
 
--- feature, length, the bits that may be 1 in bytes 4 to 7 (and so in each four bytes of a longer body; of Counted only in the first four), and
+-- feature, length, the bits that may be 1 in bytes 4 to 15 (and so in each twelve bytes of a longer body; of Counted only in the first four), and
 -- whether Persistent is barred where 0003h is reported
 unfoldable pub legal : List Row
 legal =
-    row 0x0000 Any (four all all (bit 0) none) free ∷
+    row 0x0000 Any (fours all all (bit 0) none) free ∷
     row 0x0001 (Exactly 4) (four all all all all) free ∷
     row 0x0002 (Exactly 4) (four (bit 0) none none none) free ∷
     row 0x0003 (Exactly 4) (four (bits 7 5 + bits 3 2 + bit 0) none none none) free ∷
@@ -51,7 +58,7 @@ legal =
 
 -- any other feature: any length, any bits
 unfoldable pub other : Row
-other = row 0xFFFF Any (four all all all all) free
+other = row 0xFFFF Any (fours all all all all) free
 
 -- the row of a feature
 unfoldable pub rowOf : ℕ → Row

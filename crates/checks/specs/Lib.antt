@@ -1,7 +1,7 @@
 pub mod Pick
 pub mod Legal
 pub mod Rules
-pub mod Input
+pub mod Reported
 pub mod Check
 pub mod Faultless
 pub mod Required

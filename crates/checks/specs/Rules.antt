@@ -6,9 +6,9 @@ use lib.Bits.{bitAnd}
 use lib.Dec.{ltb, leb, eqb}
 use lib.ListN.{length, getD}
 use Rattle.fields.specs.Field.{field}
-use Rattle.text.specs.declared.Refusal.{Refusal}
-use Rattle.text.specs.First.{refuse, accept, _if_else_, _orElse_, firstOf}
-use Rattle.text.specs.Flags.{reserved, version, persistent, current}
+use Rattle.refusal.specs.declared.Refusal.{Refusal}
+use Rattle.refusal.specs.First.{refuse, accept, _if_else_, _orElse_, firstOf}
+use Rattle.text.specs.Flags.{persistent, current, flagsRule}
 use Rattle.text.specs.Drive.{Desc}
 use Rattle.checks.specs.declared.legal.Length.{Length}
 use Rattle.checks.specs.declared.legal.Length.the-variants.{Any, Exactly, Counted}
@@ -20,12 +20,8 @@ abbrev pub byteOf : List ℕ → ℕ → ℕ
 byteOf body k = getD body (k - 4) 0
 
 -- 33: reserved flags or Version not 0. 34: Persistent without Current
-unfoldable pub flagsRule : (flags : ℕ) → Refusal
-flagsRule flags =
-    refuse 33 if not (eqb (reserved flags) 0) else
-    refuse 33 if not (eqb (version flags) 0) else
-    refuse 34 if eqb (persistent flags) 1 && eqb (current flags) 0 else
-    accept
+unfoldable pub flagsFault : (flags : ℕ) → Refusal
+flagsFault flags = flagsRule (refuse 33) (refuse 33) (refuse 34) flags
 
 -- a body of len bytes is not as long as the row says; n is byte 7
 unfoldable pub wrongLength : Length → (n len : ℕ) → Bool
@@ -51,8 +47,8 @@ rowRule row removable number flags n len =
 
 -- the bits of body byte k that may be 1; n is byte 7
 unfoldable pub maskAt : Length → (masks : List ℕ) (n k : ℕ) → ℕ
-maskAt Any masks n k = getD masks (k % 4) none
-maskAt (Exactly l) masks n k = getD masks (k % 4) none
+maskAt Any masks n k = getD masks (k % 12) none
+maskAt (Exactly l) masks n k = getD masks (k % 12) none
 maskAt Counted masks n k = elim (ltb k 4) [ true ↦ getD masks k none | false ↦ elim (ltb k (4 + n)) [ true ↦ all | false ↦ none ] ]
 
 -- 36: a reserved body bit or pad byte not 0
@@ -83,6 +79,6 @@ bodyFault row number body =
 -- the first fault of a descriptor
 unfoldable pub descFault : (removable : Bool) → Desc → Refusal
 descFault removable d =
-    flagsRule (d .flags) orElse
+    flagsFault (d .flags) orElse
     rowRule (rowOf (d .number)) removable (d .number) (d .flags) (byteOf (d .body) 7) (length (d .body)) orElse
     bodyFault (rowOf (d .number)) (d .number) (d .body)

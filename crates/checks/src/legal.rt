@@ -12,85 +12,41 @@ pub enum Length {
     Counted,
 }
 
-// A row: the feature, its length, the bits that may be 1 in each four bytes of its body, and whether it may not be Persistent where feature
-// 0003h is reported.
+// A row: the feature, its length, the bits that may be 1 in each byte of its body by place, over again every twelve bytes (of Counted only in the
+// first four), and whether it may not be Persistent where feature 0003h is reported.
 pub struct Row {
     pub feature: Feature,
     pub length: Length,
-    pub masks: [u8; 4],
+    pub masks: [u8; 12],
     pub barred: bool,
 }
 
-// Any bit may be 1.
-const FREE: [u8; 4] = [0xFF, 0xFF, 0xFF, 0xFF];
+// A line of the table: a row's feature as a plain number, length, masks and barred.
+struct Line(u16, Length, [u8; 12], bool);
 
-const LEGAL: [Row; 11] = [
-    Row {
-        feature: Feature(0x0000),
-        length: Length::Any,
-        masks: [0xFF, 0xFF, 0x01, 0x00],
-        barred: false,
-    },
-    Row {
-        feature: Feature(0x0001),
-        length: Length::Exactly(4),
-        masks: FREE,
-        barred: false,
-    },
-    Row {
-        feature: Feature(0x0002),
-        length: Length::Exactly(4),
-        masks: [0x01, 0x00, 0x00, 0x00],
-        barred: false,
-    },
-    Row {
-        feature: Feature(0x0003),
-        length: Length::Exactly(4),
-        masks: [0xED, 0x00, 0x00, 0x00],
-        barred: false,
-    },
-    Row {
-        feature: Feature(0x001F),
-        length: Length::Exactly(0),
-        masks: [0x00, 0x00, 0x00, 0x00],
-        barred: true,
-    },
-    Row {
-        feature: Feature(0x0020),
-        length: Length::Exactly(4),
-        masks: FREE,
-        barred: true,
-    },
-    Row {
-        feature: Feature(0x0021),
-        length: Length::Counted,
-        masks: [0x00, 0x00, 0x00, 0xFF],
-        barred: true,
-    },
-    Row {
-        feature: Feature(0x0026),
-        length: Length::Exactly(4),
-        masks: FREE,
-        barred: true,
-    },
-    Row {
-        feature: Feature(0x002D),
-        length: Length::Exactly(4),
-        masks: [0x07, 0x00, 0x00, 0x00],
-        barred: true,
-    },
-    Row {
-        feature: Feature(0x002E),
-        length: Length::Exactly(4),
-        masks: [0x3F, 0xFF, 0xFF, 0xFF],
-        barred: true,
-    },
-    Row {
-        feature: Feature(0x002F),
-        length: Length::Exactly(4),
-        masks: [0x04, 0x00, 0x00, 0x00],
-        barred: true,
-    },
+const ANY: Length = Length::Any;
+
+const NONE: Length = Length::Exactly(0);
+
+const FOUR: Length = Length::Exactly(4);
+
+const COUNTED: Length = Length::Counted;
+
+// Every bit may be 1.
+const F: u8 = 0xFF;
+
+const LEGAL: [Line; 11] = [
+    Line(0x0000, ANY, [F, F, 1, 0, F, F, 1, 0, F, F, 1, 0], false),
+    Line(0x0001, FOUR, [F, F, F, F, 0, 0, 0, 0, 0, 0, 0, 0], false),
+    Line(0x0002, FOUR, [1, 0, 0, 0, 0, 0, 0, 0, 0, 0, 0, 0], false),
+    Line(0x0003, FOUR, [0xED, 0, 0, 0, 0, 0, 0, 0, 0, 0, 0, 0], false),
+    Line(0x001F, NONE, [0, 0, 0, 0, 0, 0, 0, 0, 0, 0, 0, 0], true),
+    Line(0x0020, FOUR, [F, F, F, F, 0, 0, 0, 0, 0, 0, 0, 0], true),
+    Line(0x0021, COUNTED, [0, 0, 0, F, 0, 0, 0, 0, 0, 0, 0, 0], true),
+    Line(0x0026, FOUR, [F, F, F, F, 0, 0, 0, 0, 0, 0, 0, 0], true),
+    Line(0x002D, FOUR, [7, 0, 0, 0, 0, 0, 0, 0, 0, 0, 0, 0], true),
+    Line(0x002E, FOUR, [0x3F, F, F, F, 0, 0, 0, 0, 0, 0, 0, 0], true),
+    Line(0x002F, FOUR, [4, 0, 0, 0, 0, 0, 0, 0, 0, 0, 0, 0], true),
 ];
 
 // The highest feature that the table names: most features of a drive are above it and need no look at the table.
@@ -99,8 +55,8 @@ const LAST_LISTED: Feature = Feature(0x002F);
 // A feature that the table does not name.
 const OTHER: Row = Row {
     feature: Feature(0xFFFF),
-    length: Length::Any,
-    masks: FREE,
+    length: ANY,
+    masks: [F, F, F, F, F, F, F, F, F, F, F, F],
     barred: false,
 };
 
@@ -110,7 +66,15 @@ fn row_at(i: usize) -> Row
     requires { ⌜ i < length legal ⌝ }
     ensures { λ r. ⌜ r ≡ getD legal i other ⌝ }
 {
-    LEGAL[i]
+    let line = LEGAL[i];
+    let length = line.1;
+    let masks = line.2;
+    Row {
+        feature: Feature(line.0),
+        length: length,
+        masks: masks,
+        barred: line.3,
+    }
 }
 
 // The row of a feature.

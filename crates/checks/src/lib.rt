@@ -1,6 +1,7 @@
 // The driver's checks of a response to RT 0 from 0: its descriptors, and what a profile requires of it.
 ghost use mathlib.Core.Path.{_≡_};
-ghost use Rattle.checks.specs.Input.{inputFault, descs};
+ghost use Rattle.reading.specs.Places.{descs};
+ghost use Rattle.reading.specs.Completed.{completeFault};
 ghost use Rattle.checks.specs.Check.{checkedAll, checked};
 ghost use Rattle.checks.specs.Judge.{said, judged};
 
@@ -9,9 +10,9 @@ mod required;
 mod rules;
 mod walk;
 
+use refusal::Refusal;
 use text::Feature;
 use text::Profile;
-use text::Refusal;
 
 // What a check finds: the number, 0 where there is no fault, and the feature at fault.
 pub struct Finding {
@@ -26,36 +27,21 @@ pub enum Judgement {
     Refused(Refusal),
 }
 
-// Why a response is not checked: the reading refuses it, or it is cut.
-fn input_fault(s: &[u8]) -> Refusal
-    ensures { λ r. ⌜ r ≡ inputFault (now (s .entry)) ⌝ }
-{
-    let reading = reading::read(0, Feature(0), s);
-    let fault = reading.refusal;
-    if fault.number != 0 {
-        return fault;
-    }
-    if !reading.complete {
-        return text::RESPONSE_CUT;
-    }
-    text::ACCEPTED
-}
-
 // The check of the descriptors of a complete response.
 // Asks: a response that is accepted and complete, which the reading's numbers and 29 have shown before.
 fn check_all(s: &[u8]) -> Finding
-    requires { ⌜ inputFault (now s) .number ≡ 0 ⌝ }
+    requires { ⌜ completeFault (now s) .number ≡ 0 ⌝ }
     ensures { λ r. ⌜ r ≡ checkedAll (descs (now (s .entry))) ⌝ }
 {
     if !walk::reports(Feature(0), s) {
         return Finding {
-            refusal: text::CORE_MISSING,
+            refusal: refusal::CORE_MISSING,
             feature: Feature(0),
         };
     }
     if !walk::reports(Feature(1), s) {
         return Finding {
-            refusal: text::CORE_MISSING,
+            refusal: refusal::CORE_MISSING,
             feature: Feature(1),
         };
     }
@@ -66,7 +52,8 @@ fn check_all(s: &[u8]) -> Finding
 pub fn check_descriptors(s: &[u8]) -> Finding
     ensures { λ r. ⌜ r ≡ checked (now (s .entry)) ⌝ }
 {
-    let fault = input_fault(s);
+    let reading = reading::complete(s);
+    let fault = reading.refusal;
     if fault.number != 0 {
         return Finding {
             refusal: fault,
@@ -80,12 +67,13 @@ pub fn check_descriptors(s: &[u8]) -> Finding
 pub fn check_profile(profile: Profile, s: &[u8]) -> Judgement
     ensures { λ r. ⌜ said r ≡ judged (profile .0) (now (s .entry)) ⌝ }
 {
-    let fault = input_fault(s);
+    let reading = reading::complete(s);
+    let fault = reading.refusal;
     if fault.number != 0 {
         return Judgement::Refused(fault);
     }
     if !required::has_table(profile) {
-        return Judgement::Refused(text::NO_TABLE);
+        return Judgement::Refused(refusal::NO_TABLE);
     }
     required::lowest_missing(profile, s)
 }

@@ -4,15 +4,15 @@ ghost use Prim.Native.Nat.{_<_};
 ghost use lib.ListN.{length, getD};
 ghost use Rattle.text.specs.Reading.{descAt};
 ghost use Rattle.checks.specs.Pick.{some};
-ghost use Rattle.checks.specs.Input.{inputFault, descs};
+ghost use Rattle.reading.specs.Places.{descs};
+ghost use Rattle.reading.specs.Completed.{completeFault};
 ghost use Rattle.checks.specs.Required.{required, line, givesRule, gives, lacks, hasTable};
 ghost use Rattle.checks.specs.Judge.{said, lowest};
 use super::Judgement;
-use super::walk;
 use text::Feature;
 use text::Profile;
 
-// A line: the profile needs the feature, with a body of at least so many bytes and with these bits set in the body byte at this place, which is
+// A need: the profile needs the feature, with a body of at least so many bytes and with these bits set in the body byte at this place, which is
 // the descriptor's byte 4 further on.
 pub struct Need {
     pub profile: Profile,
@@ -22,118 +22,31 @@ pub struct Need {
     pub mask: u8,
 }
 
-// Logical units not conforming to a standard profile.
-const NON_STANDARD: Profile = Profile(0xFFFF);
+// A line of the table: a need's profile, feature, least, place and mask as plain numbers.
+struct Line(u16, u16, u8, u8, u8);
 
-const DVD_RAM: Profile = Profile(0x0012);
+// Logical units not conforming to a standard profile.
+const NON_STANDARD: u16 = 0xFFFF;
+
+const DVD_RAM: u16 = 0x0012;
 
 // The lines of a profile ascend. Of 0010h the Page Present bit, bit 0 of byte 10, is asked for.
-const REQUIRED: [Need; 15] = [
-    Need {
-        profile: NON_STANDARD,
-        feature: Feature(0x0000),
-        least: 0,
-        place: 0,
-        mask: 0x00,
-    },
-    Need {
-        profile: NON_STANDARD,
-        feature: Feature(0x0001),
-        least: 0,
-        place: 0,
-        mask: 0x00,
-    },
-    Need {
-        profile: DVD_RAM,
-        feature: Feature(0x0000),
-        least: 0,
-        place: 0,
-        mask: 0x00,
-    },
-    Need {
-        profile: DVD_RAM,
-        feature: Feature(0x0001),
-        least: 0,
-        place: 0,
-        mask: 0x00,
-    },
-    Need {
-        profile: DVD_RAM,
-        feature: Feature(0x0002),
-        least: 0,
-        place: 0,
-        mask: 0x00,
-    },
-    Need {
-        profile: DVD_RAM,
-        feature: Feature(0x0003),
-        least: 0,
-        place: 0,
-        mask: 0x00,
-    },
-    Need {
-        profile: DVD_RAM,
-        feature: Feature(0x0010),
-        least: 8,
-        place: 6,
-        mask: 0x01,
-    },
-    Need {
-        profile: DVD_RAM,
-        feature: Feature(0x001F),
-        least: 0,
-        place: 0,
-        mask: 0x00,
-    },
-    Need {
-        profile: DVD_RAM,
-        feature: Feature(0x0020),
-        least: 0,
-        place: 0,
-        mask: 0x00,
-    },
-    Need {
-        profile: DVD_RAM,
-        feature: Feature(0x0023),
-        least: 0,
-        place: 0,
-        mask: 0x00,
-    },
-    Need {
-        profile: DVD_RAM,
-        feature: Feature(0x0024),
-        least: 0,
-        place: 0,
-        mask: 0x00,
-    },
-    Need {
-        profile: DVD_RAM,
-        feature: Feature(0x0100),
-        least: 0,
-        place: 0,
-        mask: 0x00,
-    },
-    Need {
-        profile: DVD_RAM,
-        feature: Feature(0x0101),
-        least: 0,
-        place: 0,
-        mask: 0x00,
-    },
-    Need {
-        profile: DVD_RAM,
-        feature: Feature(0x0105),
-        least: 0,
-        place: 0,
-        mask: 0x00,
-    },
-    Need {
-        profile: DVD_RAM,
-        feature: Feature(0x0107),
-        least: 0,
-        place: 0,
-        mask: 0x00,
-    },
+const REQUIRED: [Line; 15] = [
+    Line(NON_STANDARD, 0x0000, 0, 0, 0),
+    Line(NON_STANDARD, 0x0001, 0, 0, 0),
+    Line(DVD_RAM, 0x0000, 0, 0, 0),
+    Line(DVD_RAM, 0x0001, 0, 0, 0),
+    Line(DVD_RAM, 0x0002, 0, 0, 0),
+    Line(DVD_RAM, 0x0003, 0, 0, 0),
+    Line(DVD_RAM, 0x0010, 8, 6, 0x01),
+    Line(DVD_RAM, 0x001F, 0, 0, 0),
+    Line(DVD_RAM, 0x0020, 0, 0, 0),
+    Line(DVD_RAM, 0x0023, 0, 0, 0),
+    Line(DVD_RAM, 0x0024, 0, 0, 0),
+    Line(DVD_RAM, 0x0100, 0, 0, 0),
+    Line(DVD_RAM, 0x0101, 0, 0, 0),
+    Line(DVD_RAM, 0x0105, 0, 0, 0),
+    Line(DVD_RAM, 0x0107, 0, 0, 0),
 ];
 
 // Line i.
@@ -142,7 +55,14 @@ fn need_at(i: usize) -> Need
     requires { ⌜ i < length required ⌝ }
     ensures { λ r. ⌜ r ≡ getD required i (line 0 0) ⌝ }
 {
-    REQUIRED[i]
+    let line = REQUIRED[i];
+    Need {
+        profile: Profile(line.0),
+        feature: Feature(line.1),
+        least: line.2,
+        place: line.3,
+        mask: line.4,
+    }
 }
 
 // Whether there is a table for the profile.
@@ -172,23 +92,21 @@ fn gives_rule(need: Need, len: usize, byte: u8) -> bool
 }
 
 // Whether the descriptor at a place is what a line asks for.
-// Asks: a place inside the response; the walk stops at its end.
 fn gives_at(need: Need, s: &[u8], at: usize) -> bool
-    requires { ⌜ at < length (now s) ⌝ }
     ensures { λ r. ⌜ r ≡ gives need (descAt (now (s .entry)) at) ⌝ }
 {
-    let number = Feature(fields::get2(s, at));
+    let number = reading::number_at(s, at);
     if number.0 != need.feature.0 {
         return false;
     }
-    let body = walk::body_at(s, at);
+    let body = reading::body_at(s, at);
     gives_rule(need, body.len(), fields::byte(body, need.place as usize))
 }
 
 // Whether some descriptor is what a line asks for.
 // Asks: a response that is accepted and complete, which the reading's numbers and 29 have shown before.
 fn given_in(need: Need, s: &[u8]) -> bool
-    requires { ⌜ inputFault (now s) .number ≡ 0 ⌝ }
+    requires { ⌜ completeFault (now s) .number ≡ 0 ⌝ }
     ensures { λ r. ⌜ r ≡ some (gives need) (descs (now (s .entry))) ⌝ }
 {
     let mut at = 8;
@@ -196,7 +114,7 @@ fn given_in(need: Need, s: &[u8]) -> bool
         if gives_at(need, s, at) {
             return true;
         }
-        at = walk::next_at(s, at);
+        at = reading::next_at(s, at);
     }
     false
 }
@@ -204,7 +122,7 @@ fn given_in(need: Need, s: &[u8]) -> bool
 // Whether a line is the profile's and no descriptor is what it asks for.
 // Asks: a response that is accepted and complete, which the reading's numbers and 29 have shown before.
 fn lacking(profile: Profile, s: &[u8], need: Need) -> bool
-    requires { ⌜ inputFault (now s) .number ≡ 0 ⌝ }
+    requires { ⌜ completeFault (now s) .number ≡ 0 ⌝ }
     ensures { λ r. ⌜ r ≡ lacks (profile .0) (descs (now (s .entry))) need ⌝ }
 {
     if need.profile.0 != profile.0 {
@@ -216,7 +134,7 @@ fn lacking(profile: Profile, s: &[u8], need: Need) -> bool
 // The lowest feature that a complete response lacks of a profile.
 // Asks: a response that is accepted and complete, which the reading's numbers and 29 have shown before.
 pub fn lowest_missing(profile: Profile, s: &[u8]) -> Judgement
-    requires { ⌜ inputFault (now s) .number ≡ 0 ⌝ }
+    requires { ⌜ completeFault (now s) .number ≡ 0 ⌝ }
     ensures { λ r. ⌜ said r ≡ lowest (profile .0) (descs (now (s .entry))) ⌝ }
 {
     let mut i = 0;

@@ -3,39 +3,32 @@ ghost use mathlib.Core.Path.{_≡_};
 ghost use Prim.Native.Nat.{_/_, _<_};
 ghost use lib.ListN.{length, getD};
 ghost use Rattle.fields.specs.Field.{field};
-ghost use Rattle.text.specs.First.{firstOf};
+ghost use Rattle.refusal.specs.First.{firstOf};
 ghost use Rattle.text.specs.Reading.{descAt};
-ghost use Rattle.checks.specs.Rules.{flagsRule, wrongLength, flagsShort, flagsBarred, rowRule, maskAt, reservedRule, reservedAt, cueRule, profileAt, profilesFault, bodyFault, descFault};
-ghost use Rattle.checks.specs.Input.{inputFault, descs};
+ghost use Rattle.checks.specs.Rules.{flagsFault, wrongLength, flagsShort, flagsBarred, rowRule, maskAt, reservedRule, reservedAt, cueRule, profileAt, profilesFault, bodyFault, descFault};
+ghost use Rattle.reading.specs.Places.{descs};
+ghost use Rattle.reading.specs.Completed.{completeFault};
 ghost use Rattle.checks.specs.Check.{firstFault};
 use super::Finding;
 use super::legal;
 use super::legal::Length;
 use super::legal::Row;
-use super::walk;
+use refusal::Refusal;
 use text::Feature;
+use text::Flags;
 use text::Profile;
-use text::Refusal;
 
 // ---- the rules, on numbers
 
 // 33 and 34: the flags alone.
-fn flags_rule(flags: u8) -> Refusal
-    ensures { λ r. ⌜ r ≡ flagsRule flags ⌝ }
+fn flags_fault(flags: Flags) -> Refusal
+    ensures { λ r. ⌜ r ≡ flagsFault (flags .0) ⌝ }
 {
-    if flags / 64 != 0 {
-        return text::FLAGS_RESERVED;
-    }
-    if flags / 4 % 16 != 0 {
-        return text::FLAGS_RESERVED;
-    }
-    if flags / 2 % 2 != 1 {
-        return text::ACCEPTED;
-    }
-    if flags % 2 == 0 {
-        return text::PERSISTENT_ALONE;
-    }
-    text::ACCEPTED
+    flags.fault(
+        refusal::FLAGS_RESERVED,
+        refusal::FLAGS_RESERVED,
+        refusal::PERSISTENT_ALONE,
+    )
 }
 
 // Whether a body of len bytes is not as long as its row says; n is byte 7.
@@ -55,21 +48,21 @@ fn wrong_length(wanted: Length, n: u8, len: usize) -> bool
 }
 
 // Whether a feature up to 0003h lacks one of its flags.
-fn flags_short(f: Feature, flags: u8) -> bool
-    ensures { λ r. ⌜ r ≡ flagsShort (f .0) flags ⌝ }
+fn flags_short(f: Feature, flags: Flags) -> bool
+    ensures { λ r. ⌜ r ≡ flagsShort (f .0) (flags .0) ⌝ }
 {
     if 0x0003 < f.0 {
         return false;
     }
-    if flags / 2 % 2 != 1 {
+    if !flags.persistent() {
         return true;
     }
-    flags % 2 != 1
+    !flags.current()
 }
 
 // Whether Persistent is set where the row and a removable medium bar it.
-fn flags_barred(barred: bool, removable: bool, flags: u8) -> bool
-    ensures { λ r. ⌜ r ≡ flagsBarred barred removable flags ⌝ }
+fn flags_barred(barred: bool, removable: bool, flags: Flags) -> bool
+    ensures { λ r. ⌜ r ≡ flagsBarred barred removable (flags .0) ⌝ }
 {
     if !barred {
         return false;
@@ -77,24 +70,24 @@ fn flags_barred(barred: bool, removable: bool, flags: u8) -> bool
     if !removable {
         return false;
     }
-    flags / 2 % 2 == 1
+    flags.persistent()
 }
 
 // 31, 32 and 35: what a row says of length and flags.
-fn row_rule(row: Row, removable: bool, f: Feature, flags: u8, n: u8, len: usize) -> Refusal
-    ensures { λ r. ⌜ r ≡ rowRule row removable (f .0) flags n len ⌝ }
+fn row_rule(row: Row, removable: bool, f: Feature, flags: Flags, n: u8, len: usize) -> Refusal
+    ensures { λ r. ⌜ r ≡ rowRule row removable (f .0) (flags .0) n len ⌝ }
 {
     let length = row.length;
     if wrong_length(length, n, len) {
-        return text::BODY_LENGTH_BAD;
+        return refusal::BODY_LENGTH_BAD;
     }
     if flags_short(f, flags) {
-        return text::FLAGS_NOT_BOTH;
+        return refusal::FLAGS_NOT_BOTH;
     }
     if flags_barred(row.barred, removable, flags) {
-        return text::PERSISTENT_BARRED;
+        return refusal::PERSISTENT_BARRED;
     }
-    text::ACCEPTED
+    refusal::ACCEPTED
 }
 
 // The bits of body byte k that may be 1; n is byte 7.
@@ -103,8 +96,8 @@ fn mask_at(row: Row, n: u8, k: usize) -> u8
 {
     let length = row.length;
     match length {
-        Length::Any => row.masks[k % 4],
-        Length::Exactly(_) => row.masks[k % 4],
+        Length::Any => row.masks[k % 12],
+        Length::Exactly(_) => row.masks[k % 12],
         Length::Counted => {
             if k < 4 {
                 return row.masks[k];
@@ -123,9 +116,9 @@ fn reserved_rule(byte: u8, mask: u8) -> Refusal
 {
     let kept = byte & mask;
     if kept != byte {
-        return text::BITS_RESERVED;
+        return refusal::BITS_RESERVED;
     }
-    text::ACCEPTED
+    refusal::ACCEPTED
 }
 
 // 37: a cue sheet length without SAO.
@@ -133,15 +126,15 @@ fn cue_rule(f: Feature, byte4: u8, cue: u32) -> Refusal
     ensures { λ r. ⌜ r ≡ cueRule (f .0) byte4 cue ⌝ }
 {
     if f.0 != 0x002E {
-        return text::ACCEPTED;
+        return refusal::ACCEPTED;
     }
     if byte4 / 32 % 2 != 0 {
-        return text::ACCEPTED;
+        return refusal::ACCEPTED;
     }
     if cue != 0 {
-        return text::CUE_LENGTH;
+        return refusal::CUE_LENGTH;
     }
-    text::ACCEPTED
+    refusal::ACCEPTED
 }
 
 // ---- the rules, over a body
@@ -166,7 +159,7 @@ fn reserved_fault(row: Row, body: &[u8]) -> Refusal
         }
         k += 1;
     }
-    text::ACCEPTED
+    refusal::ACCEPTED
 }
 
 // 39 at profile i.
@@ -177,9 +170,9 @@ fn profile_at(body: &[u8], i: usize) -> Refusal
 {
     let number = Profile(fields::get2(body, 4 * i));
     if number.0 == 0 {
-        return text::PROFILE_ZERO;
+        return refusal::PROFILE_ZERO;
     }
-    text::ACCEPTED
+    refusal::ACCEPTED
 }
 
 // 39 anywhere in the profile list.
@@ -187,7 +180,7 @@ fn profiles_fault(f: Feature, body: &[u8]) -> Refusal
     ensures { λ r. ⌜ r ≡ profilesFault (f .0) (now (body .entry)) ⌝ }
 {
     if f.0 != 0x0000 {
-        return text::ACCEPTED;
+        return refusal::ACCEPTED;
     }
     let n = body.len() / 4;
     let mut i = 0;
@@ -198,7 +191,7 @@ fn profiles_fault(f: Feature, body: &[u8]) -> Refusal
         }
         i += 1;
     }
-    text::ACCEPTED
+    refusal::ACCEPTED
 }
 
 // 37 of a body.
@@ -226,10 +219,10 @@ fn body_fault(row: Row, f: Feature, body: &[u8]) -> Refusal
 // ---- the rules, at each descriptor
 
 // The first fault of a descriptor; removable says whether feature 0003h is reported.
-fn desc_fault(removable: bool, f: Feature, flags: u8, body: &[u8]) -> Refusal
-    ensures { λ r. ⌜ r ≡ descFault removable (record { number = f .0; flags = flags; body = now (body .entry) }) ⌝ }
+fn desc_fault(removable: bool, f: Feature, flags: Flags, body: &[u8]) -> Refusal
+    ensures { λ r. ⌜ r ≡ descFault removable (record { number = f .0; flags = flags .0; body = now (body .entry) }) ⌝ }
 {
-    let fault = flags_rule(flags);
+    let fault = flags_fault(flags);
     if fault.number != 0 {
         return fault;
     }
@@ -242,19 +235,18 @@ fn desc_fault(removable: bool, f: Feature, flags: u8, body: &[u8]) -> Refusal
 }
 
 // The first fault of the descriptor at a place.
-// Asks: a place inside the response; the walk stops at its end.
 fn fault_at(removable: bool, s: &[u8], at: usize) -> Refusal
-    requires { ⌜ at < length (now s) ⌝ }
     ensures { λ r. ⌜ r ≡ descFault removable (descAt (now (s .entry)) at) ⌝ }
 {
-    let f = Feature(fields::get2(s, at));
-    desc_fault(removable, f, fields::byte(s, at + 2), walk::body_at(s, at))
+    let f = reading::number_at(s, at);
+    let flags = Flags(reading::flags_at(s, at));
+    desc_fault(removable, f, flags, reading::body_at(s, at))
 }
 
 // The first descriptor of a complete response that has a fault.
 // Asks: a response that is accepted and complete, which the reading's numbers and 29 have shown before.
 pub fn first_fault(removable: bool, s: &[u8]) -> Finding
-    requires { ⌜ inputFault (now s) .number ≡ 0 ⌝ }
+    requires { ⌜ completeFault (now s) .number ≡ 0 ⌝ }
     ensures { λ r. ⌜ r ≡ firstFault removable (descs (now (s .entry))) ⌝ }
 {
     let mut at = 8;
@@ -263,13 +255,13 @@ pub fn first_fault(removable: bool, s: &[u8]) -> Finding
         if fault.number != 0 {
             return Finding {
                 refusal: fault,
-                feature: Feature(fields::get2(s, at)),
+                feature: reading::number_at(s, at),
             };
         }
-        at = walk::next_at(s, at);
+        at = reading::next_at(s, at);
     }
     Finding {
-        refusal: text::ACCEPTED,
+        refusal: refusal::ACCEPTED,
         feature: Feature(0),
     }
 }

@@ -14,27 +14,32 @@ use Rattle.base.specs.Lists.{flat, All, Bytes}
 use Rattle.base.proofs.Lists.{all-map, all-getD, drop-flat}
 use Rattle.fields.specs.Field.{field, spell}
 use Rattle.fields.proofs.Laws.{field-here}
-use Rattle.text.specs.declared.Refusal.{Refusal}
-use Rattle.text.specs.First.{refuse, accept, _if_else_, _orElse_, firstOf}
+use Rattle.refusal.specs.declared.Refusal.{Refusal}
+use Rattle.refusal.specs.First.{refuse, accept, _if_else_, pickZero, _orElse_, firstOf}
+use Rattle.text.specs.Flags.{flagsRule}
 use Rattle.text.specs.Drive.{Desc, Listed, Drive, Sound, bit, profileBytes}
 use Rattle.text.specs.Response.{feature0, all, selected, full, sent}
-use Rattle.text.proofs.First.{orElse-none, orElse-fault, if-zero, first-accept}
+use Rattle.refusal.proofs.First.{orElse-none, orElse-fault, if-zero, first-accept}
+use Rattle.text.proofs.FlagsRule.{flags-good, flags-accept}
 use Rattle.text.proofs.Profiles.{length-profiles}
 use Rattle.text.proofs.Selection.{asc-above, all-asc, from-all}
 use Rattle.text.proofs.Sizes.{length-full}
 use Rattle.text.proofs.Packing.{length-flat-bytes, whole-every}
 use Rattle.text.proofs.Sent.{sent-whole}
 use Rattle.text.proofs.Own.{readFault-sent, wholes-sent, complete-sent}
+use Rattle.profiles.specs.Profiles.{Distinct}
 use Rattle.sheet.specs.Check as sheet
-use Rattle.sheet.specs.Meaning.{meaning, Distinct, Fine}
+use Rattle.sheet.specs.Meaning.{meaning, Fine}
 use Rattle.sheet.proofs.Meaning.{meaning-fine}
 use Rattle.checks.specs.declared.Finding.{Finding}
 use Rattle.checks.specs.declared.legal.Row.{Row}
 use Rattle.checks.specs.declared.required.Need.{Need}
 use Rattle.checks.specs.Legal.{rowOf}
 use Rattle.checks.specs.Pick.{pick}
-use Rattle.checks.specs.Rules.{byteOf, flagsRule, rowRule, reservedRule, reservedAt, cueRule, profileAt, profilesFault, bodyFault, descFault}
-use Rattle.checks.specs.Input.{inputFault, descs, reported}
+use Rattle.checks.specs.Rules.{byteOf, flagsFault, rowRule, reservedRule, reservedAt, cueRule, profileAt, profilesFault, bodyFault, descFault}
+use Rattle.reading.specs.Places.{descs}
+use Rattle.reading.specs.Completed.{completeFault}
+use Rattle.checks.specs.Reported.{reported}
 use Rattle.checks.specs.Check.{finding, _orNext_, firstFault, checkedAll, checked}
 use Rattle.checks.specs.Faultless.{Passes}
 use Rattle.checks.specs.Required.{required, lacks}
@@ -106,7 +111,7 @@ cue-of number byte4 cue = if-of _ _ _ (inr (inr (inr (inr (inr (inr refl)))))) n
 
 -- what a drive's descriptor gives to the check
 record Own (d : Desc) : Type 0 where
-  flagged : flagsRule (d .flags) ≡ accept
+  flagged : flagsFault (d .flags) ≡ accept
   numbered : profilesFault (d .number) (d .body) ≡ accept
 
 module _ (removable : Bool) (d : Desc) (o : Own d) where
@@ -133,13 +138,11 @@ all-of ds a =
 -- ---- every descriptor of a drive is such a one
 
 -- the sheet's rule 5 tests what 33 and 34 test
-flags-own : (f : ℕ) → sheet.flagsRule f .number ≡ 0 → flagsRule f ≡ accept
-unfolding flagsRule sheet.flagsRule
+flags-own : (f : ℕ) → sheet.flagsRule f .number ≡ 0 → flagsFault f ≡ accept
+unfolding flagsFault sheet.flagsRule
 flags-own f e =
-    let a = if-zero _ _ _ e in
-    let b = if-zero _ _ _ (a .1) in
-    let c = if-zero _ _ _ (b .1) in
-    if-no _ _ _ (a .0) ∙ if-no _ _ _ (b .0) ∙ if-no _ _ _ (c .0)
+    flags-accept (refuse 33) (refuse 33) (refuse 34) f
+    (flags-good (refuse 5) (refuse 5) (refuse 5) f (λ z. absurd (omega arith)) (λ z. absurd (omega arith)) (λ z. absurd (omega arith)) e)
 
 feature-own : (d : Desc) → 1 ≤ d .number → sheet.flagsRule (d .flags) .number ≡ 0 → Own d
 unfolding profilesFault
@@ -172,7 +175,7 @@ module _ (ps : List Listed) (above : All (λ (p : Listed). 0 < p .number) ps) (l
       rw (field-here (flat profileBytes ps) (4 * i) 2 (p .number) ((bit (p .on) ∷ 0 ∷ []) ++ x) e v) u
 
   zero-own : Own (feature0 ps)
-  unfolding feature0 profilesFault profileAt flagsRule _if_else_
+  unfolding feature0 profilesFault profileAt flagsFault flagsRule _if_else_ pickZero _orElse_
   zero-own = record {
     flagged = refl;
     numbered =
@@ -195,8 +198,8 @@ module _ {m : Drive} (good : Sound m) (h : length (full 0 0 m) ≤ 65534) where
   sent-full : sent 0 0 65534 m ≡ full 0 0 m
   sent-full = sent-whole 0 0 65534 m h h
 
-  input-own : inputFault (full 0 0 m) ≡ accept
-  unfolding inputFault
+  input-own : completeFault (full 0 0 m) ≡ accept
+  unfolding completeFault
   input-own =
       rw (← sent-full)
       (orElse-none _ _ (ap (λ (r : Refusal). r .number) (readFault-sent good 0 0 65534 (omega arith) 65534 (omega arith) (omega arith)))
@@ -230,7 +233,7 @@ own-findings s b ok h =
 -- where no rule is broken.
 pub record Finds (s : List ℕ) (f : Finding) : Type 0 where
   pub exact : f ≡ checked s
-  pub refuses : (inputFault s .number ≡ 0 → ⊥) → f ≡ finding (inputFault s) 0
+  pub refuses : (completeFault s .number ≡ 0 → ⊥) → f ≡ finding (completeFault s) 0
   pub sound : f .refusal .number ≡ 0 → Passes s
   pub complete : Passes s → f ≡ finding accept 0
   pub own : (t : List ℕ) → Bytes t → sheet.Accepted t → length (full 0 0 (meaning t)) ≤ 65534 → s ≡ full 0 0 (meaning t) → Findings (f .refusal .number)
@@ -239,7 +242,7 @@ pub finds : (s : List ℕ) → Finds s (checked s)
 unfolding checked
 finds s = record {
   exact = refl;
-  refuses = next-fault (finding (inputFault s) 0) (checkedAll (descs s));
+  refuses = next-fault (finding (completeFault s) 0) (checkedAll (descs s));
   sound = passes-of s;
   complete = of-passes s;
   own = λ t b ok l e. rw e (own-findings t b ok l);

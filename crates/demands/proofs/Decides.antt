@@ -10,12 +10,14 @@ use Rattle.lent.proofs.Decides as lent-decides
 use Rattle.text.proofs.Decides as text-decides
 use Rattle.sheet.proofs.Decides as sheet-decides
 use Rattle.reading.proofs.Decides as reading-decides
-use Rattle.responder.specs.Answer.{Outcome}
+use Rattle.lent.specs.Maker.{Outcome}
 use Rattle.fields.proofs.byte as byte
 use Rattle.fields.proofs.get2 as get2
 use Rattle.fields.proofs.get3 as get3
 use Rattle.fields.proofs.get4 as get4
 use Rattle.fields.proofs.part as part
+use Rattle.lent.proofs.Made.refused as made-refused
+use Rattle.lent.proofs.Made.written as made-written
 use Rattle.lent.proofs.put as put
 use Rattle.lent.proofs.put2 as put2
 use Rattle.lent.proofs.put4 as put4
@@ -23,9 +25,16 @@ use Rattle.lent.proofs.copy as copy
 use Rattle.lent.proofs.note as note
 use Rattle.lent.proofs.clear as clear
 use Rattle.lent.proofs.clear_list as clear-list
+use Rattle.text.proofs.Flags.reserved as flags-reserved
+use Rattle.text.proofs.Flags.version as flags-version
+use Rattle.text.proofs.Flags.persistent as flags-persistent
+use Rattle.text.proofs.Flags.current as flags-current
+use Rattle.text.proofs.Flags.fault as flags-fault
 use Rattle.text.proofs.Command.fault as command-fault
 use Rattle.text.proofs.Command.read as command-read
 use Rattle.text.proofs.Header.new as header-new
+use Rattle.profiles.proofs.fault as profiles-fault
+use Rattle.profiles.proofs.current as profiles-current
 use Rattle.layout.proofs.feature_count as feature-count
 use Rattle.layout.proofs.profile_count as profile-count
 use Rattle.layout.proofs.bodies_at as bodies-at
@@ -33,19 +42,23 @@ use Rattle.layout.proofs.feature_at as feature-at
 use Rattle.layout.proofs.flags_at as flags-at
 use Rattle.layout.proofs.length_at as length-at
 use Rattle.layout.proofs.offset_at as offset-at
-use Rattle.layout.proofs.profile_at as profile-at
-use Rattle.layout.proofs.current_at as current-at
-use Rattle.layout.proofs.last_at as last-at
+use Rattle.layout.proofs.put_entry as put-entry
 use Rattle.layout.proofs.profiles_part as profiles-part
 use Rattle.sheet.proofs.end_before as end-before
-use Rattle.sheet.proofs.profile_rule as profile-rule
 use Rattle.sheet.proofs.flags_rule as flags-rule
+use Rattle.sheet.proofs.first_from as first-from
 use Rattle.sheet.proofs.check as check
 use Rattle.responder.proofs.send as send
 use Rattle.responder.proofs.respond_accepted as respond-accepted
 use Rattle.responder.proofs.respond as respond
+use Rattle.reading.proofs.number_at as number-at
+use Rattle.reading.proofs.flags_at as reading-flags-at
+use Rattle.reading.proofs.length_at as reading-length-at
+use Rattle.reading.proofs.next_at as next-at
+use Rattle.reading.proofs.body_at as body-at
 use Rattle.reading.proofs.scan as scan
 use Rattle.reading.proofs.read as read
+use Rattle.reading.proofs.complete as complete
 use Rattle.reading.proofs.held as held
 use Rattle.sweep.proofs.most as most
 use Rattle.listing.proofs.list as list
@@ -57,7 +70,6 @@ use Rattle.checks.proofs.Judgements.{said-injective}
 use Rattle.sweep.proofs.Sweep.start as sweep-start
 use Rattle.sweep.proofs.Sweep.take as sweep-take
 use Rattle.sweep.proofs.take_response as take-response
-use Rattle.import.specs.Import as import-specs
 use Rattle.import.proofs.import as import
 use Rattle.abi.specs.Left.{Left}
 use Rattle.abi.proofs.gcf_check_sheet as gcf-check-sheet
@@ -93,6 +105,12 @@ part-decided x = decides (x .𝓤) (λ o o′ p q. (same-part p q, refl))
 
 -- ---- lent
 
+pub made-refused-decided : Decided made-refused.ended (λ M. made-refused.clauses) (λ M. made-refused.spec)
+made-refused-decided x = decides (x .𝓤) (λ o o′ p q. (joined p q, refl))
+
+pub made-written-decided : Decided made-written.ended (λ M. made-written.clauses) (λ M. made-written.spec)
+made-written-decided x = decides (x .𝓤) (λ o o′ p q. (joined p q, refl))
+
 pub put-decided : Decided put.ended (λ M. put.clauses) (λ M. put.spec)
 put-decided x = decides (x .𝓤) (λ o o′ p q. (same p q .0, same p q .1 & refl))
 
@@ -116,6 +134,21 @@ clear-list-decided x = decides (x .𝓤) (λ o o′ p q. (refl, joined p q & ref
 
 -- ---- text
 
+pub flags-reserved-decided : Decided flags-reserved.ended (λ M. flags-reserved.clauses) (λ M. flags-reserved.spec)
+flags-reserved-decided x = decides (x .𝓤) (λ o o′ p q. (joined p q, refl))
+
+pub flags-version-decided : Decided flags-version.ended (λ M. flags-version.clauses) (λ M. flags-version.spec)
+flags-version-decided x = decides (x .𝓤) (λ o o′ p q. (joined p q, refl))
+
+pub flags-persistent-decided : Decided flags-persistent.ended (λ M. flags-persistent.clauses) (λ M. flags-persistent.spec)
+flags-persistent-decided x = decides (x .𝓤) (λ o o′ p q. (joined p q, refl))
+
+pub flags-current-decided : Decided flags-current.ended (λ M. flags-current.clauses) (λ M. flags-current.spec)
+flags-current-decided x = decides (x .𝓤) (λ o o′ p q. (joined p q, refl))
+
+pub flags-fault-decided : Decided flags-fault.ended (λ M. flags-fault.clauses) (λ M. flags-fault.spec)
+flags-fault-decided x = decides (x .𝓤) (λ o o′ p q. (joined p q, refl))
+
 pub command-fault-decided : Decided command-fault.ended (λ M. command-fault.clauses) (λ M. command-fault.spec)
 command-fault-decided x = decides (x .𝓤) (λ o o′ p q. (joined p q, refl))
 
@@ -124,6 +157,14 @@ command-read-decided x = decides (x .𝓤) (λ o o′ p q. (joined p q, refl))
 
 pub header-new-decided : Decided header-new.ended (λ M. header-new.clauses) (λ M. header-new.spec)
 header-new-decided = text-decides.new-decided
+
+-- ---- profiles
+
+pub profiles-fault-decided : Decided profiles-fault.ended (λ M. profiles-fault.clauses) (λ M. profiles-fault.spec)
+profiles-fault-decided x = decides (x .𝓤) (λ o o′ p q. (joined p q, refl))
+
+pub profiles-current-decided : Decided profiles-current.ended (λ M. profiles-current.clauses) (λ M. profiles-current.spec)
+profiles-current-decided x = decides (x .𝓤) (λ o o′ p q. ((λ i. record { 0 = joined p q i }), refl))
 
 -- ---- layout
 
@@ -145,25 +186,16 @@ length-at-decided x = decides (x .𝓤) (λ o o′ p q. (joined p q, refl))
 pub offset-at-decided : Decided offset-at.ended (λ M. offset-at.clauses) (λ M. offset-at.spec)
 offset-at-decided x = decides (x .𝓤) (λ o o′ p q. (joined p q, refl))
 
-pub current-at-decided : Decided current-at.ended (λ M. current-at.clauses) (λ M. current-at.spec)
-current-at-decided x = decides (x .𝓤) (λ o o′ p q. (joined p q, refl))
-
-pub last-at-decided : Decided last-at.ended (λ M. last-at.clauses) (λ M. last-at.spec)
-last-at-decided x = decides (x .𝓤) (λ o o′ p q. (joined p q, refl))
-
 pub feature-at-decided : Decided feature-at.ended (λ M. feature-at.clauses) (λ M. feature-at.spec)
 feature-at-decided x = decides (x .𝓤) (λ o o′ p q. ((λ i. record { 0 = joined p q i }), refl))
 
-pub profile-at-decided : Decided profile-at.ended (λ M. profile-at.clauses) (λ M. profile-at.spec)
-profile-at-decided x = decides (x .𝓤) (λ o o′ p q. ((λ i. record { 0 = joined p q i }), refl))
+pub put-entry-decided : Decided put-entry.ended (λ M. put-entry.clauses) (λ M. put-entry.spec)
+put-entry-decided x = decides (x .𝓤) (λ o o′ p q. (same p q .0, same p q .1 & refl))
 
 pub profiles-part-decided : DecidedAs profiles-part.ended (λ M. profiles-part.clauses) (λ M. profiles-part.spec) (λ κs r. seen r)
 profiles-part-decided x = decides (x .𝓤) (λ o o′ p q. (same-part p q, refl))
 
 -- ---- sheet
-
-pub profile-rule-decided : Decided profile-rule.ended (λ M. profile-rule.clauses) (λ M. profile-rule.spec)
-profile-rule-decided x = decides (x .𝓤) (λ o o′ p q. (joined p q, refl))
 
 pub flags-rule-decided : Decided flags-rule.ended (λ M. flags-rule.clauses) (λ M. flags-rule.spec)
 flags-rule-decided x = decides (x .𝓤) (λ o o′ p q. (joined p q, refl))
@@ -171,27 +203,48 @@ flags-rule-decided x = decides (x .𝓤) (λ o o′ p q. (joined p q, refl))
 pub end-before-decided : Decided end-before.ended (λ M. end-before.clauses) (λ M. end-before.spec)
 end-before-decided x = decides (x .𝓤) (λ o o′ p q. (joined p q, refl))
 
+pub first-from-decided : Decided first-from.ended (λ M. first-from.clauses) (λ M. first-from.spec)
+first-from-decided x = decides (x .𝓤) (λ o o′ p q. (joined p q, refl))
+
 pub check-decided : Decided check.ended (λ M. check.clauses) (λ M. check.spec)
 check-decided = sheet-decides.check-decided
 
 -- ---- responder
 
 pub send-decided : Decided send.ended (λ M. send.clauses) (λ M. send.spec)
-send-decided x = decides (x .𝓤) (λ o o′ p q. (ap (λ (z : Outcome). z .reply) (joined p q), refl & refl & refl & refl & ap (λ (z : Outcome). z .buffer) (joined p q) & refl))
+send-decided x = decides (x .𝓤) (λ o o′ p q. (ap (λ (z : Outcome). z .made) (joined p q), refl & refl & refl & refl & ap (λ (z : Outcome). z .buffer) (joined p q) & refl))
 
 pub respond-accepted-decided : Decided respond-accepted.ended (λ M. respond-accepted.clauses) (λ M. respond-accepted.spec)
-respond-accepted-decided x = decides (x .𝓤) (λ o o′ p q. (ap (λ (z : Outcome). z .reply) (joined p q), refl & refl & ap (λ (z : Outcome). z .buffer) (joined p q) & refl))
+respond-accepted-decided x = decides (x .𝓤) (λ o o′ p q. (ap (λ (z : Outcome). z .made) (joined p q), refl & refl & ap (λ (z : Outcome). z .buffer) (joined p q) & refl))
 
 pub respond-decided : Decided respond.ended (λ M. respond.clauses) (λ M. respond.spec)
-respond-decided x = decides (x .𝓤) (λ o o′ p q. (ap (λ (z : Outcome). z .reply) (joined p q), refl & refl & ap (λ (z : Outcome). z .buffer) (joined p q) & refl))
+respond-decided x = decides (x .𝓤) (λ o o′ p q. (ap (λ (z : Outcome). z .made) (joined p q), refl & refl & ap (λ (z : Outcome). z .buffer) (joined p q) & refl))
 
 -- ---- reading
+
+pub number-at-decided : Decided number-at.ended (λ M. number-at.clauses) (λ M. number-at.spec)
+number-at-decided x = decides (x .𝓤) (λ o o′ p q. ((λ i. record { 0 = joined p q i }), refl))
+
+pub reading-flags-at-decided : Decided reading-flags-at.ended (λ M. reading-flags-at.clauses) (λ M. reading-flags-at.spec)
+reading-flags-at-decided x = decides (x .𝓤) (λ o o′ p q. (joined p q, refl))
+
+pub reading-length-at-decided : Decided reading-length-at.ended (λ M. reading-length-at.clauses) (λ M. reading-length-at.spec)
+reading-length-at-decided x = decides (x .𝓤) (λ o o′ p q. (joined p q, refl))
+
+pub next-at-decided : Decided next-at.ended (λ M. next-at.clauses) (λ M. next-at.spec)
+next-at-decided x = decides (x .𝓤) (λ o o′ p q. (joined p q, refl))
+
+pub body-at-decided : DecidedAs body-at.ended (λ M. body-at.clauses) (λ M. body-at.spec) (λ κs r. seen r)
+body-at-decided x = decides (x .𝓤) (λ o o′ p q. (same-part p q, refl))
 
 pub scan-decided : Decided scan.ended (λ M. scan.clauses) (λ M. scan.spec)
 scan-decided x = decides (x .𝓤) (λ o o′ p q. (joined p q, refl))
 
 pub read-decided : Decided read.ended (λ M. read.clauses) (λ M. read.spec)
 read-decided = reading-decides.read-decided
+
+pub complete-decided : Decided complete.ended (λ M. complete.clauses) (λ M. complete.spec)
+complete-decided x = decides (x .𝓤) (λ o o′ p q. (joined p q, refl))
 
 pub held-decided : DecidedAs held.ended (λ M. held.clauses) (λ M. held.spec) (λ κs r. seen r)
 held-decided = reading-decides.held-decided
@@ -219,8 +272,8 @@ list-decided x = decides (x .𝓤) (λ o o′ p q. (same p q .0, refl & same p q
 
 pub bench-decided : Decided bench.ended (λ M. bench.clauses) (λ M. bench.spec)
 bench-decided x = decides (x .𝓤) (λ o o′ p q. (
-  ap (λ (z : bench-specs.Outcome). z .reply) (joined p q),
-  refl & refl & refl & ap (λ (z : bench-specs.Outcome). z .response) (joined p q) & ap (λ (z : bench-specs.Outcome). z .collected) (joined p q) & ap (λ (z : bench-specs.Outcome). z .starts) (joined p q) & refl,
+  ap (λ (z : bench-specs.Ending). z .reply) (joined p q),
+  refl & refl & refl & ap (λ (z : bench-specs.Ending). z .response) (joined p q) & ap (λ (z : bench-specs.Ending). z .collected) (joined p q) & ap (λ (z : bench-specs.Ending). z .starts) (joined p q) & refl,
 ))
 
 -- ---- checks
@@ -234,7 +287,7 @@ check-profile-decided x = decides (x .𝓤) (λ o o′ p q. (said-injective (o .
 -- ---- import
 
 pub import-decided : Decided import.ended (λ M. import.clauses) (λ M. import.spec)
-import-decided x = decides (x .𝓤) (λ o o′ p q. (ap (λ (z : import-specs.Outcome). z .answer) (joined p q), refl & ap (λ (z : import-specs.Outcome). z .buffer) (joined p q) & refl))
+import-decided x = decides (x .𝓤) (λ o o′ p q. (ap (λ (z : Outcome). z .made) (joined p q), refl & ap (λ (z : Outcome). z .buffer) (joined p q) & refl))
 
 -- ---- abi: what is left in the buffers and in the array of numbers
 

@@ -15,20 +15,20 @@ use denote.Triple.Entry.{Args}
 use Rattle.base.specs.Lists.{Bytes}
 use Rattle.base.proofs.Decided.{Call, Outcome, allowed}
 use Rattle.text.specs.declared.Reading.{Reading}
-use Rattle.text.specs.First.{accept}
+use Rattle.refusal.specs.First.{accept}
 use Rattle.text.specs.Command.{rtOf, sfnOf, allocationOf, commandFault}
-use Rattle.text.proofs.First.{if-zero}
+use Rattle.refusal.proofs.First.{if-zero}
 use Rattle.sheet.specs.Check.{verdict, Accepted}
 use Rattle.sheet.specs.Meaning.{meaning}
-use Rattle.responder.specs.Answer as box
+use Rattle.lent.specs.Maker as maker
+use Rattle.responder.specs.Answer.{due}
 use Rattle.responder.proofs.respond as respond
 use Rattle.reading.proofs.read as read
-use Rattle.import.specs.Import as import-specs
 use Rattle.import.proofs.import as import
-use Rattle.abi.specs.Left.{left, replied}
+use Rattle.abi.specs.Left.{left, showMade}
 use Rattle.abi.proofs.gcf_respond as gcf-respond
 use Rattle.base.proofs.Promise.{by, beside, both}
-use Rattle.demands.proofs.Sending.{due, Answers, demand2}
+use Rattle.demands.proofs.Sending.{Answers, demand2}
 use Rattle.demands.proofs.Readings.{ReadBack, Reads, reads}
 use Rattle.demands.proofs.Importing.{Imports, imports}
 
@@ -43,34 +43,38 @@ two c e =
     let n : rtOf c ≡ 3 → ⊥ = eqb-false (rtOf c) 3 (if-zero _ _ _ (b .1) .0) in
     omega (arith, n)
 
-module _ {s c d : List ℕ} {o : box.Outcome} (a : Answers s c d o) (z : o .reply .refusal .number ≡ 0) where
+module _ {s c d : List ℕ} {o : maker.Outcome} (a : Answers s c d o) (z : o .made .refusal .number ≡ 0) where
   -- a number that the answer would give is 0
-  none : (n : ℕ) {x : box.Outcome} → (n ≡ 0 → ⊥) → o ≡ x → x .reply .refusal .number ≡ n → ⊥
-  none n h e f = h (sym f ∙ sym (ap (λ (y : box.Outcome). y .reply .refusal .number) e) ∙ z)
+  none : (n : ℕ) {x : maker.Outcome} → (n ≡ 0 → ⊥) → o ≡ x → x .made .refusal .number ≡ n → ⊥
+  none n h e f = h (sym f ∙ sym (ap (λ (y : maker.Outcome). y .made .refusal .number) e) ∙ z)
 
   is-zero : (n : ℕ) → ((n ≡ 0 → ⊥) → ⊥) → n ≡ 0
   is-zero zero f = refl
   is-zero (suc n) f = absurd (f (λ e. omega arith))
 
   sheet-fine : Accepted s
+  unfolding maker.refusing
   sheet-fine = is-zero (verdict s .number) (λ h. none (verdict s .number) h (a .refuses-sheet h) refl)
 
   command-fine : commandFault c .number ≡ 0
+  unfolding maker.refusing
   command-fine = is-zero (commandFault c .number) (λ h. none (commandFault c .number) h (a .refuses-command sheet-fine h) refl)
 
   room : length (due s c) ≤ length d
+  unfolding maker.refusing
   room = elim (decLe (length (due s c)) (length d)) [
     | yes h ↦ h
     | no h ↦ absurd (none 12 (λ e. omega arith) (a .refuses-room sheet-fine command-fine (omega arith)) refl)
   ]
 
   -- the bytes due stand at the buffer's front
-  got : take (o .reply .count) (o .buffer) ≡ due s c
+  got : take (o .made .count) (o .buffer) ≡ due s c
+  unfolding maker.making
   got = rw (a .sends sheet-fine command-fine room) (take-append-seam (due s c) (drop (length (due s c)) d))
 
   -- so a reading of them, as the answer to that command, gives back what the sheet has
   read-back : {rt sfn : ℕ} {received : List ℕ} {r : Reading} → Reads 65534 rt sfn received r → Bytes s
-      → 8 ≤ allocationOf c → rt ≡ rtOf c → sfn ≡ sfnOf c → received ≡ take (o .reply .count) (o .buffer)
+      → 8 ≤ allocationOf c → rt ≡ rtOf c → sfn ≡ sfnOf c → received ≡ take (o .made .count) (o .buffer)
       → ReadBack (meaning s) 65534 (rtOf c) (sfnOf c) (allocationOf c) received r
   read-back {rt} {sfn} {received} {r} f b eight is-rt is-sfn there =
       let g : Reads 65534 (rtOf c) (sfnOf c) received r = rw (is-rt, is-sfn) at f in
@@ -91,13 +95,13 @@ module _ (x : Call respond.ended (λ M. respond.clauses)) (κs : Lfts (read.ende
 
 -- ---- a captured response end to end: `import` is called, then `respond` with the sheet that it left and a command of RT 0 from 0
 
-replayed : {r d s c e : List ℕ} {o : import-specs.Outcome} {p : box.Outcome} → Imports r d o → Answers s c e p → o .answer .refusal .number ≡ 0 → Bytes r
-    → s ≡ take (o .answer .count) (o .buffer) → commandFault c .number ≡ 0 → rtOf c ≡ 0 → sfnOf c ≡ 0 → length r ≤ allocationOf c → length r ≤ length e
-    → p ≡ box.outcome record { refusal = accept; count = length r } (r ++ drop (length r) e)
+replayed : {r d s c e : List ℕ} {o : maker.Outcome} {p : maker.Outcome} → Imports r d o → Answers s c e p → o .made .refusal .number ≡ 0 → Bytes r
+    → s ≡ take (o .made .count) (o .buffer) → commandFault c .number ≡ 0 → rtOf c ≡ 0 → sfnOf c ≡ 0 → length r ≤ allocationOf c → length r ≤ length e
+    → p ≡ maker.making r e
 replayed {r} {d} {s} {c} {e} i a z b there plain is-rt is-sfn enough fits =
     let x : due s c ≡ r = rw (there, is-rt, is-sfn) (i .stores b z .back (allocationOf c) enough) in
     a .sends (by Accepted (i .stores b z .accepted) there) plain (rw x fits)
-    ∙ ap (λ (xs : List ℕ). box.outcome record { refusal = accept; count = length xs } (xs ++ drop (length xs) e)) x
+    ∙ ap (λ (xs : List ℕ). maker.making xs e) x
 
 module _ (x : Call import.ended (λ M. import.clauses)) (κs : Lfts (respond.ended .signature .lifetimes)) (args : Args (respond.ended .signature) κs) where
   abbrev answer : Call respond.ended (λ M. respond.clauses)
@@ -108,8 +112,7 @@ module _ (x : Call import.ended (λ M. import.clauses)) (κs : Lfts (respond.end
       o .0 .refusal .number ≡ 0 → Bytes (x .args .0 .now) → args .0 .now ≡ take (o .0 .count) (o .1 .1 .0)
       → commandFault (args .1 .0 .now) .number ≡ 0 → rtOf (args .1 .0 .now) ≡ 0 → sfnOf (args .1 .0 .now) ≡ 0
       → length (x .args .0 .now) ≤ allocationOf (args .1 .0 .now) → length (x .args .0 .now) ≤ length (args .1 .1 .0 .now)
-      → box.outcome (p .0) (p .1 .1 .1 .0)
-      ≡ box.outcome record { refusal = accept; count = length (x .args .0 .now) } (x .args .0 .now ++ drop (length (x .args .0 .now)) (args .1 .1 .0 .now))))
+      → maker.outcome (p .0) (p .1 .1 .1 .0) ≡ maker.making (x .args .0 .now) (args .1 .1 .0 .now)))
   import-end-to-end o p = both (x .𝓤) (λ e f. replayed (by (Imports _ _) (imports _ _) e) (by (Answers _ _ _) (demand2 _ _ _) f))
 
 -- ---- `gcf_respond` leaves what `respond` answers and leaves, called with the same sheet, command and buffer
@@ -121,5 +124,5 @@ module _ (x : Call gcf-respond.ended (λ M. gcf-respond.clauses)) (κs : Lfts (r
   pub gcf-respond-same : (o : Outcome gcf-respond.ended (λ M. gcf-respond.clauses) x) (p : Outcome respond.ended (λ M. respond.clauses) direct)
       → ent (x .𝓤) (conj (x .𝓤) (allowed gcf-respond.ended (λ M. gcf-respond.clauses) x o) (allowed respond.ended (λ M. respond.clauses) direct p)) (fact (x .𝓤) (
       args .0 .now ≡ x .args .0 .now → args .1 .0 .now ≡ x .args .1 .0 .now → args .1 .1 .0 .now ≡ x .args .1 .1 .0 .now
-      → left (o .0) (o .1 .1 .1 .0) (o .1 .1 .1 .1 .0) ≡ replied (box.outcome (p .0) (p .1 .1 .1 .0)) (x .args .1 .1 .1 .0 .now)))
-  gcf-respond-same o p = both (x .𝓤) (λ e f a b c. e ∙ ap (λ (w : box.Outcome). replied w (x .args .1 .1 .1 .0 .now)) (sym (rw (← a, ← b, ← c) f)))
+      → left (o .0) (o .1 .1 .1 .0) (o .1 .1 .1 .1 .0) ≡ showMade (maker.outcome (p .0) (p .1 .1 .1 .0)) (x .args .1 .1 .1 .0 .now)))
+  gcf-respond-same o p = both (x .𝓤) (λ e f a b c. e ∙ ap (λ (w : maker.Outcome). showMade w (x .args .1 .1 .1 .0 .now)) (sym (rw (← a, ← b, ← c) f)))

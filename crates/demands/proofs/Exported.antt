@@ -6,9 +6,9 @@ use Prim.Native.Nat.{ℕ, _<_, min}
 use lib.ListN.{length, take}
 use Rattle.lent.specs.Wrote.{Wrote}
 use Rattle.lent.proofs.Laws.{room-left}
-use Rattle.text.specs.declared.Refusal.{Refusal}
+use Rattle.refusal.specs.declared.Refusal.{Refusal}
 use Rattle.sweep.specs.declared.Step.{Step}
-use Rattle.abi.specs.Left.{left, none, recordOf}
+use Rattle.abi.specs.Left.{left, noBuffer, recordOf}
 use Rattle.abi.specs.Left as abi
 use Rattle.abi.proofs.gcf_check_sheet as gcf-check-sheet
 use Rattle.abi.proofs.gcf_respond as gcf-respond
@@ -41,19 +41,19 @@ pub gcf-check-sheet-tied : Promised gcf-check-sheet.ended (λ M. gcf-check-sheet
 gcf-check-sheet-tied x = promises (x .𝓤) (λ o. shows _ (checks _))
 
 pub gcf-respond-tied : Promised gcf-respond.ended (λ M. gcf-respond.clauses) (λ M. gcf-respond.spec)
-    (λ x o. Shows (Answers (x .args .0 .now) (x .args .1 .0 .now) (x .args .1 .1 .0 .now)) (λ z. abi.replied z (x .args .1 .1 .1 .0 .now))
+    (λ x o. Shows (Answers (x .args .0 .now) (x .args .1 .0 .now) (x .args .1 .1 .0 .now)) (λ z. abi.showMade z (x .args .1 .1 .1 .0 .now))
     (left (o .0) (o .1 .1 .1 .0) (o .1 .1 .1 .1 .0)))
 gcf-respond-tied x = promises (x .𝓤) (λ o. shows _ (demand2 _ _ _))
 
 pub gcf-respond-accepted-tied : Promised gcf-respond-accepted.ended (λ M. gcf-respond-accepted.clauses) (λ M. gcf-respond-accepted.spec)
-    (λ x o. Shows (Trusts (x .args .0 .now) (x .args .1 .0 .now) (x .args .1 .1 .0 .now)) (λ z. abi.replied z (x .args .1 .1 .1 .0 .now))
+    (λ x o. Shows (Trusts (x .args .0 .now) (x .args .1 .0 .now) (x .args .1 .1 .0 .now)) (λ z. abi.showMade z (x .args .1 .1 .1 .0 .now))
     (left (o .0) (o .1 .1 .1 .0) (o .1 .1 .1 .1 .0)))
 gcf-respond-accepted-tied x = promises (x .𝓤) (λ o. shows _ (trusts _ _ _))
 
 -- ---- the driver
 
 pub gcf-read-tied : Promised gcf-read.ended (λ M. gcf-read.clauses) (λ M. gcf-read.spec)
-    (λ x o. Shows (Reads 65534 (x .args .0) (x .args .1 .0 .0) (x .args .1 .1 .0 .now)) (λ z. abi.read z (x .args .1 .1 .1 .0 .now)) (left (o .0) none (o .1 .1 .1 .1 .0)))
+    (λ x o. Shows (Reads 65534 (x .args .0) (x .args .1 .0 .0) (x .args .1 .1 .0 .now)) (λ z. abi.showRead z (x .args .1 .1 .1 .0 .now)) (left (o .0) noBuffer (o .1 .1 .1 .1 .0)))
 gcf-read-tied x = promises (x .𝓤) (λ o. shows _ (reads _ _ _ _))
 
 -- A part of which P holds stands in the buffer e, which was d, as far as there is room; where the count r is below the buffer's length, it is whole.
@@ -79,34 +79,34 @@ pub gcf-most-tied : Promised gcf-most.ended (λ M. gcf-most.clauses) (λ M. gcf-
 gcf-most-tied x = promises (x .𝓤) (λ o e. e)
 
 pub gcf-sweep-start-tied : Promised gcf-sweep-start.ended (λ M. gcf-sweep-start.clauses) (λ M. gcf-sweep-start.spec)
-    (λ x o. Shows (Starts (x .args .0) (x .args .1 .0)) (λ z. abi.stepped z none (x .args .1 .1 .0 .now)) (left (o .0) none (o .1 .1 .1 .0)))
+    (λ x o. Shows (Starts (x .args .0) (x .args .1 .0)) (λ z. abi.showStep z noBuffer (x .args .1 .1 .0 .now)) (left (o .0) noBuffer (o .1 .1 .1 .0)))
 gcf-sweep-start-tied x = promises (x .𝓤) (λ o. shows _ (starts _ _))
 
 pub gcf-sweep-take-tied : Promised gcf-sweep-take.ended (λ M. gcf-sweep-take.clauses) (λ M. gcf-sweep-take.spec)
     (λ x o. Shows {A = Step × List ℕ}
     (λ z. Takes (recordOf (x .args .0) (x .args .1 .0) (x .args .1 .1 .0) (x .args .1 .1 .1 .0) (x .args .1 .1 .1 .1 .0) (x .args .1 .1 .1 .1 .1 .0))
     (x .args .1 .1 .1 .1 .1 .1 .0 .now) (x .args .1 .1 .1 .1 .1 .1 .1 .0 .now) (z .0) (z .1))
-    (λ z. abi.stepped (z .0) (z .1) (x .args .1 .1 .1 .1 .1 .1 .1 .1 .0 .now))
+    (λ z. abi.showStep (z .0) (z .1) (x .args .1 .1 .1 .1 .1 .1 .1 .1 .0 .now))
     (left (o .0) (o .1 .1 .1 .1 .1 .1 .1 .1 .0) (o .1 .1 .1 .1 .1 .1 .1 .1 .1 .0)))
 gcf-sweep-take-tied x = promises (x .𝓤) (λ o. shows _ (takes _ _ _))
 
 pub gcf-bench-tied : Promised gcf-bench.ended (λ M. gcf-bench.clauses) (λ M. gcf-bench.spec)
     (λ x o. Shows
     (Benches (x .args .0 .now) (x .args .1 .0) (x .args .1 .1 .0) (x .args .1 .1 .1 .0 .now) (x .args .1 .1 .1 .1 .0 .now) (x .args .1 .1 .1 .1 .1 .0 .now))
-    (λ z. abi.benched z (x .args .1 .1 .1 .1 .1 .1 .0 .now))
+    (λ z. abi.showBenched z (x .args .1 .1 .1 .1 .1 .1 .0 .now))
     (left (o .0) (o .1 .1 .1 .1 .0, o .1 .1 .1 .1 .1 .0, o .1 .1 .1 .1 .1 .1 .0) (o .1 .1 .1 .1 .1 .1 .1 .0)))
 gcf-bench-tied x = promises (x .𝓤) (λ o. shows _ (benches _ _ _ _ _ _))
 
 -- ---- the checks and the import
 
 pub gcf-check-descriptors-tied : Promised gcf-check-descriptors.ended (λ M. gcf-check-descriptors.clauses) (λ M. gcf-check-descriptors.spec)
-    (λ x o. Shows (Finds (x .args .0 .now)) (λ z. abi.found z (x .args .1 .0 .now)) (left (o .0) none (o .1 .1 .0)))
+    (λ x o. Shows (Finds (x .args .0 .now)) (λ z. abi.showFinding z (x .args .1 .0 .now)) (left (o .0) noBuffer (o .1 .1 .0)))
 gcf-check-descriptors-tied x = promises (x .𝓤) (λ o. shows _ (finds _))
 
 pub gcf-check-profile-tied : Promised gcf-check-profile.ended (λ M. gcf-check-profile.clauses) (λ M. gcf-check-profile.spec)
-    (λ x o. Shows (Judges (x .args .0 .0) (x .args .1 .0 .now)) (λ z. abi.judged z (x .args .1 .1 .0 .now)) (left (o .0) none (o .1 .1 .1 .0)))
+    (λ x o. Shows (Judges (x .args .0 .0) (x .args .1 .0 .now)) (λ z. abi.showJudged z (x .args .1 .1 .0 .now)) (left (o .0) noBuffer (o .1 .1 .1 .0)))
 gcf-check-profile-tied x = promises (x .𝓤) (λ o. shows _ (judges _ _))
 
 pub gcf-import-tied : Promised gcf-import.ended (λ M. gcf-import.clauses) (λ M. gcf-import.spec)
-    (λ x o. Shows (Imports (x .args .0 .now) (x .args .1 .0 .now)) (λ z. abi.imported z (x .args .1 .1 .0 .now)) (left (o .0) (o .1 .1 .0) (o .1 .1 .1 .0)))
+    (λ x o. Shows (Imports (x .args .0 .now) (x .args .1 .0 .now)) (λ z. abi.showMade z (x .args .1 .1 .0 .now)) (left (o .0) (o .1 .1 .0) (o .1 .1 .1 .0)))
 gcf-import-tied x = promises (x .𝓤) (λ o. shows _ (imports _ _))

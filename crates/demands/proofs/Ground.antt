@@ -1,19 +1,31 @@
 -- The ties of the functions that the others stand on: every outcome that a function's own contract allows is the definition's value, in one line. Assumes nothing.
 use mathlib.Core.Path.{_≡_}
 use mathlib.Core.List.{[], _∷_}
+use lib.Dec.{eqb}
+use Prim.Native.Nat.{_+_}
 use lib.ListN.{length, take, drop, getD, replicate}
 use Rattle.base.proofs.Promise.{Promised, promises}
 use Rattle.fields.specs.Field.{field, spell}
 use Rattle.fields.specs.Part.{PartOf}
+use Rattle.refusal.specs.First.{accept}
 use Rattle.lent.specs.Wrote.{Wrote}
+use Rattle.text.specs.Flags as text
 use Rattle.text.specs.Command.{commandFault, commandOf, headerOf}
+use Rattle.text.specs.Response.{currentProfile}
+use Rattle.profiles.specs.Profiles.{profilesOf, profilesFault}
+use Rattle.text.specs.Reading.{numberAt, flagsAt, lengthAt, descAt}
+use Rattle.reading.specs.Places.{nextAt}
+use Rattle.reading.specs.Completed.{completed}
 use Rattle.layout.specs.Layout as layout
-use Rattle.sheet.specs.Check.{profileRule, flagsRule, endBefore}
+use Rattle.sheet.specs.Check.{flagsRule, endBefore}
+use Rattle.sheet.specs.Search.{firstFrom}
 use Rattle.fields.proofs.byte as byte
 use Rattle.fields.proofs.get2 as get2
 use Rattle.fields.proofs.get3 as get3
 use Rattle.fields.proofs.get4 as get4
 use Rattle.fields.proofs.part as part
+use Rattle.lent.proofs.Made.refused as made-refused
+use Rattle.lent.proofs.Made.written as made-written
 use Rattle.lent.proofs.put as put
 use Rattle.lent.proofs.put2 as put2
 use Rattle.lent.proofs.put4 as put4
@@ -21,9 +33,16 @@ use Rattle.lent.proofs.copy as copy
 use Rattle.lent.proofs.note as note
 use Rattle.lent.proofs.clear as clear
 use Rattle.lent.proofs.clear_list as clear-list
+use Rattle.text.proofs.Flags.reserved as flags-reserved
+use Rattle.text.proofs.Flags.version as flags-version
+use Rattle.text.proofs.Flags.persistent as flags-persistent
+use Rattle.text.proofs.Flags.current as flags-current
+use Rattle.text.proofs.Flags.fault as flags-fault
 use Rattle.text.proofs.Command.fault as command-fault
 use Rattle.text.proofs.Command.read as command-read
 use Rattle.text.proofs.Header.new as header-new
+use Rattle.profiles.proofs.fault as profiles-fault
+use Rattle.profiles.proofs.current as profiles-current
 use Rattle.layout.proofs.feature_count as feature-count
 use Rattle.layout.proofs.profile_count as profile-count
 use Rattle.layout.proofs.bodies_at as bodies-at
@@ -31,13 +50,17 @@ use Rattle.layout.proofs.feature_at as feature-at
 use Rattle.layout.proofs.flags_at as flags-at
 use Rattle.layout.proofs.length_at as length-at
 use Rattle.layout.proofs.offset_at as offset-at
-use Rattle.layout.proofs.profile_at as profile-at
-use Rattle.layout.proofs.current_at as current-at
-use Rattle.layout.proofs.last_at as last-at
+use Rattle.layout.proofs.put_entry as put-entry
 use Rattle.layout.proofs.profiles_part as profiles-part
 use Rattle.sheet.proofs.end_before as end-before
-use Rattle.sheet.proofs.profile_rule as profile-rule
 use Rattle.sheet.proofs.flags_rule as flags-rule
+use Rattle.sheet.proofs.first_from as first-from
+use Rattle.reading.proofs.number_at as number-at
+use Rattle.reading.proofs.flags_at as reading-flags-at
+use Rattle.reading.proofs.length_at as reading-length-at
+use Rattle.reading.proofs.next_at as next-at
+use Rattle.reading.proofs.body_at as body-at
+use Rattle.reading.proofs.complete as complete
 
 -- ---- fields
 
@@ -57,6 +80,12 @@ pub part-tied : Promised part.ended (λ M. part.clauses) (λ M. part.spec) (λ x
 part-tied x = promises (x .𝓤) (λ o e. e)
 
 -- ---- lent
+
+pub made-refused-tied : Promised made-refused.ended (λ M. made-refused.clauses) (λ M. made-refused.spec) (λ x o. o .0 ≡ record { refusal = x .args .0; count = 0 })
+made-refused-tied x = promises (x .𝓤) (λ o e. e)
+
+pub made-written-tied : Promised made-written.ended (λ M. made-written.clauses) (λ M. made-written.spec) (λ x o. o .0 ≡ record { refusal = accept; count = x .args .0 })
+made-written-tied x = promises (x .𝓤) (λ o e. e)
 
 pub put-tied : Promised put.ended (λ M. put.clauses) (λ M. put.spec) (λ x o. Wrote (x .args .0 .now) (x .args .1 .0) (x .args .1 .1 .0 ∷ []) (o .0) (o .1 .0))
 put-tied x = promises (x .𝓤) (λ o e. e)
@@ -81,6 +110,21 @@ clear-list-tied x = promises (x .𝓤) (λ o e. e)
 
 -- ---- text
 
+pub flags-reserved-tied : Promised flags-reserved.ended (λ M. flags-reserved.clauses) (λ M. flags-reserved.spec) (λ x o. o .0 ≡ text.reserved (x .args .0 .0))
+flags-reserved-tied x = promises (x .𝓤) (λ o e. e)
+
+pub flags-version-tied : Promised flags-version.ended (λ M. flags-version.clauses) (λ M. flags-version.spec) (λ x o. o .0 ≡ text.version (x .args .0 .0))
+flags-version-tied x = promises (x .𝓤) (λ o e. e)
+
+pub flags-persistent-tied : Promised flags-persistent.ended (λ M. flags-persistent.clauses) (λ M. flags-persistent.spec) (λ x o. o .0 ≡ eqb (text.persistent (x .args .0 .0)) 1)
+flags-persistent-tied x = promises (x .𝓤) (λ o e. e)
+
+pub flags-current-tied : Promised flags-current.ended (λ M. flags-current.clauses) (λ M. flags-current.spec) (λ x o. o .0 ≡ eqb (text.current (x .args .0 .0)) 1)
+flags-current-tied x = promises (x .𝓤) (λ o e. e)
+
+pub flags-fault-tied : Promised flags-fault.ended (λ M. flags-fault.clauses) (λ M. flags-fault.spec) (λ x o. o .0 ≡ text.flagsRule (x .args .1 .0) (x .args .1 .1 .0) (x .args .1 .1 .1 .0) (x .args .0 .0))
+flags-fault-tied x = promises (x .𝓤) (λ o e. e)
+
 pub command-fault-tied : Promised command-fault.ended (λ M. command-fault.clauses) (λ M. command-fault.spec) (λ x o. o .0 ≡ commandFault (x .args .0 .now))
 command-fault-tied x = promises (x .𝓤) (λ o e. e)
 
@@ -89,6 +133,14 @@ command-read-tied x = promises (x .𝓤) (λ o e. e)
 
 pub header-new-tied : Promised header-new.ended (λ M. header-new.clauses) (λ M. header-new.spec) (λ x o. o .0 ≡ headerOf (x .args .0) (x .args .1 .0 .0))
 header-new-tied x = promises (x .𝓤) (λ o e. e)
+
+-- ---- profiles
+
+pub profiles-fault-tied : Promised profiles-fault.ended (λ M. profiles-fault.clauses) (λ M. profiles-fault.spec) (λ x o. o .0 ≡ profilesFault (x .args .0 .now))
+profiles-fault-tied x = promises (x .𝓤) (λ o e. e)
+
+pub profiles-current-tied : Promised profiles-current.ended (λ M. profiles-current.clauses) (λ M. profiles-current.spec) (λ x o. o .0 .0 ≡ currentProfile (profilesOf (x .args .0 .now)))
+profiles-current-tied x = promises (x .𝓤) (λ o e. e)
 
 -- ---- layout
 
@@ -113,26 +165,41 @@ length-at-tied x = promises (x .𝓤) (λ o e. e)
 pub offset-at-tied : Promised offset-at.ended (λ M. offset-at.clauses) (λ M. offset-at.spec) (λ x o. o .0 ≡ layout.offset (x .args .0 .now) (x .args .1 .0))
 offset-at-tied x = promises (x .𝓤) (λ o e. e)
 
-pub profile-at-tied : Promised profile-at.ended (λ M. profile-at.clauses) (λ M. profile-at.spec) (λ x o. o .0 .0 ≡ layout.profile (x .args .0 .now) (x .args .1 .0))
-profile-at-tied x = promises (x .𝓤) (λ o e. e)
-
-pub current-at-tied : Promised current-at.ended (λ M. current-at.clauses) (λ M. current-at.spec) (λ x o. o .0 ≡ layout.current (x .args .0 .now) (x .args .1 .0))
-current-at-tied x = promises (x .𝓤) (λ o e. e)
-
-pub last-at-tied : Promised last-at.ended (λ M. last-at.clauses) (λ M. last-at.spec) (λ x o. o .0 ≡ layout.last (x .args .0 .now) (x .args .1 .0))
-last-at-tied x = promises (x .𝓤) (λ o e. e)
+pub put-entry-tied : Promised put-entry.ended (λ M. put-entry.clauses) (λ M. put-entry.spec)
+    (λ x o. Wrote (x .args .0 .now) (x .args .1 .0) (layout.entryBytes (x .args .1 .1 .0 .0) (x .args .1 .1 .1 .0) (x .args .1 .1 .1 .1 .0) (x .args .1 .1 .1 .1 .1 .0)) (o .0) (o .1 .0))
+put-entry-tied x = promises (x .𝓤) (λ o e. e)
 
 pub profiles-part-tied : Promised profiles-part.ended (λ M. profiles-part.clauses) (λ M. profiles-part.spec)
-    (λ x o. PartOf (x .args .0) (layout.profileAt (x .args .0 .now) 0) (layout.profilesPart (x .args .0 .now)) (o .0))
+    (λ x o. PartOf (x .args .0) (layout.profilesAt (x .args .0 .now)) (layout.profilesPart (x .args .0 .now)) (o .0))
 profiles-part-tied x = promises (x .𝓤) (λ o e. e)
 
 -- ---- sheet
 
-pub profile-rule-tied : Promised profile-rule.ended (λ M. profile-rule.clauses) (λ M. profile-rule.spec) (λ x o. o .0 ≡ profileRule (x .args .0 .0) (x .args .1 .0) (x .args .1 .1 .0) (x .args .1 .1 .1 .0))
-profile-rule-tied x = promises (x .𝓤) (λ o e. e)
-
-pub flags-rule-tied : Promised flags-rule.ended (λ M. flags-rule.clauses) (λ M. flags-rule.spec) (λ x o. o .0 ≡ flagsRule (x .args .0))
+pub flags-rule-tied : Promised flags-rule.ended (λ M. flags-rule.clauses) (λ M. flags-rule.spec) (λ x o. o .0 ≡ flagsRule (x .args .0 .0))
 flags-rule-tied x = promises (x .𝓤) (λ o e. e)
 
 pub end-before-tied : Promised end-before.ended (λ M. end-before.clauses) (λ M. end-before.spec) (λ x o. o .0 ≡ endBefore (x .args .0 .now) (x .args .1 .0))
 end-before-tied x = promises (x .𝓤) (λ o e. e)
+
+pub first-from-tied : Promised first-from.ended (λ M. first-from.clauses) (λ M. first-from.spec) (λ x o. o .0 ≡ firstFrom (x .args .0 .now) (x .args .1 .0) (x .args .1 .1 .0 .0))
+first-from-tied x = promises (x .𝓤) (λ o e. e)
+
+-- ---- reading
+
+pub number-at-tied : Promised number-at.ended (λ M. number-at.clauses) (λ M. number-at.spec) (λ x o. o .0 .0 ≡ numberAt (x .args .0 .now) (x .args .1 .0))
+number-at-tied x = promises (x .𝓤) (λ o e. e)
+
+pub reading-flags-at-tied : Promised reading-flags-at.ended (λ M. reading-flags-at.clauses) (λ M. reading-flags-at.spec) (λ x o. o .0 ≡ flagsAt (x .args .0 .now) (x .args .1 .0))
+reading-flags-at-tied x = promises (x .𝓤) (λ o e. e)
+
+pub reading-length-at-tied : Promised reading-length-at.ended (λ M. reading-length-at.clauses) (λ M. reading-length-at.spec) (λ x o. o .0 ≡ lengthAt (x .args .0 .now) (x .args .1 .0))
+reading-length-at-tied x = promises (x .𝓤) (λ o e. e)
+
+pub next-at-tied : Promised next-at.ended (λ M. next-at.clauses) (λ M. next-at.spec) (λ x o. o .0 ≡ nextAt (x .args .0 .now) (x .args .1 .0))
+next-at-tied x = promises (x .𝓤) (λ o e. e)
+
+pub body-at-tied : Promised body-at.ended (λ M. body-at.clauses) (λ M. body-at.spec) (λ x o. PartOf (x .args .0) (x .args .1 .0 + 4) (descAt (x .args .0 .now) (x .args .1 .0) .body) (o .0))
+body-at-tied x = promises (x .𝓤) (λ o e. e)
+
+pub complete-tied : Promised complete.ended (λ M. complete.clauses) (λ M. complete.spec) (λ x o. o .0 ≡ completed (x .args .0 .now))
+complete-tied x = promises (x .𝓤) (λ o e. e)

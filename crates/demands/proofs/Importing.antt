@@ -12,49 +12,54 @@ use lib.ListN.{length, take, drop, replicate}
 use lib.Seq.{take-append-seam}
 use Rattle.base.specs.Lists.{each, flat, keep, Bytes}
 use Rattle.fields.specs.Field.{field, spell}
-use Rattle.text.specs.First.{refuse, accept, _if_else_, pickZero, _orElse_, firstOf}
+use Rattle.refusal.specs.First.{refuse, accept, _if_else_, pickZero, _orElse_, firstOf, unless}
+use Rattle.text.specs.Flags as flags
 use Rattle.text.specs.Command.{opcodeOf, rtOf, sfnOf, allocationOf, commandFault}
 use Rattle.text.specs.Drive.{profileBytes}
 use Rattle.text.specs.Response.{bytes, feature0, all, wants, selected, currentProfile, header, dataLength, full, sent}
 use Rattle.text.specs.Reading as text
 use Rattle.text.proofs.Sent.{sent-whole}
 use Rattle.layout.specs.Layout as layout
-use Rattle.sheet.specs.Check.{profileRule, flagsRule, verdict, Accepted}
-use Rattle.sheet.specs.Meaning.{desc, listed, meaning, contents, sheetOf}
+use Rattle.profiles.specs.Profiles as profiles
+use Rattle.sheet.specs.Check.{flagsRule, verdict, Accepted}
+use Rattle.sheet.specs.Meaning.{desc, meaning, contents, sheetOf}
 use Rattle.sheet.proofs.Meaning.{meaning-fine}
 use Rattle.sheet.proofs.Build.{sheet-back}
 use Rattle.responder.specs.Answer as box
 use Rattle.bench.specs.Bench.{benched}
 use Rattle.bench.specs.Swept.{Premises, Swept, Ended}
+use Rattle.reading.specs.Completed as completed
 use Rattle.import.specs.Import as import
-use Rattle.import.specs.Import.{captureFault, sheetFrom, outcome, imported}
+use Rattle.import.specs.Import.{captureFault, sheetFrom, imported}
+use Rattle.lent.specs.Maker.{Outcome, outcome, written, refusing, making, makes}
 use Rattle.import.proofs.Capture.{from-accepted, from-bytes, from-full, captured-short}
 use Rattle.import.proofs.Own.{own-accepted, own-sheet}
 use Rattle.import.proofs.Answers.{imported-fault, imported-short, imported-written, imported-zero}
 use Rattle.import.proofs.Numbers.{imported-is}
 use Rattle.demands.specs.Recorder.{sheetE, command}
-use Rattle.demands.proofs.Sending.{due, demand2}
+use Rattle.responder.specs.Answer.{due}
+use Rattle.demands.proofs.Sending.{demand2}
 use Rattle.demands.proofs.Readings.{ReadBack, demand2-own}
 use Rattle.demands.proofs.Sweeping.{demand3, ends, bytesE, acceptedE}
 
 -- The sheet that stands in the buffer where import answers 0, of an outcome o: it is the one made of the response r, it is accepted, and the box
 -- gives back the captured bytes from it.
-pub record Stored (r : List ℕ) (o : import.Outcome) : Type 0 where
-  pub sheet : take (o .answer .count) (o .buffer) ≡ sheetFrom r
-  pub accepted : Accepted (take (o .answer .count) (o .buffer))
-  pub back : (a : ℕ) → length r ≤ a → sent 0 0 a (meaning (take (o .answer .count) (o .buffer))) ≡ r
+pub record Stored (r : List ℕ) (o : Outcome) : Type 0 where
+  pub sheet : take (o .made .count) (o .buffer) ≡ sheetFrom r
+  pub accepted : Accepted (take (o .made .count) (o .buffer))
+  pub back : (a : ℕ) → length r ≤ a → sent 0 0 a (meaning (take (o .made .count) (o .buffer))) ≡ r
 
 -- Of an outcome o of the response r and the buffer d: for a response that is not refused and a buffer with room for its sheet, exactly the sheet, and
 -- nothing behind it changes; for anything else the first refusal, in the paper's order, the count 0, "the buffer is unchanged". A sheet whose full
 -- response fits 65,532 bytes comes back from it unchanged.
-pub record Imports (r d : List ℕ) (o : import.Outcome) : Type 0 where
+pub record Imports (r d : List ℕ) (o : Outcome) : Type 0 where
   pub writes : captureFault r .number ≡ 0 → length (sheetFrom r) ≤ length d
-      → o ≡ outcome record { refusal = accept; count = length (sheetFrom r) } (sheetFrom r ++ drop (length (sheetFrom r)) d)
-  pub refuses-capture : (captureFault r .number ≡ 0 → ⊥) → o ≡ outcome record { refusal = captureFault r; count = 0 } d
-  pub refuses-room : captureFault r .number ≡ 0 → length d < length (sheetFrom r) → o ≡ outcome record { refusal = refuse 42; count = 0 } d
-  pub stores : Bytes r → o .answer .refusal .number ≡ 0 → Stored r o
+      → o ≡ making (sheetFrom r) d
+  pub refuses-capture : (captureFault r .number ≡ 0 → ⊥) → o ≡ refusing d (captureFault r)
+  pub refuses-room : captureFault r .number ≡ 0 → length d < length (sheetFrom r) → o ≡ refusing d (refuse 42)
+  pub stores : Bytes r → o .made .refusal .number ≡ 0 → Stored r o
   pub unchanged : (s : List ℕ) → Bytes s → Accepted s → length (full 0 0 (meaning s)) ≤ 65532 → length s ≤ length d → r ≡ full 0 0 (meaning s)
-      → o ≡ outcome record { refusal = accept; count = length s } (s ++ drop (length s) d)
+      → o ≡ making s d
 
 -- ---- an imported sheet is a sheet
 
@@ -71,21 +76,22 @@ replayed r b e a l =
     sent-whole 0 0 a (meaning (sheetFrom r)) (rw f (captured-short r e)) (rw f l) ∙ f
 
 -- Such a sheet is what stands in the buffer when import answers 0.
-pub stored : (r d : List ℕ) → Bytes r → imported r d .answer .refusal .number ≡ 0 → Stored r (imported r d)
+pub stored : (r d : List ℕ) → Bytes r → imported r d .made .refusal .number ≡ 0 → Stored r (imported r d)
+unfolding making
 stored r d b e =
     let z = imported-zero r d e in
-    let x : take (imported r d .answer .count) (imported r d .buffer) ≡ sheetFrom r =
+    let x : take (imported r d .made .count) (imported r d .buffer) ≡ sheetFrom r =
     rw (imported-written r d (z .0) (z .1)) (take-append-seam (sheetFrom r) (drop (length (sheetFrom r)) d)) in
     record { sheet = x; accepted = rw x (imported-accepted r b (z .0)); back = rw x (replayed r b (z .0)) }
 
 -- So the box's answer to any such command, into a buffer with room for them, is no refusal, their count, and these bytes.
 pub replayed-answer : (r c d : List ℕ) → Bytes r → captureFault r .number ≡ 0
     → commandFault c .number ≡ 0 → rtOf c ≡ 0 → sfnOf c ≡ 0 → length r ≤ allocationOf c → length r ≤ length d
-    → box.answered (sheetFrom r) c d ≡ box.outcome record { refusal = accept; count = length r } (r ++ drop (length r) d)
+    → box.answered (sheetFrom r) c d ≡ making r d
 replayed-answer r c d b e ok rt sfn l room =
     let x : due (sheetFrom r) c ≡ r = rw (rt, sfn) (replayed r b e (allocationOf c) l) in
     demand2 (sheetFrom r) c d .sends (imported-accepted r b e) ok (rw x room)
-    ∙ ap (λ (xs : List ℕ). box.outcome record { refusal = accept; count = length xs } (xs ++ drop (length xs) d)) x
+    ∙ ap (λ (xs : List ℕ). making xs d) x
 
 command-plain : (a : ℕ) → commandFault (command 0 0 a) .number ≡ 0
 unfolding command spell commandFault opcodeOf rtOf _if_else_
@@ -105,14 +111,14 @@ command-allocation a l = omega arith
 
 -- Such a command is 46h 00h 00h 00h 00h 00h 00h, the allocation length in two bytes, 00h.
 pub replayed-command : (r d : List ℕ) → Bytes r → captureFault r .number ≡ 0 → (a : ℕ) → length r ≤ a → a ≤ 65535 → length r ≤ length d
-    → box.answered (sheetFrom r) (command 0 0 a) d ≡ box.outcome record { refusal = accept; count = length r } (r ++ drop (length r) d)
+    → box.answered (sheetFrom r) (command 0 0 a) d ≡ making r d
 replayed-command r d b e a l m room =
     replayed-answer r (command 0 0 a) d b e (command-plain a) (command-rt a) (command-sfn a) (rw (command-allocation a m) l) room
 
 -- And so it does from the sheet that stands in the buffer when import answers 0.
-pub replayed-stored : (r d c e : List ℕ) → Bytes r → imported r d .answer .refusal .number ≡ 0
+pub replayed-stored : (r d c e : List ℕ) → Bytes r → imported r d .made .refusal .number ≡ 0
     → commandFault c .number ≡ 0 → rtOf c ≡ 0 → sfnOf c ≡ 0 → length r ≤ allocationOf c → length r ≤ length e
-    → box.answered (take (imported r d .answer .count) (imported r d .buffer)) c e ≡ box.outcome record { refusal = accept; count = length r } (r ++ drop (length r) e)
+    → box.answered (take (imported r d .made .count) (imported r d .buffer)) c e ≡ making r e
 replayed-stored r d c e b z = rw (stored r d b z .sheet) (replayed-answer r c e b (imported-zero r d z .0))
 
 -- ---- "a sheet whose full response fits 65,532 bytes must come back from its own response unchanged"
@@ -126,11 +132,11 @@ unchanged s b ok l =
 
 -- So import answers with no refusal and the sheet's length, and the sheet stands at the front of a buffer with room for it.
 pub unchanged-import : (s d : List ℕ) → Bytes s → Accepted s → length (full 0 0 (meaning s)) ≤ 65532 → length s ≤ length d
-    → imported (full 0 0 (meaning s)) d ≡ outcome record { refusal = accept; count = length s } (s ++ drop (length s) d)
+    → imported (full 0 0 (meaning s)) d ≡ making s d
 unchanged-import s d b ok l room =
     let u = unchanged s b ok l in
     imported-written (full 0 0 (meaning s)) d (ap (λ r. r .number) (u .0)) (rw (u .1) room)
-    ∙ ap (λ (x : List ℕ). outcome record { refusal = accept; count = length x } (x ++ drop (length x) d)) (u .1)
+    ∙ ap (λ (x : List ℕ). making x d) (u .1)
 
 -- ---- all of it
 
@@ -148,7 +154,7 @@ imports r d = record {
 module _ (r : List ℕ) (b : Bytes r) (e : captureFault r .number ≡ 0) where
   -- Demand 2, first half: for each accepted command the bytes sent are those the text defines for the imported sheet.
   pub demand2-imported : (c d : List ℕ) → commandFault c .number ≡ 0 → length (due (sheetFrom r) c) ≤ length d
-      → box.answered (sheetFrom r) c d ≡ box.outcome record { refusal = accept; count = length (due (sheetFrom r) c) } (due (sheetFrom r) c ++ drop (length (due (sheetFrom r) c)) d)
+      → box.answered (sheetFrom r) c d ≡ making (due (sheetFrom r) c) d
   demand2-imported c d = demand2 (sheetFrom r) c d .sends (imported-accepted r b e)
 
   -- Demand 2, second half: what is sent of it, read, gives back the profile and each whole descriptor.
@@ -176,13 +182,13 @@ oneOf (k ∷ ks) n = eqb n k || oneOf ks n
 -- For every response and every buffer: no refusal, "the reading's 14 to 18 and 20, 29, then 41, then the sheet's own 3 and 5, then 42", and no
 -- other number. The sheet's other numbers cannot occur: an accepted reading ascends (4) and has lengths that are multiples of 4 (6), so that
 -- feature 0's body has at most 252 bytes, 63 profiles (2), and the sheet is written with the counts, offsets and end that it must have (1, 7, 8).
-pub numbers : (r d : List ℕ) → oneOf (0 ∷ 14 ∷ 15 ∷ 16 ∷ 17 ∷ 18 ∷ 20 ∷ 29 ∷ 41 ∷ 3 ∷ 5 ∷ 42 ∷ []) (imported r d .answer .refusal .number) ≡ true
+pub numbers : (r d : List ℕ) → oneOf (0 ∷ 14 ∷ 15 ∷ 16 ∷ 17 ∷ 18 ∷ 20 ∷ 29 ∷ 41 ∷ 3 ∷ 5 ∷ 42 ∷ []) (imported r d .made .refusal .number) ≡ true
 unfolding oneOf
 numbers = imported-is (λ n. oneOf (0 ∷ 14 ∷ 15 ∷ 16 ∷ 17 ∷ 18 ∷ 20 ∷ 29 ∷ 41 ∷ 3 ∷ 5 ∷ 42 ∷ []) n ≡ true) refl refl refl refl refl refl refl refl refl refl refl refl
 
 -- It gives each of them.
 abbrev number : (r d : List ℕ) → ℕ
-number r d = imported r d .answer .refusal .number
+number r d = imported r d .made .refusal .number
 
 pub each-number :
     (number [] [] ≡ 14)
@@ -197,7 +203,7 @@ pub each-number :
     × (number (0 ∷ 0 ∷ 0 ∷ 12 ∷ 0 ∷ 0 ∷ 0 ∷ 0 ∷ 0 ∷ 0 ∷ 3 ∷ 0 ∷ 0 ∷ 1 ∷ 2 ∷ 0 ∷ []) [] ≡ 5)
     × (number (0 ∷ 0 ∷ 0 ∷ 8 ∷ 0 ∷ 0 ∷ 0 ∷ 0 ∷ 0 ∷ 0 ∷ 3 ∷ 0 ∷ []) (0 ∷ 0 ∷ 0 ∷ []) ≡ 42)
     × (number (0 ∷ 0 ∷ 0 ∷ 8 ∷ 0 ∷ 0 ∷ 0 ∷ 0 ∷ 0 ∷ 0 ∷ 3 ∷ 0 ∷ []) (0 ∷ 0 ∷ 0 ∷ 0 ∷ []) ≡ 0)
-unfolding each flat field spell _if_else_ pickZero _orElse_ firstOf profileBytes currentProfile text.statedLength text.statedProfile text.headerRule text.headRule text.numberAt text.flagsAt text.lengthAt text.descAt text.headFault text.walk text.walked text.readFault text.wholes profileRule flagsRule contents sheetOf import.numberIn import.currentIn import.lastIn import.listedIn import.profilesIn import.captured import.ownRule import.profileFaultIn import.flagsFault import.sheetRule import.captureFault import.sheetFrom import.roomRule import.refusing import.writing import.unless import.imported
+unfolding each flat field spell _if_else_ pickZero _orElse_ firstOf profileBytes currentProfile text.statedLength text.statedProfile text.headerRule text.headRule text.numberAt text.flagsAt text.lengthAt text.descAt text.headFault text.walk text.walked text.readFault text.wholes profiles.number profiles.current profiles.last profiles.listed profiles.profilesOf profiles.lists profiles.recordRule profiles.recordFault profiles.profilesFault flagsRule flags.flagsRule layout.entryBytes contents sheetOf import.captured import.ownRule import.flagsFault import.sheetRule completed.completeFault import.captureFault import.sheetFrom unless refusing making makes import.imported
 each-number = (refl, refl, refl, refl, refl, refl, refl, refl, refl, refl, refl, refl)
 
 -- The sheet's check gives an imported sheet no number.
@@ -207,9 +213,9 @@ verdict-imported r b e = ap refuse (imported-accepted r b e)
 -- ---- the premises can be met: the full response of sheet E, 44 bytes, and a buffer of 52
 
 fitsE : length (full 0 0 (meaning sheetE)) ≡ 44
-unfolding each flat keep field spell profileBytes bytes feature0 all wants selected currentProfile header dataLength full layout.featureCount layout.profileCount layout.number layout.flags layout.bodyLength layout.offset layout.profile layout.current desc listed meaning sheetE
+unfolding each flat keep field spell profileBytes bytes feature0 all wants selected currentProfile header dataLength full layout.featureCount layout.profileCount layout.number layout.flags layout.bodyLength layout.offset layout.profilesPart profiles.number profiles.current profiles.listed profiles.profilesOf desc meaning sheetE
 fitsE = refl
 
-pub importedE : imported (full 0 0 (meaning sheetE)) (replicate 52 0) ≡ outcome record { refusal = accept; count = 52 } sheetE
-unfolding sheetE
+pub importedE : imported (full 0 0 (meaning sheetE)) (replicate 52 0) ≡ outcome (written 52) sheetE
+unfolding sheetE making
 importedE = unchanged-import sheetE (replicate 52 0) bytesE acceptedE (omega (arith, fitsE)) (omega arith)

@@ -8,7 +8,7 @@ use lib.Dec.{leb}
 use lib.ListN.{length, take, drop}
 use Rattle.base.specs.Lists.{flat, Bytes}
 use Rattle.text.specs.declared.Reading.{Reading}
-use Rattle.text.specs.First.{accept}
+use Rattle.refusal.specs.First.{accept}
 use Rattle.text.specs.Drive.{Desc, Drive, Sound}
 use Rattle.text.specs.Response.{bytes, selected, currentProfile, dataLength, full, sent}
 use Rattle.text.specs.Reading.{readFault, refused, taken, reading, wholes, lastNumber}

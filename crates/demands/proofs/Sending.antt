@@ -1,67 +1,59 @@
 -- Demand 2, first half: "For each accepted sheet and command the bytes sent are exactly those the T10 text defines, cut at the allocation
 -- length or 65,534." Assumes nothing.
-use mathlib.Core.Path.{_≡_, refl, sym, _∙_}
+use mathlib.Core.Path.{_≡_, refl, sym, ap, _∙_}
 use mathlib.Core.Logic.{_⊎_}
-use mathlib.Core.List.{List, [], _++_}
+use mathlib.Core.List.{List, []}
 use Prim.Native.Nat.{ℕ, _-_, _^_, _≤_, _<_, min}
 use native.Mathlib.Omega.{arith}
-use lib.ListN.{length, take, drop}
+use lib.ListN.{length, take}
 use Rattle.base.specs.Lists.{Bytes}
 use Rattle.fields.specs.Field.{field, spell}
-use Rattle.text.specs.First.{refuse, accept}
+use Rattle.refusal.specs.declared.Refusal.{Refusal}
+use Rattle.refusal.specs.First.{refuse, accept}
 use Rattle.text.specs.Command.{opcodeOf, rtOf, sfnOf, allocationOf, commandFault}
 use Rattle.text.specs.Response.{selected, currentProfile, dataLength, full, sent}
-use Rattle.text.proofs.First.{if-true, if-false}
+use Rattle.refusal.proofs.First.{orElse-none, orElse-fault, unless-none}
+use Rattle.lent.specs.Maker.{Outcome, refusing, making, makes}
+use Rattle.lent.proofs.Maker.{makes-made, makes-short, makes-fault}
 use Rattle.text.proofs.Sizes.{dataLength-full, dataLength-low}
 use Rattle.text.proofs.Profiles.{Off, FirstOn, current-cases}
 use Rattle.text.proofs.Sent.{sent-prefix, length-sent, sent-dataLength, sent-field, sent-profile, sent-none, sent-65532, sent-65536}
 use Rattle.sheet.specs.Check.{verdict, Accepted}
 use Rattle.sheet.specs.Meaning.{meaning}
 use Rattle.sheet.proofs.Meaning.{meaning-fine}
-use Rattle.responder.specs.Answer.{Outcome, outcome, sending, roomRule, requested, commanded, answered}
+use Rattle.responder.specs.Answer.{due, requested, commanded, answered}
 use Rattle.responder.specs.Trusting.{trusting, trustingCommand}
-use Rattle.responder.proofs.Answers.{unless-none, unless-fault}
-use Rattle.responder.proofs.Trusting.{trusting-accepted, trusting-commanded}
+use Rattle.responder.proofs.Trusting.{trusting-accepted, trusting-commanded, answered-after}
 use Rattle.base.proofs.Promise.{by}
-use borrow.Author.Tests.{lt-ltb, le-ltb}
-
--- what a command c asks for, from the sheet s
-abbrev pub due : (s c : List ℕ) → List ℕ
-due s c = sent (rtOf c) (sfnOf c) (allocationOf c) (meaning s)
 
 -- Of an outcome o of the sheet s, the command c and the buffer d: for an accepted sheet and command and a buffer with room for them, exactly the
 -- bytes due, and nothing behind them changes; for anything else the first refusal, in the paper's order, with no byte sent and nothing changed.
 pub record Answers (s c d : List ℕ) (o : Outcome) : Type 0 where
-  pub sends : Accepted s → commandFault c .number ≡ 0 → length (due s c) ≤ length d
-      → o ≡ outcome record { refusal = accept; count = length (due s c) } (due s c ++ drop (length (due s c)) d)
-  pub refuses-sheet : (verdict s .number ≡ 0 → ⊥) → o ≡ outcome record { refusal = verdict s; count = 0 } d
-  pub refuses-command : Accepted s → (commandFault c .number ≡ 0 → ⊥) → o ≡ outcome record { refusal = commandFault c; count = 0 } d
-  pub refuses-room : Accepted s → commandFault c .number ≡ 0 → length d < length (due s c) → o ≡ outcome record { refusal = refuse 12; count = 0 } d
+  pub sends : Accepted s → commandFault c .number ≡ 0 → length (due s c) ≤ length d → o ≡ making (due s c) d
+  pub refuses-sheet : (verdict s .number ≡ 0 → ⊥) → o ≡ refusing d (verdict s)
+  pub refuses-command : Accepted s → (commandFault c .number ≡ 0 → ⊥) → o ≡ refusing d (commandFault c)
+  pub refuses-room : Accepted s → commandFault c .number ≡ 0 → length d < length (due s c) → o ≡ refusing d (refuse 12)
 
 -- the same of a request for the bytes xs, where nothing but the room is left to refuse
 pub record Sends (xs d : List ℕ) (o : Outcome) : Type 0 where
-  pub sends : length xs ≤ length d → o ≡ outcome record { refusal = accept; count = length xs } (xs ++ drop (length xs) d)
-  pub refuses-room : length d < length xs → o ≡ outcome record { refusal = refuse 12; count = 0 } d
+  pub sends : length xs ≤ length d → o ≡ making xs d
+  pub refuses-room : length d < length xs → o ≡ refusing d (refuse 12)
 
 request : (s : List ℕ) (rt sfn a : ℕ) (d : List ℕ) → Sends (sent rt sfn a (meaning s)) d (requested s rt sfn a d)
-unfolding requested roomRule sending
+unfolding requested
 request s rt sfn a d =
     let xs : List ℕ = sent rt sfn a (meaning s) in
-    record {
-      sends = λ h. rw (le-ltb (length d) (length xs) h, if-false) (unless-none accept (sending xs d) d refl);
-      refuses-room = λ h. rw (lt-ltb (length d) (length xs) h, if-true) (sym (unless-fault (refuse 12) (sending xs d) d (λ z. omega arith)));
-    }
+    record { sends = λ h. makes-made accept 12 xs d refl h; refuses-room = λ h. makes-short accept 12 xs d refl (λ z. omega arith) h }
 
 pub demand2 : (s c d : List ℕ) → Answers s c d (answered s c d)
-unfolding answered commanded
+unfolding answered
 demand2 s c d =
-    let asked : Outcome = requested s (rtOf c) (sfnOf c) (allocationOf c) d in
-    let r : Sends (due s c) d asked = request s (rtOf c) (sfnOf c) (allocationOf c) d in
+    let made : Refusal → Outcome = λ r. makes r 12 (due s c) d in
     record {
-      sends = λ ok e h. unless-none (verdict s) (commanded s c d) d ok ∙ unless-none (commandFault c) asked d e ∙ r .sends h;
-      refuses-sheet = λ h. sym (unless-fault (verdict s) (commanded s c d) d h);
-      refuses-command = λ ok h. unless-none (verdict s) (commanded s c d) d ok ∙ sym (unless-fault (commandFault c) asked d h);
-      refuses-room = λ ok e h. unless-none (verdict s) (commanded s c d) d ok ∙ unless-none (commandFault c) asked d e ∙ r .refuses-room h;
+      sends = λ ok e h. ap made (orElse-none (verdict s) (commandFault c) ok) ∙ makes-made (commandFault c) 12 (due s c) d e h;
+      refuses-sheet = λ h. ap made (orElse-fault (verdict s) (commandFault c) h) ∙ makes-fault (verdict s) 12 (due s c) d h;
+      refuses-command = λ ok h. ap made (orElse-none (verdict s) (commandFault c) ok) ∙ makes-fault (commandFault c) 12 (due s c) d h;
+      refuses-room = λ ok e h. ap made (orElse-none (verdict s) (commandFault c) ok) ∙ makes-short (commandFault c) 12 (due s c) d e (λ z. omega arith) h;
     }
 
 -- ---- a box that does not check its sheet: from an accepted one the same, from any other what crates/responder/specs/Trusting.antt defines
@@ -71,10 +63,9 @@ pub record Trusts (s c d : List ℕ) (o : Outcome) : Type 0 where
   pub answers : Bytes s → Accepted s → Answers s c d o
 
 pub trusts : (s c d : List ℕ) → Trusts s c d (trustingCommand s c d)
-unfolding answered
 trusts s c d = record {
   exact = refl;
-  answers = λ b ok. by (Answers s c d) (demand2 s c d) (trusting-commanded s b ok c d ∙ sym (unless-none (verdict s) (commanded s c d) d ok));
+  answers = λ b ok. by (Answers s c d) (demand2 s c d) (trusting-commanded s b ok c d ∙ sym (answered-after s c d ∙ unless-none (verdict s) (refusing d) (commanded s c d) ok));
 }
 
 pub record Serves (s : List ℕ) (rt sfn a : ℕ) (d : List ℕ) (o : Outcome) : Type 0 where
@@ -93,7 +84,7 @@ serves s rt sfn a d = record {
 -- answered alike.
 pub ignored : (s c c′ d : List ℕ) → length c ≡ length c′ → opcodeOf c ≡ opcodeOf c′ → rtOf c ≡ rtOf c′ → sfnOf c ≡ sfnOf c′ → allocationOf c ≡ allocationOf c′
     → answered s c d ≡ answered s c′ d
-unfolding answered commanded commandFault
+unfolding answered commandFault
 ignored s c c′ d l o r f a = cc
 
 -- What is sent is a prefix of the full response, as long as the smallest of allocation length, 65,534 and its length.

@@ -8,14 +8,13 @@ use lib.Dec.{eqb}
 use lib.ListN.{length, take, drop}
 use borrow.Author.Tests.{eq-eqb, ne-eqb}
 use Rattle.base.specs.Lists.{flat, Bytes}
-use Rattle.text.specs.declared.Refusal.{Refusal}
-use Rattle.text.specs.First.{accept}
+use Rattle.refusal.specs.declared.Refusal.{Refusal}
+use Rattle.refusal.specs.First.{accept}
 use Rattle.text.specs.Response.{bytes}
 use Rattle.sweep.specs.declared.Sweep.{Sweep}
 use Rattle.sweep.specs.declared.Step.{Step}
-use Rattle.sweep.specs.Sweep.{startRule, none, fresh, started, found, takeFault, advanced, endedNow, stepped, collecting}
-use Rattle.sweep.specs.Numbers.{refusing}
-use Rattle.sweep.specs.Run.{run, taking}
+use Rattle.sweep.specs.Sweep.{startRule, notStarted, fresh, started, wholesOf, takeFault, advanced, endedNow, stepped, collecting, refusedStep}
+use Rattle.sweep.specs.Run.{sweepOver, taking}
 use Rattle.sweep.proofs.Cases.{stepped-fault, collecting-fault, stepped-none, collecting-none}
 use Rattle.sweep.proofs.Ends.{Within, started-within, run-within}
 use Rattle.base.proofs.Promise.{by}
@@ -27,7 +26,7 @@ step r w = record { refusal = r; sweep = w }
 -- Of the step t that starts a sweep of RT rt with allocation length a: a fresh record, or the refusal and a record that has ended.
 pub record Starts (rt a : ℕ) (t : Step) : Type 0 where
   pub fine : startRule rt a .number ≡ 0 → t ≡ record { refusal = accept; sweep = fresh rt a }
-  pub refuses : (startRule rt a .number ≡ 0 → ⊥) → t ≡ record { refusal = startRule rt a; sweep = none }
+  pub refuses : (startRule rt a .number ≡ 0 → ⊥) → t ≡ record { refusal = startRule rt a; sweep = notStarted }
   pub within : Within (t .sweep)
 
 pub starts : (rt a : ℕ) → Starts rt a (started rt a)
@@ -38,7 +37,7 @@ starts rt a = record {
   within = started-within rt a;
 }
   where
-    go : (n : ℕ) → (n ≡ 0 → ⊥) → step (startRule rt a) (elim n [ zero ↦ fresh rt a | suc e ↦ none ]) ≡ step (startRule rt a) none
+    go : (n : ℕ) → (n ≡ 0 → ⊥) → step (startRule rt a) (elim n [ zero ↦ fresh rt a | suc e ↦ notStarted ]) ≡ step (startRule rt a) notStarted
     go zero h = absurd (h refl)
     go (suc n) h = refl
 
@@ -46,8 +45,8 @@ starts rt a = record {
 -- puts its whole descriptors behind those collected; a refused one changes nothing, but that 23 ends the sweep.
 pub record Takes (w : Sweep) (s out : List ℕ) (t : Step) (e : List ℕ) : Type 0 where
   pub takes : takeFault w s (length out) .number ≡ 0
-      → (t ≡ record { refusal = takeFault w s (length out); sweep = advanced w s (found w s) })
-      × (e ≡ take (w .collected) out ++ flat bytes (found w s) ++ drop (w .collected + length (flat bytes (found w s))) out)
+      → (t ≡ record { refusal = takeFault w s (length out); sweep = advanced w s (wholesOf w s) })
+      × (e ≡ take (w .collected) out ++ flat bytes (wholesOf w s) ++ drop (w .collected + length (flat bytes (wholesOf w s))) out)
   pub ends : takeFault w s (length out) .number ≡ 23 → (t ≡ record { refusal = takeFault w s (length out); sweep = endedNow w }) × (e ≡ out)
   pub refuses : (takeFault w s (length out) .number ≡ 0 → ⊥) → (takeFault w s (length out) .number ≡ 23 → ⊥)
       → (t ≡ record { refusal = takeFault w s (length out); sweep = w }) × (e ≡ out)
@@ -60,11 +59,11 @@ module _ (w : Sweep) (s out : List ℕ) where
 
   marked : (b : Bool) → (fault .number ≡ 0 → ⊥) → eqb (fault .number) 23 ≡ b
       → stepped w s out ≡ step fault (elim b [ true ↦ endedNow w | false ↦ w ])
-  unfolding refusing
+  unfolding refusedStep
   marked b h e = stepped-fault w s out h ∙ ap (λ (x : Bool). step fault (elim x [ true ↦ endedNow w | false ↦ w ])) e
 
   pub takes : Takes w s out (stepped w s out) (collecting w s out)
-  unfolding run taking
+  unfolding sweepOver taking
   takes = record {
     takes = λ h. (stepped-none w s out h, collecting-none w s out h);
     ends = λ e.

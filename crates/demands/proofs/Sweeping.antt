@@ -11,14 +11,16 @@ use lib.ListN.{replicate}
 use borrow.Author.Tests.{ltb-true}
 use Rattle.base.specs.Lists.{each, flat, keep, Bytes}
 use Rattle.fields.specs.Field.{field, spell}
-use Rattle.text.specs.First.{_if_else_, pickZero, _orElse_, firstOf}
+use Rattle.refusal.specs.First.{_if_else_, pickZero, _orElse_, firstOf}
+use Rattle.text.specs.Flags as flags
 use Rattle.text.specs.Drive.{profileBytes}
 use Rattle.text.specs.Response.{feature0, all, wants, selected}
 use Rattle.text.specs.Packing.{total, whole, rest, groups}
 use Rattle.layout.specs.Layout as layout
-use Rattle.sheet.specs.Check.{Accepted, profileRule, sameProfile, profileFault, numberBefore, endBefore, flagsRule, entryRule, entryFault, counted, verdict}
-use Rattle.sheet.specs.Meaning.{desc, listed, meaning}
-use Rattle.bench.specs.Bench.{Outcome, benched}
+use Rattle.profiles.specs.Profiles as profiles
+use Rattle.sheet.specs.Check.{Accepted, numberBefore, endBefore, flagsRule, entryRule, entryFault, counted, verdict}
+use Rattle.sheet.specs.Meaning.{desc, meaning}
+use Rattle.bench.specs.Bench.{Ending, benched}
 use Rattle.bench.specs.Swept.{Premises, Swept, Ended}
 use Rattle.bench.proofs.Demand as bench
 use Rattle.demands.specs.Recorder.{sheetE}
@@ -34,7 +36,7 @@ pub ends : (s : List ℕ) (rt a : ℕ) (response collected starts : List ℕ) �
 ends = bench.ended
 
 -- Both, of an outcome o.
-pub record Benches (s : List ℕ) (rt a : ℕ) (response collected starts : List ℕ) (o : Outcome) : Type 0 where
+pub record Benches (s : List ℕ) (rt a : ℕ) (response collected starts : List ℕ) (o : Ending) : Type 0 where
   pub exact : o ≡ benched s rt a response collected starts
   pub sweeps : Bytes s → Accepted s → Premises (meaning s) rt a response collected starts → Swept (meaning s) rt a response collected starts o
   pub finishes : Bytes s → Accepted s → rt < 2 → 8 ≤ a → Ended (meaning s) rt a response collected starts o
@@ -64,11 +66,11 @@ unfolding sheetE low
 bytesE = bytes-low sheetE refl
 
 pub acceptedE : Accepted sheetE
-unfolding each field _if_else_ pickZero _orElse_ firstOf layout.featureCount layout.profileCount layout.number layout.flags layout.bodyLength layout.offset layout.profile layout.current layout.last profileRule sameProfile profileFault numberBefore endBefore flagsRule entryRule entryFault counted verdict sheetE
+unfolding each field _if_else_ pickZero _orElse_ firstOf layout.featureCount layout.profileCount layout.number layout.flags layout.bodyLength layout.offset layout.profilesPart profiles.number profiles.current profiles.last profiles.lists profiles.recordRule profiles.recordFault profiles.profilesFault numberBefore endBefore flagsRule flags.flagsRule entryRule entryFault counted verdict sheetE
 acceptedE = refl
 
 premisesE : Premises (meaning sheetE) 0 20 (replicate 20 0) (replicate 36 0) (replicate 4 0)
-unfolding each flat keep field spell profileBytes feature0 all wants selected total whole rest groups layout.featureCount layout.profileCount layout.number layout.flags layout.bodyLength layout.offset layout.profile layout.current desc listed meaning sheetE
+unfolding each flat keep field spell profileBytes feature0 all wants selected total whole rest groups layout.featureCount layout.profileCount layout.number layout.flags layout.bodyLength layout.offset layout.profilesPart profiles.number profiles.current profiles.listed profiles.profilesOf desc meaning sheetE
 premisesE = record {
   kind = omega arith;
   eight = omega arith;

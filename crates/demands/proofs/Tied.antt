@@ -7,7 +7,7 @@ use Rattle.base.proofs.Promise.{Promised, promises, by}
 use Rattle.reading.proofs.Lies.{Lies}
 use Rattle.reading.proofs.Promised as reading-promised
 use Rattle.sheet.proofs.check as check
-use Rattle.responder.specs.Answer as responder-specs
+use Rattle.lent.specs.Maker.{outcome}
 use Rattle.responder.proofs.send as send
 use Rattle.responder.proofs.respond_accepted as respond-accepted
 use Rattle.responder.proofs.respond as respond
@@ -24,7 +24,6 @@ use Rattle.bench.proofs.bench as bench
 use Rattle.checks.specs.Judge.{said}
 use Rattle.checks.proofs.check_descriptors as check-descriptors
 use Rattle.checks.proofs.check_profile as check-profile
-use Rattle.import.specs.Import as import-specs
 use Rattle.import.proofs.import as import
 use Rattle.demands.proofs.Sheets.{Checks, checks}
 use Rattle.demands.proofs.Sending.{Answers, demand2, Trusts, trusts, Serves, serves}
@@ -43,15 +42,15 @@ check-tied x = promises (x .𝓤) (λ o. by (Checks _) (checks _))
 -- ---- responder
 
 pub send-tied : Promised send.ended (λ M. send.clauses) (λ M. send.spec)
-    (λ x o. Serves (x .args .0 .now) (x .args .1 .0) (x .args .1 .1 .0 .0) (x .args .1 .1 .1 .0) (x .args .1 .1 .1 .1 .0 .now) (responder-specs.outcome (o .0) (o .1 .1 .1 .1 .1 .0)))
+    (λ x o. Serves (x .args .0 .now) (x .args .1 .0) (x .args .1 .1 .0 .0) (x .args .1 .1 .1 .0) (x .args .1 .1 .1 .1 .0 .now) (outcome (o .0) (o .1 .1 .1 .1 .1 .0)))
 send-tied x = promises (x .𝓤) (λ o. by (Serves _ _ _ _ _) (serves _ _ _ _ _))
 
 pub respond-accepted-tied : Promised respond-accepted.ended (λ M. respond-accepted.clauses) (λ M. respond-accepted.spec)
-    (λ x o. Trusts (x .args .0 .now) (x .args .1 .0 .now) (x .args .1 .1 .0 .now) (responder-specs.outcome (o .0) (o .1 .1 .1 .0)))
+    (λ x o. Trusts (x .args .0 .now) (x .args .1 .0 .now) (x .args .1 .1 .0 .now) (outcome (o .0) (o .1 .1 .1 .0)))
 respond-accepted-tied x = promises (x .𝓤) (λ o. by (Trusts _ _ _) (trusts _ _ _))
 
 pub respond-tied : Promised respond.ended (λ M. respond.clauses) (λ M. respond.spec)
-    (λ x o. Answers (x .args .0 .now) (x .args .1 .0 .now) (x .args .1 .1 .0 .now) (responder-specs.outcome (o .0) (o .1 .1 .1 .0)))
+    (λ x o. Answers (x .args .0 .now) (x .args .1 .0 .now) (x .args .1 .1 .0 .now) (outcome (o .0) (o .1 .1 .1 .0)))
 respond-tied x = promises (x .𝓤) (λ o. by (Answers _ _ _) (demand2 _ _ _))
 
 -- ---- reading
@@ -91,7 +90,7 @@ list-tied x = promises (x .𝓤) (λ o. lists)
 
 pub bench-tied : Promised bench.ended (λ M. bench.clauses) (λ M. bench.spec)
     (λ x o. Benches (x .args .0 .now) (x .args .1 .0) (x .args .1 .1 .0) (x .args .1 .1 .1 .0 .now) (x .args .1 .1 .1 .1 .0 .now) (x .args .1 .1 .1 .1 .1 .0 .now)
-    (bench-specs.outcome (o .0) (o .1 .1 .1 .1 .0) (o .1 .1 .1 .1 .1 .0) (o .1 .1 .1 .1 .1 .1 .0)))
+    (bench-specs.ending (o .0) (o .1 .1 .1 .1 .0) (o .1 .1 .1 .1 .1 .0) (o .1 .1 .1 .1 .1 .1 .0)))
 bench-tied x = promises (x .𝓤) (λ o. by (Benches _ _ _ _ _ _) (benches _ _ _ _ _ _))
 
 -- ---- checks
@@ -104,5 +103,5 @@ check-profile-tied x = promises (x .𝓤) (λ o. by (Judges _ _) (judges _ _))
 
 -- ---- import
 
-pub import-tied : Promised import.ended (λ M. import.clauses) (λ M. import.spec) (λ x o. Imports (x .args .0 .now) (x .args .1 .0 .now) (import-specs.outcome (o .0) (o .1 .1 .0)))
+pub import-tied : Promised import.ended (λ M. import.clauses) (λ M. import.spec) (λ x o. Imports (x .args .0 .now) (x .args .1 .0 .now) (outcome (o .0) (o .1 .1 .0)))
 import-tied x = promises (x .𝓤) (λ o. by (Imports _ _) (imports _ _))

@@ -5,7 +5,8 @@ use lib.ListN.{take, replicate}
 use Rattle.text.specs.Drive.{bit}
 use Rattle.text.specs.Response.{sent}
 use Rattle.sheet.specs.Meaning.{meaning}
-use Rattle.responder.specs.Answer.{Outcome, answered}
+use Rattle.lent.specs.Maker.{Outcome}
+use Rattle.responder.specs.Answer.{answered}
 use Rattle.bench.specs.Bench as Swept
 use Rattle.bench.specs.Bench.{benched}
 use Rattle.checks.specs.Judge.{Said, judged}
@@ -18,23 +19,23 @@ pub record Star : Type 0 where
 
 -- an answer of the box in numbers: the refusal, the count, and that many bytes of the buffer
 unfoldable pub shown : Outcome → List ℕ
-shown o = o .reply .refusal .number ∷ o .reply .count ∷ take (o .reply .count) (o .buffer)
+shown o = o .made .refusal .number ∷ o .made .count ∷ take (o .made .count) (o .buffer)
 
 -- the box's answer to RT, SFN and allocation length, in a buffer of 64 bytes
 unfoldable pub asked : (s : List ℕ) (rt sfn a : ℕ) → List ℕ
 asked s rt sfn a = shown (answered s (command rt sfn a) (replicate 64 0xEE))
 
 -- a bench sweep in numbers: the refusal, and the starts that were written
-unfoldable pub started : Swept.Outcome → List ℕ
-started o = o .reply .refusal .number ∷ take (o .reply .commands) (o .starts)
+unfoldable pub sweptNumbers : Swept.Ending → List ℕ
+sweptNumbers o = o .reply .refusal .number ∷ take (o .reply .commands) (o .starts)
 
 -- the bench sweep of a sheet with RT 0, with room for 64 bytes and 8 starts
 unfoldable pub swept : (s : List ℕ) (a : ℕ) → List ℕ
-swept s a = started (benched s 0 a (replicate 64 0xEE) (replicate 64 0xEE) (replicate 8 0xEE))
+swept s a = sweptNumbers (benched s 0 a (replicate 64 0xEE) (replicate 64 0xEE) (replicate 8 0xEE))
 
 -- a judgement in numbers: the number, whether it conforms, and the missing feature if one is named
-unfoldable pub told : Said → List ℕ
-told j = j .number ∷ bit (j .conforms) ∷ j .missing
+unfoldable pub judgedNumbers : Said → List ℕ
+judgedNumbers j = j .number ∷ bit (j .conforms) ∷ j .missing
 
 unfoldable pub stars : List Star
 stars =
@@ -66,5 +67,5 @@ stars =
     ∷ record { gives = swept sheetE 43; paper = 0 ∷ 0 ∷ 0x0020 ∷ [] }
     ∷ record { gives = swept sheetE 19; paper = 23 ∷ [] }
     -- profile 0012h: lowest missing 0002h
-    ∷ record { gives = told (judged 0x0012 (sent 0 0 44 (meaning sheetE))); paper = 0 ∷ 0 ∷ 0x0002 ∷ [] }
+    ∷ record { gives = judgedNumbers (judged 0x0012 (sent 0 0 44 (meaning sheetE))); paper = 0 ∷ 0 ∷ 0x0002 ∷ [] }
     ∷ []

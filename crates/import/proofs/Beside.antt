@@ -1,6 +1,6 @@
 -- Two runs of stores beside each other in one buffer: the contents and the bodies. Assumes nothing.
 use mathlib.Core.Path.{_≡_, refl, sym, ap, _∙_}
-use mathlib.Core.List.{List, [], _∷_, _++_, append-assoc}
+use mathlib.Core.List.{List, [], _∷_, _++_}
 use Prim.Native.Nat.{ℕ, suc, _+_, _*_, _/_, _≤_, _<_}
 use native.Mathlib.Omega.{arith}
 use lib.ListN.{length, set, length-append}
@@ -12,12 +12,13 @@ use Rattle.lent.specs.Wrote.{Wrote}
 use Rattle.lent.proofs.Sets.{sets-append}
 use Rattle.lent.proofs.Laws.{then, kept}
 use Rattle.text.specs.Drive.{Desc}
-use Rattle.text.specs.Reading.{lengthAt, descAt}
-use Rattle.reading.specs.Places.{from}
+use Rattle.text.specs.Reading.{descAt}
+use Rattle.reading.specs.Places.{nextAt, from}
 use Rattle.reading.proofs.Places.{from-step, from-end}
 use Rattle.sheet.specs.Meaning.{contents}
-use Rattle.sheet.proofs.Pieces.{length-contents}
-use Rattle.import.specs.Pieces.{behind, bodies, entryOf, Fits, Filled, sheetBytes, Whole}
+use Rattle.sheet.specs.Meaning as sheet
+use Rattle.sheet.proofs.Pieces.{length-entry, length-contents}
+use Rattle.import.specs.Pieces.{behind, bodies, Fits, Filled, sheetBytes, Whole}
 
 -- ---- stores that do not meet
 
@@ -43,15 +44,10 @@ two-runs d x xs y ys i j h =
     ∙ sets-append (sets (sets d i x) (i + length x) xs) j y ys
     ∙ ap (λ (l : List ℕ). sets l (j + length y) ys) (sets-comm (sets d i x) (i + length x) xs j y h)
 
--- ---- an entry
-
-pub length-entry : (d : Desc) (offset : ℕ) → length (entryOf d offset) ≡ 8
-unfolding entryOf
-length-entry d offset = simp (length-append, length-spell) (omega arith)
-
-contents-step : (at : ℕ) (d : Desc) (ds : List Desc) → contents at (d ∷ ds) ≡ entryOf d at ++ contents (at + length (d .body)) ds
-unfolding contents entryOf
-contents-step at d ds = rw (append-assoc (spell 2 (d .number)) (d .flags ∷ []) (length (d .body) ∷ []))
+-- one descriptor more at the front of the contents
+contents-step : (at : ℕ) (d : Desc) (ds : List Desc) → contents at (d ∷ ds) ≡ sheet.entry at d ++ contents (at + length (d .body)) ds
+unfolding contents
+contents-step at d ds = refl
 
 -- ---- the loop: what the buffer holds in the end, told by what it holds now
 
@@ -72,14 +68,14 @@ module _ {s : List ℕ} {entry next place : ℕ} {d : List ℕ} where
 
 module _ {s : List ℕ} {r : ℕ} {f : List ℕ} {entry next place : ℕ} {d : List ℕ} (p : Passed s r f entry next place d) (h : place < length s) where
   pub passed-more : {entry′ next′ place′ : ℕ} {d′ d″ b : List ℕ}
-      → Wrote d entry (entryOf (descAt s place) next) entry′ d′ → b ≡ descAt s place .body → Wrote d′ next b next′ d″ → place′ ≡ place + 4 + lengthAt s place
+      → Wrote d entry (sheet.entry next (descAt s place)) entry′ d′ → b ≡ descAt s place .body → Wrote d′ next b next′ d″ → place′ ≡ nextAt s place
       → Passed s r f entry′ next′ place′ d″
   unfolding flat
   passed-more {entry′} {next′} {place′} {d′} {d″} {b} v q w n =
       let x : Desc = descAt s place in
       let ds : List Desc = from s place′ in
       let e : from s place ≡ x ∷ ds = from-step s place h ∙ ap (λ (k : ℕ). x ∷ from s k) (sym n) in
-      let m : length (entryOf x next) ≡ 8 = length-entry x next in
+      let m : length (sheet.entry next x) ≡ 8 = length-entry next x in
       let lb : length b ≡ length (x .body) = ap length q in
       let lc : length (contents (next + length (x .body)) ds) ≡ 8 * length ds = length-contents (next + length (x .body)) ds in
       let l : length (bodies (x ∷ ds)) ≡ length (x .body) + length (bodies ds) = length-append (x .body) (bodies ds) in
@@ -88,7 +84,7 @@ module _ {s : List ℕ} {r : ℕ} {f : List ℕ} {entry next place : ℕ} {d : L
       let low : next + length (bodies (x ∷ ds)) < 4294967296 = rw e at (p .fits .low) in
       let all : r ≡ next + length (bodies (x ∷ ds)) = rw e at (p .filled .next) in
       let k : length d″ ≡ length d = kept w ∙ kept v in
-      let a : entry′ ≡ entry + length (entryOf x next) = omega (arith, v .next) in
+      let a : entry′ ≡ entry + length (sheet.entry next x) = omega (arith, v .next) in
       let c : next′ ≡ next + length (x .body) = omega (arith, w .next, kept v) in
       record {
         fits = record { apart = omega arith; room = omega arith; low = omega arith };
@@ -98,7 +94,7 @@ module _ {s : List ℕ} {r : ℕ} {f : List ℕ} {entry next place : ℕ} {d : L
               p .filled .holds
               ∙ ap (λ (l : List Desc). sets (sets d entry (contents next l)) next (bodies l)) e
               ∙ ap (λ (l : List ℕ). sets (sets d entry l) next (bodies (x ∷ ds))) (contents-step next x ds)
-              ∙ two-runs d (entryOf x next) (contents (next + length (x .body)) ds) (x .body) (bodies ds) entry next (omega arith)
+              ∙ two-runs d (sheet.entry next x) (contents (next + length (x .body)) ds) (x .body) (bodies ds) entry next (omega arith)
               ∙ rw (w .holds, v .holds, q, a, c);
         };
       }
@@ -122,14 +118,14 @@ module _ {s : List ℕ} {n : ℕ} {d : List ℕ} (w : Whole s n d) where
     body-at : body ≡ 4 + 8 * n + length b
     body-at = omega (arith, v₃ .next, kept v₁, kept v₂, sizes, w .room)
 
-    pub whole-fits : {first : ℕ} → first ≡ 8 + 4 + lengthAt s 8 → Fits s entries body first d₃
+    pub whole-fits : {first : ℕ} → first ≡ nextAt s 8 → Fits s entries body first d₃
     whole-fits {first} f = record {
       apart = rw f (omega (arith, entries-at, body-at, w .count));
       room = rw f (omega (arith, body-at, sizes, w .room, kept v₁, kept v₂, kept v₃));
       low = rw f (omega (arith, body-at, sizes, w .low));
     }
 
-    pub whole-written : {first r : ℕ} {e : List ℕ} → first ≡ 8 + 4 + lengthAt s 8 → Filled s entries body first d₃ r e → Wrote d 0 (sheetBytes (descAt s 8 .body) (behind s)) r e
+    pub whole-written : {first r : ℕ} {e : List ℕ} → first ≡ nextAt s 8 → Filled s entries body first d₃ r e → Wrote d 0 (sheetBytes (descAt s 8 .body) (behind s)) r e
     unfolding sheetBytes
     whole-written {first} {r} {e} f g =
         let ds : List Desc = behind s in

@@ -1,7 +1,6 @@
 -- Laws that this crate's proofs cite, and those that the demands do.
 pub mod Capture
 pub mod Answers
-pub mod Profiles
 pub mod Faults
 pub mod Beside
 pub mod Written

@@ -6,15 +6,19 @@ use mathlib.Core.List.{List, [], _∷_}
 use Prim.Native.Nat.{ℕ, zero, suc, _+_, _≤_, _<_}
 use native.Mathlib.Omega.{arith}
 use lib.ListN.{length}
-use Rattle.text.specs.declared.Refusal.{Refusal}
-use Rattle.text.specs.First.{refuse, _if_else_, pickZero, _orElse_, firstOf}
+use Rattle.refusal.specs.declared.Refusal.{Refusal}
+use Rattle.refusal.specs.First.{refuse, _if_else_, pickZero, _orElse_, firstOf}
+use Rattle.text.specs.Flags as text
 use Rattle.text.specs.Drive.{Desc}
-use Rattle.text.specs.Reading.{statedEnd, headerRule, headRule, numberAt, lengthAt, headFault, walk, walked, readFault, wholes}
+use Rattle.text.specs.Reading.{statedEnd, headerRule, headRule, numberAt, lengthAt, headFault, walk, walked, readFault}
 use Rattle.base.proofs.Compare.{le-or-lt}
 use Rattle.text.proofs.Walk.{walk-few, walk-bad, walk-short, walk-step}
-use Rattle.sheet.specs.Check.{profileRule, flagsRule}
-use Rattle.import.specs.Import.{ownRule, profileFaultIn, flagsFault, sheetRule, captureFault, sheetFrom, roomRule, imported}
-use Rattle.import.proofs.Answers.{imported-number}
+use Rattle.profiles.specs.Profiles.{recordRule, recordFault, profilesFault}
+use Rattle.sheet.specs.Check.{flagsRule}
+use Rattle.import.specs.Import.{ownRule, flagsFault, sheetRule, captureFault, sheetFrom, imported}
+use Rattle.reading.specs.Places.{descs}
+use Rattle.reading.specs.Completed.{completeFault}
+use Rattle.lent.proofs.Maker.{makes-number}
 
 module _ (P : ℕ → Type 0) where
   if-is : (k : ℕ) (b : Bool) (y : Refusal) → P k → P (y .number) → P ((refuse k if b else y) .number)
@@ -79,25 +83,24 @@ module _ (P : ℕ → Type 0) (p0 : P 0) where
   own-is p41 r (z ∷ ds) = if-is P 41 _ _ p41 (if-is P 41 _ _ p41 (if-is P 41 _ _ p41 (if-is P 41 _ _ p41 p0)))
 
   flags-is : P 5 → (ds : List Desc) → P (flagsFault ds .number)
-  unfolding flagsFault flagsRule
+  unfolding flagsFault flagsRule text.flagsRule
   flags-is p5 [] = p0
-  flags-is p5 (d ∷ ds) = orElse-is P _ _ (if-is P 5 _ _ p5 (if-is P 5 _ _ p5 (if-is P 5 _ _ p5 p0))) (flags-is p5 ds)
+  flags-is p5 (d ∷ ds) = orElse-is P _ _ (orElse-is P _ _ (if-is P 5 _ _ p5 p0) (orElse-is P _ _ (if-is P 5 _ _ p5 p0) (if-is P 5 _ _ p5 p0))) (flags-is p5 ds)
 
-  profile-is : P 3 → (b : List ℕ) (i : ℕ) → P (profileFaultIn b i .number)
-  unfolding profileFaultIn profileRule
-  profile-is p3 b i =
-      if-is P 3 _ _ p3 (orElse-is P _ _ (first-is P _ 0 i p0 (λ j. if-is P 3 _ _ p3 p0)) (if-is P 3 _ _ p3 (if-is P 3 _ _ p3 p0)))
+  record-is : P 3 → (b : List ℕ) (i : ℕ) → P (recordFault b i .number)
+  unfolding recordFault recordRule
+  record-is p3 b i = if-is P 3 _ _ p3 (if-is P 3 _ _ p3 (if-is P 3 _ _ p3 (if-is P 3 _ _ p3 p0)))
 
   sheet-is : P 3 → P 5 → (ds : List Desc) → P (sheetRule ds .number)
-  unfolding sheetRule
+  unfolding sheetRule profilesFault
   sheet-is p3 p5 [] = p0
-  sheet-is p3 p5 (z ∷ ds) = orElse-is P _ _ (first-is P _ 0 _ p0 (profile-is p3 (z .body))) (flags-is p5 ds)
+  sheet-is p3 p5 (z ∷ ds) = orElse-is P _ _ (first-is P _ 0 _ p0 (record-is p3 (z .body))) (flags-is p5 ds)
 
-pub imported-is : (P : ℕ → Type 0) → P 0 → P 14 → P 15 → P 16 → P 17 → P 18 → P 20 → P 29 → P 41 → P 3 → P 5 → P 42 → (r d : List ℕ) → P (imported r d .answer .refusal .number)
-unfolding captureFault roomRule
+pub imported-is : (P : ℕ → Type 0) → P 0 → P 14 → P 15 → P 16 → P 17 → P 18 → P 20 → P 29 → P 41 → P 3 → P 5 → P 42 → (r d : List ℕ) → P (imported r d .made .refusal .number)
+unfolding captureFault completeFault imported
 imported-is P p0 p14 p15 p16 p17 p18 p20 p29 p41 p3 p5 p42 r d =
-    rw (imported-number r d)
-    (orElse-is P (captureFault r) (roomRule (sheetFrom r) d)
-    (orElse-is P _ _ (read-is P p0 p14 p15 p16 p17 p18 p20 65534 0 r)
-    (if-is P 29 _ _ p29 (orElse-is P _ _ (own-is P p0 p41 r (wholes 65534 0 0 r)) (sheet-is P p0 p3 p5 (wholes 65534 0 0 r)))))
+    rw (makes-number (captureFault r) 42 (sheetFrom r) d)
+    (orElse-is P (captureFault r) _
+    (orElse-is P (completeFault r) _ (orElse-is P _ _ (read-is P p0 p14 p15 p16 p17 p18 p20 65534 0 r) (if-is P 29 _ _ p29 p0))
+    (orElse-is P _ _ (own-is P p0 p41 r (descs r)) (sheet-is P p0 p3 p5 (descs r))))
     (if-is P 42 _ _ p42 p0))

@@ -1,27 +1,33 @@
 -- The sheet of an accepted capture by the places of its descriptors, and the answer of an import. Assumes nothing.
-use mathlib.Core.Path.{_≡_, refl, sym, ap, ap₂, _∙_}
+use mathlib.Core.Path.{_≡_, refl, sym, ap, _∙_}
 use mathlib.Core.List.{List, [], _∷_}
 use Prim.Native.Nat.{ℕ, suc, _+_, _-_, _*_, _/_, _%_, _≤_, _<_}
 use native.Mathlib.Nat.{div-add-mod}
 use native.Mathlib.Omega.{arith}
 use lib.ListN.{length, length-append}
 use Rattle.base.specs.Lists.{flat, Bytes}
-use Rattle.base.proofs.Lists.{length-each}
 use Rattle.lent.specs.Wrote.{Wrote}
-use Rattle.lent.proofs.Laws.{front}
-use Rattle.text.specs.declared.Refusal.{Refusal}
+use Rattle.refusal.specs.declared.Refusal.{Refusal}
 use Rattle.text.specs.declared.Reading.{Reading}
-use Rattle.text.specs.First.{refuse, accept}
+use Rattle.refusal.specs.First.{refuse}
 use Rattle.text.specs.Drive.{Desc, Good, profileBytes}
 use Rattle.text.specs.Response.{bytes}
-use Rattle.text.specs.Reading.{descAt, reading}
+use Rattle.text.specs.Reading.{descAt}
 use Rattle.text.proofs.Sizes.{length-bytes}
 use Rattle.text.proofs.Received.{reading-count}
 use Rattle.reading.proofs.Places.{from-step, wholes-end, wholes-from}
+use Rattle.profiles.specs.Profiles.{profilesOf}
+use Rattle.profiles.proofs.Kept.{fault-kept, length-profilesOf}
+use Rattle.profiles.proofs.Again.{profiles-back}
+use Rattle.reading.specs.Completed.{completed}
+use Rattle.reading.proofs.Completed.{descs-from, complete-read}
 use Rattle.sheet.specs.Meaning.{sheetOf}
-use Rattle.import.specs.Import.{profilesIn, listedIn, captured, captureFault, sheetFrom, outcome, imported}
+use Rattle.import.specs.Import.{captured, captureFault, sheetFrom, imported}
+use Rattle.lent.specs.declared.Made.{Made}
+use Rattle.lent.specs.Maker.{outcome, refused, written, refusing}
+use Rattle.lent.proofs.Maker.{written-making}
 use Rattle.import.specs.Pieces.{behind, bodies, sheetBytes, Whole}
-use Rattle.import.proofs.Capture.{Capture, captures, all-good, profiles-back, captured-short}
+use Rattle.import.proofs.Capture.{Capture, captures, all-good, captured-short, capture-complete}
 use Rattle.import.proofs.Answers.{imported-fault, imported-short, imported-written}
 use Rattle.import.proofs.Beside.{length-sheetBytes}
 
@@ -32,12 +38,12 @@ length-bodies [] = refl
 length-bodies (d ∷ ds) = omega (arith, length-append (bytes d) (flat bytes ds), length-append (d .body) (bodies ds), length-bytes d, length-bodies ds)
 
 -- a sheet whose profile list is b
-sheet-parts : (b : List ℕ) (ds : List Desc) → length b % 4 ≡ 0 → flat profileBytes (profilesIn b) ≡ b
-    → sheetOf record { profiles = profilesIn b; features = ds } ≡ sheetBytes b ds
-unfolding sheetOf sheetBytes profilesIn
+sheet-parts : (b : List ℕ) (ds : List Desc) → length b % 4 ≡ 0 → flat profileBytes (profilesOf b) ≡ b
+    → sheetOf record { profiles = profilesOf b; features = ds } ≡ sheetBytes b ds
+unfolding sheetOf sheetBytes
 sheet-parts b ds four e =
     let n : 4 * (length b / 4) ≡ length b = omega (arith, div-add-mod (length b) 4) in
-    rw (e, length-each (listedIn b) 0 (length b / 4), n)
+    rw (e, length-profilesOf b, n)
 
 module _ (s : List ℕ) (k : captureFault s .number ≡ 0) where
   -- feature 0 stands at byte 8
@@ -57,7 +63,7 @@ module _ (s : List ℕ) (k : captureFault s .number ≡ 0) where
   capture =
       let c = captures s k in
       let e : c .first ∷ c .others ≡ descAt s 8 ∷ behind s =
-      sym (c .holds .found) ∙ wholes-from s (c .holds .read) (c .holds .complete) ∙ from-step s 8 length-first in
+      sym (c .holds .found) ∙ descs-from s (capture-complete s k) ∙ from-step s 8 length-first in
       let x : c .first ≡ descAt s 8 = cc in
       let y : c .others ≡ behind s = cc in
       rw (x, y) at (c .holds)
@@ -80,18 +86,17 @@ module _ (s : List ℕ) (k : captureFault s .number ≡ 0) where
     sheet-is =
         let g : Good (descAt s 8) = all-good bs capture .0 in
         rw (capture .found)
-        (sheet-parts (descAt s 8 .body) (behind s) (g .four) (profiles-back (descAt s 8 .body) (g .bytes) (g .four) (capture .profiles)))
+        (sheet-parts (descAt s 8 .body) (behind s) (g .four) (profiles-back (descAt s 8 .body) (g .bytes) (g .four) (fault-kept (descAt s 8 .body) (capture .profiles))))
 
     length-sheet : length (sheetFrom s) ≡ length s - 8 + 4 * length (behind s)
     length-sheet = omega (arith, ap length sheet-is, length-sheetBytes (descAt s 8 .body) (behind s), sizes)
 
 -- ---- the answer, by the reading r and the refusal x at hand
 
-module _ (s : List ℕ) (r : Reading) (e : r ≡ reading 65534 0 0 s) (x : Refusal) (p : x ≡ captureFault s) where
-  pub import-refused : (d : List ℕ) → (x .number ≡ 0 → ⊥) → outcome record { refusal = x; count = 0 } d ≡ imported s d
-  import-refused d h =
-      ap (λ (y : Refusal). outcome record { refusal = y; count = 0 } d) p
-      ∙ sym (imported-fault s d (λ z. h (ap (λ (y : Refusal). y .number) p ∙ z)))
+module _ (s : List ℕ) (r : Reading) (e : r ≡ completed s) (x : Refusal) (p : x ≡ captureFault s) where
+  pub import-refused : (d : List ℕ) (m : Made) → m ≡ refused x → (x .number ≡ 0 → ⊥) → outcome m d ≡ imported s d
+  unfolding refusing
+  import-refused d m q h = ap (λ (n : Made). outcome n d) (q ∙ ap refused p) ∙ sym (imported-fault s d (λ z. h (ap (λ (y : Refusal). y .number) p ∙ z)))
 
   module _ (h : x .number ≡ 0) where
     none : captureFault s .number ≡ 0
@@ -101,7 +106,7 @@ module _ (s : List ℕ) (r : Reading) (e : r ≡ reading 65534 0 0 s) (x : Refus
     import-eight = omega (arith, length-first s none)
 
     count-is : r .count ≡ suc (length (behind s))
-    count-is = ap (λ (y : Reading). y .count) e ∙ reading-count 65534 0 0 s ∙ ap length (capture s none .found)
+    count-is = ap (λ (y : Reading). y .count) (complete-read s r e (capture-complete s none)) ∙ reading-count 65534 0 0 s ∙ ap length (capture s none .found)
 
     pub import-count : (1 ≤ r .count) × (r .count - 1 < 65536)
     import-count = (omega (arith, count-is), omega (arith, count-is, sizes s none, captured-short s none))
@@ -110,8 +115,9 @@ module _ (s : List ℕ) (r : Reading) (e : r ≡ reading 65534 0 0 s) (x : Refus
       needed : length (sheetFrom s) ≡ length s - 8 + 4 * (r .count - 1)
       needed = omega (arith, length-sheet s none bs, count-is)
 
-      pub import-short : length d < length s - 8 + 4 * (r .count - 1) → outcome record { refusal = refuse 42; count = 0 } d ≡ imported s d
-      import-short l = sym (imported-short s d none (omega (arith, needed)))
+      pub import-short : length d < length s - 8 + 4 * (r .count - 1) → (m : Made) → m ≡ refused (refuse 42) → outcome m d ≡ imported s d
+      unfolding refusing
+      import-short l m q = ap (λ (n : Made). outcome n d) q ∙ sym (imported-short s d none (omega (arith, needed)))
 
       module _ (l : length s - 8 + 4 * (r .count - 1) ≤ length d) where
         pub import-room : Whole s (r .count - 1) d
@@ -122,9 +128,8 @@ module _ (s : List ℕ) (r : Reading) (e : r ≡ reading 65534 0 0 s) (x : Refus
           low = omega (arith, needed, ap length (sheet-is s none bs), captured-short s none, import-count .1);
         }
 
-        pub import-written : {n : ℕ} {f : List ℕ} → Wrote d 0 (sheetBytes (descAt s 8 .body) (behind s)) n f → outcome record { refusal = accept; count = n } f ≡ imported s d
-        import-written {n} {f} w =
+        pub import-written : {n : ℕ} {f : List ℕ} (m : Made) → m ≡ written n → Wrote d 0 (sheetBytes (descAt s 8 .body) (behind s)) n f → outcome m f ≡ imported s d
+        import-written {n} {f} m q w =
             let v : Wrote d 0 (sheetFrom s) n f = rw (sheet-is s none bs) w in
-            let m : length (sheetFrom s) ≤ length d = omega (arith, needed) in
-            let q : n ≡ length (sheetFrom s) = omega (arith, v .next) in
-            ap₂ (λ (c : ℕ) (b : List ℕ). outcome record { refusal = accept; count = c } b) q (front v m) ∙ sym (imported-written s d none m)
+            let k : length (sheetFrom s) ≤ length d = omega (arith, needed) in
+            ap (λ (n : Made). outcome n f) q ∙ written-making k v ∙ sym (imported-written s d none k)

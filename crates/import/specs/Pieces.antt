@@ -1,36 +1,24 @@
 -- The pieces that the inner functions speak of: the features behind feature 0, and a sheet's bytes as they are written. Assumes nothing: these are
 -- definitions.
-use mathlib.Core.List.{List, [], _∷_, _++_}
+use mathlib.Core.List.{List, _++_}
 use mathlib.Core.Path.{_≡_}
 use Prim.Native.Nat.{ℕ, _+_, _*_, _/_, _≤_, _<_}
-use lib.Dec.{eqb}
 use lib.ListN.{length}
 use lib.Seq.{sets}
 use Rattle.base.specs.Lists.{flat}
 use Rattle.fields.specs.Field.{spell}
-use Rattle.text.specs.declared.Refusal.{Refusal}
-use Rattle.text.specs.First.{refuse, accept, _if_else_}
 use Rattle.text.specs.Drive.{Desc}
-use Rattle.text.specs.Reading.{lengthAt, descAt}
-use Rattle.reading.specs.Places.{from}
+use Rattle.text.specs.Reading.{descAt}
+use Rattle.reading.specs.Places.{nextAt, from}
 use Rattle.sheet.specs.Meaning.{contents}
-use Rattle.import.specs.Import.{numberIn}
 
 -- the descriptors behind the first, which starts at byte 8
 abbrev pub behind : (s : List ℕ) → List Desc
-behind s = from s (8 + 4 + lengthAt s 8)
+behind s = from s (nextAt s 8)
 
 -- the bodies of descriptors, one behind the other
 abbrev pub bodies : List Desc → List ℕ
 bodies ds = flat (λ (d : Desc). d .body) ds
-
--- profile j of feature 0's body b has the number of profile i
-abbrev pub sameIn : List ℕ → (i j : ℕ) → Refusal
-sameIn b i j = refuse 3 if eqb (numberIn b j) (numberIn b i) else accept
-
--- a contents entry: number (2), flags, body length, offset (4)
-unfoldable pub entryOf : Desc → (offset : ℕ) → List ℕ
-entryOf d offset = spell 2 (d .number) ++ (d .flags ∷ []) ++ (length (d .body) ∷ []) ++ spell 4 offset
 
 -- the buffer d has room for the entries of the descriptors from `first` on at `entries`, and for their bodies at `body`, which is behind all entries
 pub record Fits (s : List ℕ) (entries body first : ℕ) (d : List ℕ) : Type 0 where

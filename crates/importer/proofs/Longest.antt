@@ -7,16 +7,19 @@ use lib.ListN.{length, drop, length-append}
 use Rattle.base.specs.Lists.{flat, Bytes}
 use Rattle.text.specs.Drive.{Desc, Drive}
 use Rattle.text.specs.Response.{bytes, feature0, selected, full}
-use Rattle.text.specs.Reading.{wholes}
+use Rattle.reading.specs.Places.{descs}
 use Rattle.text.proofs.Profiles.{length-profiles}
 use Rattle.text.proofs.Selection.{asc-above, asc-down, from-all, selected-zero}
 use Rattle.text.proofs.Sizes.{length-bytes, length-full, full-four}
 use Rattle.sheet.specs.Meaning.{Fine}
 use Rattle.sheet.proofs.Longest.{length-sheet}
 use Rattle.import.proofs.Written.{length-bodies}
-use Rattle.import.specs.Import.{captured, captureFault, sheetFrom, writing, unless, imported}
+use Rattle.import.specs.Import.{captured, captureFault, sheetFrom, imported}
+use Rattle.refusal.specs.First.{unless}
+use Rattle.refusal.proofs.First.{unless-none, unless-fault}
+use Rattle.lent.specs.Maker.{refusing, making}
 use Rattle.import.proofs.Capture.{captured-fine, captured-full, captured-short}
-use Rattle.import.proofs.Answers.{unless-none, unless-fault, imported-fault, imported-written}
+use Rattle.import.proofs.Answers.{imported-fault, imported-written}
 
 -- the full response of a drive: the header, feature 0, the other features
 length-all : (m : Drive) → Fine m → length (full 0 0 m) ≡ 8 + (4 + 4 * length (m .profiles)) + length (flat bytes (m .features))
@@ -35,14 +38,14 @@ length-all m f =
 
 -- what import answers with memory of that length: no 42, and a count of bytes that are there
 pub record Answered (s d : List ℕ) : Type 0 where
-  pub whole : imported s d ≡ unless (captureFault s) (writing (sheetFrom s) d) d
-  pub count : imported s d .answer .count ≤ length (imported s d .buffer)
+  pub whole : imported s d ≡ unless (captureFault s) (refusing d) (making (sheetFrom s) d)
+  pub count : imported s d .made .count ≤ length (imported s d .buffer)
 
 module _ (s : List ℕ) (b : Bytes s) where
   sheet-most : captureFault s .number ≡ 0 → length (sheetFrom s) ≤ 131044
   unfolding sheetFrom
   sheet-most e =
-      let m : Drive = captured (wholes 65534 0 0 s) in
+      let m : Drive = captured (descs s) in
       let f : Fine m = captured-fine s b e in
       omega (
         arith,
@@ -55,19 +58,19 @@ module _ (s : List ℕ) (b : Bytes s) where
       )
 
   pub answered : (d : List ℕ) → 131044 ≤ length d → Answered s d
-  unfolding writing
+  unfolding refusing making
   answered d h = go (captureFault s .number) refl
     where
       go : (n : ℕ) → captureFault s .number ≡ n → Answered s d
       go zero e =
           let x = imported-written s d e (omega (arith, sheet-most e)) in
           record {
-            whole = x ∙ sym (unless-none (captureFault s) (writing (sheetFrom s) d) d e);
+            whole = x ∙ sym (unless-none (captureFault s) (refusing d) (making (sheetFrom s) d) e);
             count = rw x (omega (arith, length-append (sheetFrom s) (drop (length (sheetFrom s)) d)));
           }
       go (suc n) e =
           let x = imported-fault s d (λ z. omega arith) in
           record {
-            whole = x ∙ sym (unless-fault (captureFault s) (writing (sheetFrom s) d) d (λ z. omega arith));
+            whole = x ∙ sym (unless-fault (captureFault s) (refusing d) (making (sheetFrom s) d) (λ z. omega arith));
             count = rw x (omega arith);
           }

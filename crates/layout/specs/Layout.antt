@@ -1,8 +1,8 @@
 -- Where a drive sheet's fields stand: counts, contents, profiles, bodies. Assumes nothing: these are definitions.
-use mathlib.Core.List.{List}
+use mathlib.Core.List.{List, [], _∷_, _++_}
 use Prim.Native.Nat.{ℕ, _+_, _*_}
 use lib.ListN.{getD, take, drop}
-use Rattle.fields.specs.Field.{field}
+use Rattle.fields.specs.Field.{field, spell}
 
 -- the head: feature count (2), profile count (2)
 unfoldable pub featureCount : List ℕ → ℕ
@@ -11,12 +11,12 @@ featureCount s = field 2 s 0
 unfoldable pub profileCount : List ℕ → ℕ
 profileCount s = field 2 s 2
 
--- where entry i, the profiles, profile i and the bodies start
+-- where entry i, the profiles and the bodies start
 abbrev pub entryAt : ℕ → ℕ
 entryAt i = 4 + 8 * i
 
-abbrev pub profileAt : List ℕ → ℕ → ℕ
-profileAt s i = 4 + 8 * featureCount s + 4 * i
+abbrev pub profilesAt : List ℕ → ℕ
+profilesAt s = 4 + 8 * featureCount s
 
 abbrev pub bodiesAt : List ℕ → ℕ
 bodiesAt s = 4 + 8 * featureCount s + 4 * profileCount s
@@ -34,16 +34,10 @@ bodyLength s i = getD s (entryAt i + 3) 0
 unfoldable pub offset : List ℕ → ℕ → ℕ
 offset s i = field 4 s (entryAt i + 4)
 
--- profile i: number (2), current (1), zero (1)
-unfoldable pub profile : List ℕ → ℕ → ℕ
-profile s i = field 2 s (profileAt s i)
+-- its bytes
+unfoldable pub entryBytes : (number flags len offset : ℕ) → List ℕ
+entryBytes number flags len offset = spell 2 number ++ (flags ∷ []) ++ (len ∷ []) ++ spell 4 offset
 
-unfoldable pub current : List ℕ → ℕ → ℕ
-current s i = getD s (profileAt s i + 2) 0
-
-unfoldable pub last : List ℕ → ℕ → ℕ
-last s i = getD s (profileAt s i + 3) 0
-
--- all profiles, as they stand
+-- all profiles, as they stand: four bytes each
 unfoldable pub profilesPart : List ℕ → List ℕ
-profilesPart s = take (4 * profileCount s) (drop (profileAt s 0) s)
+profilesPart s = take (4 * profileCount s) (drop (profilesAt s) s)

@@ -1,9 +1,9 @@
-// Where a drive sheet's fields stand: nothing above this crate knows the layout. A field behind the sheet's end reads as 0.
+// Where a drive sheet's fields stand, read and written: nothing above this crate knows the layout of an entry. A field behind the sheet's end reads as 0.
 ghost use mathlib.Core.Path.{_≡_};
 ghost use Rattle.fields.specs.Part.{PartOf};
-ghost use Rattle.layout.specs.Layout.{featureCount, profileCount, bodiesAt, profileAt, number, flags, bodyLength, offset, profile, current, last, profilesPart};
+ghost use Rattle.lent.specs.Wrote.{Wrote};
+ghost use Rattle.layout.specs.Layout.{featureCount, profileCount, bodiesAt, profilesAt, number, flags, bodyLength, offset, entryBytes, profilesPart};
 use text::Feature;
-use text::Profile;
 
 pub fn feature_count(s: &[u8]) -> u16
     ensures { λ r. ⌜ r ≡ featureCount (now (s .entry)) ⌝ }
@@ -49,36 +49,27 @@ pub fn offset_at(s: &[u8], i: u16) -> u32
     fields::get4(s, 4 + 8 * (i as usize) + 4)
 }
 
-// Where profile i starts.
-fn profile_place(s: &[u8], i: u16) -> usize
-    ensures { λ r. ⌜ r ≡ profileAt (now (s .entry)) i ⌝ }
+// Writes an entry, as far as the buffer has room.
+pub fn put_entry(
+    out: &mut [u8],
+    at: usize,
+    number: Feature,
+    flags: u8,
+    len: u8,
+    offset: u32,
+) -> usize
+    ensures { λ r. ⌜ Wrote (now (out .entry)) at (entryBytes (number .0) flags len offset) r (now (out .exit)) ⌝ }
 {
-    4 + 8 * (feature_count(s) as usize) + 4 * (i as usize)
-}
-
-pub fn profile_at(s: &[u8], i: u16) -> Profile
-    ensures { λ r. ⌜ r .0 ≡ profile (now (s .entry)) i ⌝ }
-{
-    Profile(fields::get2(s, profile_place(s, i)))
-}
-
-pub fn current_at(s: &[u8], i: u16) -> u8
-    ensures { λ r. ⌜ r ≡ current (now (s .entry)) i ⌝ }
-{
-    let at = profile_place(s, i);
-    fields::byte(s, at + 2)
-}
-
-pub fn last_at(s: &[u8], i: u16) -> u8
-    ensures { λ r. ⌜ r ≡ last (now (s .entry)) i ⌝ }
-{
-    let at = profile_place(s, i);
-    fields::byte(s, at + 3)
+    let a = lent::put2(out, at, number.0);
+    let b = lent::put(out, a, flags);
+    let c = lent::put(out, b, len);
+    lent::put4(out, c, offset)
 }
 
 // The profiles as they stand, which is as feature 0 sends them.
 pub fn profiles_part(s: &[u8]) -> &[u8]
-    ensures { λ r. ⌜ PartOf (s .entry) (profileAt (now (s .entry)) 0) (profilesPart (now (s .entry))) r ⌝ }
+    ensures { λ r. ⌜ PartOf (s .entry) (profilesAt (now (s .entry))) (profilesPart (now (s .entry))) r ⌝ }
 {
-    fields::part(s, profile_place(s, 0), 4 * (profile_count(s) as usize))
+    let at = 4 + 8 * (feature_count(s) as usize);
+    fields::part(s, at, 4 * (profile_count(s) as usize))
 }

@@ -2,3 +2,4 @@
 pub mod Sets
 pub mod Laws
 pub mod Decides
+pub mod Maker

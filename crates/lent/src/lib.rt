@@ -5,6 +5,36 @@ ghost use mathlib.Core.List.{[], _∷_};
 ghost use lib.ListN.{length, replicate};
 ghost use Rattle.fields.specs.Field.{spell};
 ghost use Rattle.lent.specs.Wrote.{Wrote};
+ghost use Rattle.lent.specs.Maker.{refused, written};
+use refusal::Refusal;
+
+// What a maker answers, a function that writes into lent memory or refuses: the refusal or none, and how many bytes it wrote.
+pub struct Made {
+    pub refusal: Refusal,
+    pub count: usize,
+}
+
+impl Made {
+    // A refusal: nothing was written.
+    pub fn refused(fault: Refusal) -> Made
+        ensures { λ r. ⌜ r ≡ refused fault ⌝ }
+    {
+        Made {
+            refusal: fault,
+            count: 0,
+        }
+    }
+
+    // So many bytes were written.
+    pub fn written(count: usize) -> Made
+        ensures { λ r. ⌜ r ≡ written count ⌝ }
+    {
+        Made {
+            refusal: refusal::ACCEPTED,
+            count: count,
+        }
+    }
+}
 
 // Puts a byte.
 pub fn put(out: &mut [u8], at: usize, b: u8) -> usize

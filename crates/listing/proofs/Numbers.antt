@@ -6,8 +6,8 @@ use mathlib.Core.List.{List}
 use Prim.Native.Nat.{ℕ, zero, suc, _+_, _≤_, _<_}
 use native.Mathlib.Omega.{arith}
 use lib.ListN.{length}
-use Rattle.text.specs.declared.Refusal.{Refusal}
-use Rattle.text.specs.First.{refuse, _if_else_, pickZero, _orElse_}
+use Rattle.refusal.specs.declared.Refusal.{Refusal}
+use Rattle.refusal.specs.First.{refuse, _if_else_, pickZero, _orElse_}
 use Rattle.text.specs.Reading.{statedLength, statedEnd, headerRule, headRule, numberAt, lengthAt, headFault, walk, walked, readFault}
 use Rattle.base.proofs.Compare.{le-or-lt}
 use Rattle.text.proofs.Walk.{walk-few, walk-bad, walk-short, walk-step}

@@ -5,7 +5,8 @@ use Prim.Native.Nat.{ℕ, zero, suc}
 use lib.ListN.{length}
 use Rattle.base.specs.Lists.{flat}
 use Rattle.text.specs.declared.Reading.{Reading}
-use Rattle.text.specs.Reading.{readFault, walked, refused, taken, reading, wholes}
+use Rattle.text.specs.Reading.{readFault, walked, refused, taken, reading}
+use Rattle.reading.specs.Places.{descs}
 use Rattle.text.proofs.Received.{reading-cases}
 use Rattle.listing.specs.Listing.{firstLine, line, lastLine, refusedLine, accepted, listing}
 
@@ -32,7 +33,7 @@ module _ (s : List ℕ) where
         (λ k h. absurd (h refl)))
 
     pub listing-accepted : r .refusal .number ≡ 0
-        → listing s ≡ firstLine (r .profile .0) (length s) (r .count) ++ flat line (wholes 65534 0 0 s) ++ lastLine (r .complete)
+        → listing s ≡ firstLine (r .profile .0) (length s) (r .count) ++ flat line (descs s) ++ lastLine (r .complete)
     unfolding refused taken accepted
     listing-accepted =
         rw q

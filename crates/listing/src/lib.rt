@@ -2,17 +2,17 @@
 ghost use mathlib.Core.Path.{_≡_};
 ghost use mathlib.Core.List.{[], _∷_};
 ghost use Prim.Native.Nat.{_<_};
-ghost use lib.ListN.{length};
 ghost use Rattle.base.specs.Lists.{flat};
 ghost use Rattle.lent.specs.Wrote.{Wrote};
-ghost use Rattle.text.specs.Reading.{numberAt, flagsAt, lengthAt, reading, wholes};
+ghost use Rattle.text.specs.Reading.{numberAt, flagsAt, lengthAt, reading};
+ghost use Rattle.reading.specs.Places.{descs};
 ghost use Rattle.listing.specs.Digits.{hex4, decimal};
 ghost use Rattle.listing.specs.Digits.{digit as Digits·digit};
 ghost use Rattle.listing.specs.Listing.{marks, firstLine, lineOf, line, lastLine, refusedLine, listing};
 ghost use Rattle.listing.specs.Listing.{mark as Listing·mark};
+use refusal::Refusal;
 use text::Feature;
 use text::Profile;
-use text::Refusal;
 
 // No listing is longer: a first line of 17 bytes, 16,381 lines of 15, and `cut`.
 pub const LONGEST: usize = 245736;
@@ -101,14 +101,12 @@ fn put_line(out: &mut [u8], at: usize, feature: Feature, flags: u8, len: u8) -> 
 }
 
 // The line of the descriptor at a place.
-// Asks: a place inside the response; the lines stop at the reading's end.
 fn put_line_at(out: &mut [u8], at: usize, s: &[u8], place: usize) -> usize
-    requires { ⌜ place < length (now s) ⌝ }
     ensures { λ r. ⌜ Wrote (now (out .entry)) at (lineOf (numberAt (now (s .entry)) place) (flagsAt (now (s .entry)) place) (lengthAt (now (s .entry)) place)) r (now (out .exit)) ⌝ }
 {
-    let feature = Feature(fields::get2(s, place));
-    let flags = fields::byte(s, place + 2);
-    let len = fields::byte(s, place + 3);
+    let feature = reading::number_at(s, place);
+    let flags = reading::flags_at(s, place);
+    let len = reading::length_at(s, place);
     put_line(out, at, feature, flags, len)
 }
 
@@ -116,13 +114,13 @@ fn put_line_at(out: &mut [u8], at: usize, s: &[u8], place: usize) -> usize
 // Asks: the end that the reading of this response gave.
 fn put_lines(out: &mut [u8], at: usize, s: &[u8], end: usize) -> usize
     requires { ⌜ end ≡ reading 65534 0 0 (now s) .end ⌝ }
-    ensures { λ r. ⌜ Wrote (now (out .entry)) at (flat line (wholes 65534 0 0 (now (s .entry)))) r (now (out .exit)) ⌝ }
+    ensures { λ r. ⌜ Wrote (now (out .entry)) at (flat line (descs (now (s .entry)))) r (now (out .exit)) ⌝ }
 {
     let mut next = at;
     let mut place: usize = 8;
     while place < end {
         next = put_line_at(out, next, s, place);
-        place += 4 + fields::byte(s, place + 3) as usize;
+        place = reading::next_at(s, place);
     }
     next
 }

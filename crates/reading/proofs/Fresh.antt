@@ -10,7 +10,7 @@ use borrow.Author.Tests.{lt-ltb, le-ltb}
 use Rattle.base.specs.Lists.{flat, keep}
 use Rattle.text.specs.Drive.{Desc}
 use Rattle.text.specs.Response.{bytes}
-use Rattle.text.specs.Reading.{wholes}
+use Rattle.reading.specs.Places.{descs}
 use Rattle.text.proofs.Sizes.{length-bytes}
 use Rattle.reading.specs.Held.{isOf, heldIn, fromFresh, heldOf, source, HeldIn, HeldOf}
 
@@ -28,13 +28,13 @@ module _ (f : ℕ) (fresh part : List ℕ) (q : part ≡ heldIn f fresh) where
   from-fresh : (length part ≡ 0 → ⊥) → fromFresh f fresh ≡ true
   unfolding heldIn fromFresh
   from-fresh h =
-      let ds : List Desc = keep (isOf f) (wholes 65534 0 0 fresh) in
+      let ds : List Desc = keep (isOf f) (descs fresh) in
       lt-ltb 0 (length ds) (some ds (rw (← q) h))
 
   from-kept : length part ≡ 0 → fromFresh f fresh ≡ false
   unfolding heldIn fromFresh
   from-kept h =
-      let ds : List Desc = keep (isOf f) (wholes 65534 0 0 fresh) in
+      let ds : List Desc = keep (isOf f) (descs fresh) in
       let e : length ds ≡ 0 = none ds (rw (← q) h) in
       le-ltb 0 (length ds) (omega arith)
 

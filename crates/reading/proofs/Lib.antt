@@ -1,10 +1,11 @@
 -- Laws that this crate's proofs cite.
+pub mod At
 pub mod Tally
 pub mod Outcome
-pub mod Rest
 pub mod Fresh
 pub mod Lies
 pub mod Places
-pub mod Input
+pub mod Rest
+pub mod Completed
 pub mod Decides
 pub mod Promised

@@ -13,7 +13,7 @@ use Rattle.fields.specs.Part.{Inside}
 use Rattle.fields.proofs.Parts.{part-inside}
 use Rattle.text.specs.Drive.{Desc}
 use Rattle.text.specs.Response.{bytes}
-use Rattle.text.specs.Reading.{wholes}
+use Rattle.reading.specs.Places.{descs}
 use Rattle.text.proofs.Received.{reading-end, reading-within}
 use Rattle.reading.specs.Held.{isOf, isBelow, heldIn, placeIn, fromFresh, heldOf, source, HeldIn, HeldOf}
 
@@ -41,7 +41,7 @@ sizes f (d ∷ ds) = go (isBelow f d) (isOf f d) refl refl (sizes f ds)
 -- a response has all of it
 held-fits : (f : ℕ) (s : List ℕ) → length (heldIn f s) ≤ length s - placeIn f s
 unfolding heldIn placeIn
-held-fits f s = omega (arith, sizes f (wholes 65534 0 0 s), reading-end 65534 0 0 s, reading-within 65534 0 0 s)
+held-fits f s = omega (arith, sizes f (descs s), reading-end 65534 0 0 s, reading-within 65534 0 0 s)
 
 -- r is feature f's descriptor: bytes inside the fresh response where that has it whole, else bytes inside the kept one
 pub record Lies (f : ℕ) (fresh kept r : RefT (List ℕ)) : Type 0 where

@@ -6,10 +6,10 @@ use native.Mathlib.Nat.{zero-add}
 use lib.Dec.{eqb}
 use lib.ListN.{length}
 use Rattle.fields.specs.Field.{field}
-use Rattle.text.specs.declared.Refusal.{Refusal}
-use Rattle.text.specs.First.{accept}
+use Rattle.refusal.specs.declared.Refusal.{Refusal}
+use Rattle.refusal.specs.First.{accept}
 use Rattle.text.specs.Reading.{statedLength, statedProfile, headerRule, walk, walked, readFault, taken, reading, lastNumber}
-use Rattle.text.proofs.First.{orElse-none, orElse-fault, orElse-zero}
+use Rattle.refusal.proofs.First.{orElse-none, orElse-fault, orElse-zero}
 use Rattle.text.proofs.Walk.{headerRule-zero, wholes-refused, wholes-accepted}
 use Rattle.text.proofs.Received.{reading-fault, reading-none}
 use Rattle.reading.specs.declared.Walk.{Walk}

@@ -1,25 +1,25 @@
 -- The search for a feature's descriptor: what is left of it at a place, and what each turn makes of it. Assumes nothing.
-use mathlib.Core.Path.{_≡_, refl, sym, ap, _∙_}
+use mathlib.Core.Path.{_≡_, refl, sym, ap, subst, _∙_}
 use mathlib.Core.Bool.{Bool, true, false}
 use mathlib.Core.List.{List, [], _∷_, _++_, append-nil}
-use Prim.Native.Nat.{ℕ, _+_, _-_, _≤_, _<_}
-use native.Mathlib.Nat.{add-assoc}
+use Prim.Native.Nat.{ℕ, _+_, _≤_, _<_}
 use native.Mathlib.Omega.{arith}
-use lib.ListN.{length, take, drop, getD, length-append}
+use lib.ListN.{length, take, drop, length-append}
 use denote.Ref.{RefT, now}
 use borrow.Author.Tests.{eqb-true, eq-eqb, ne-eqb, lt-ltb, le-ltb}
 use Rattle.base.specs.Lists.{flat, keep, Bytes}
 use Rattle.base.proofs.Lists.{keep-yes, keep-no}
-use Rattle.fields.specs.Field.{field}
 use Rattle.fields.specs.Part.{PartOf}
 use Rattle.fields.proofs.Parts.{part-is}
 use Rattle.text.specs.declared.Reading.{Reading}
 use Rattle.text.specs.Drive.{Desc, Asc}
 use Rattle.text.specs.Response.{bytes}
-use Rattle.text.specs.Reading.{numberAt, lengthAt, descAt, reading, wholes}
-use Rattle.text.proofs.Sizes.{length-bytes}
+use Rattle.text.specs.Reading.{numberAt, lengthAt, descAt, reading}
 use Rattle.text.proofs.Again.{bytes-descAt}
-use Rattle.text.proofs.Received.{Stand, length-descAt, wholes-stand, wholes-asc, reading-end, reading-within}
+use Rattle.text.proofs.Received.{Stand, length-descAt, wholes-stand, wholes-asc, reading-within}
+use Rattle.reading.specs.Places.{nextAt, between}
+use Rattle.reading.proofs.At.{next-is}
+use Rattle.reading.proofs.Places.{left-more, left-none, wholes-between}
 use Rattle.reading.specs.Held.{isOf, isBelow, heldIn, placeIn, HeldIn}
 
 -- of ascending descriptors above f none is f's
@@ -47,137 +47,103 @@ none-below f lo [] l a = refl
 none-below f lo (d ∷ ds) l a =
     keep-no (isBelow f) d ds (le-ltb (d .number) f (omega (arith, a .0))) ∙ none-below f (1 + d .number) ds (omega (arith, a .0)) (a .1)
 
--- what is left of the search at a place: descriptors that stand from there to end
-pub record Rest (f : ℕ) (s : List ℕ) (at end : ℕ) : Type 0 where
+-- what is left of the search at a place: the descriptors ds, which stand there
+pub record Rest (f : ℕ) (s : List ℕ) (at : ℕ) (ds : List Desc) : Type 0 where
   pub all-bytes : Bytes s
   pub lo : ℕ
-  pub ds : List Desc
   pub is : heldIn f s ≡ flat bytes (keep (isOf f) ds)
   pub front : placeIn f s ≡ at + length (flat bytes (keep (isBelow f) ds))
   pub stand : Stand s at ds
   pub asc : Asc lo ds
-  pub ends : end - at ≡ length (flat bytes ds)
 
 module _ (f : ℕ) (s : List ℕ) (r : Reading) (q : r ≡ reading 65534 0 0 s) where
-  pub rest-start : Bytes s → Rest f s 8 (r .end)
+  pub rest-start : Bytes s → Rest f s 8 (between s 8 (r .end))
   unfolding heldIn placeIn
-  rest-start b = record {
-    all-bytes = b;
-    lo = 0;
-    ds = wholes 65534 0 0 s;
-    is = refl;
-    front = refl;
-    stand = wholes-stand 65534 0 0 s;
-    asc = wholes-asc 65534 0 0 s;
-    ends = rw q (reading-end 65534 0 0 s);
-  }
+  rest-start b =
+      subst (Rest f s 8) (rw q (wholes-between s))
+      record {
+        all-bytes = b;
+        lo = 0;
+        is = refl;
+        front = refl;
+        stand = wholes-stand 65534 0 0 s;
+        asc = wholes-asc 65534 0 0 s;
+      }
 
   pub rest-within : r .end ≤ length s
   rest-within = rw q (reading-within 65534 0 0 s)
 
--- the first of those left, and the others
-record More (f : ℕ) (s : List ℕ) (at end : ℕ) : Type 0 where
-  es : List Desc
-  is : heldIn f s ≡ flat bytes (keep (isOf f) (descAt s at ∷ es))
-  front : placeIn f s ≡ at + length (flat bytes (keep (isBelow f) (descAt s at ∷ es)))
-  room : at + 4 + lengthAt s at ≤ length s
-  stand : Stand s (at + 4 + lengthAt s at) es
-  asc : Asc (1 + numberAt s at) es
-  ends : end - at ≡ 4 + lengthAt s at + length (flat bytes es)
-
-module _ (f : ℕ) (s : List ℕ) (at end : ℕ) (r : Rest f s at end) where
-  done : end ≤ at → (at ≡ placeIn f s) × ([] ≡ heldIn f s)
+module _ (f : ℕ) (s : List ℕ) (at : ℕ) where
+  done : Rest f s at [] → (at ≡ placeIn f s) × ([] ≡ heldIn f s)
   unfolding flat keep
-  done h = go (r .ds) (r .is) (r .front) (r .ends)
-    where
-      go : (ds : List Desc) → heldIn f s ≡ flat bytes (keep (isOf f) ds) → placeIn f s ≡ at + length (flat bytes (keep (isBelow f) ds)) → end - at ≡ length (flat bytes ds)
-          → (at ≡ placeIn f s) × ([] ≡ heldIn f s)
-      go [] i p e = (omega (arith, p), sym i)
-      go (d ∷ ds) i p e = absurd (omega (arith, length-append (bytes d) (flat bytes ds), length-bytes d))
+  done r = (omega (arith, r .front), sym (r .is))
 
-  module _ (h : at < end) where
-    more : More f s at end
-    unfolding flat descAt
-    more = go (r .ds) (r .is) (r .front) (r .stand) (r .asc) (r .ends)
-      where
-        go : (ds : List Desc) → heldIn f s ≡ flat bytes (keep (isOf f) ds) → placeIn f s ≡ at + length (flat bytes (keep (isBelow f) ds)) → Stand s at ds → Asc (r .lo) ds
-            → end - at ≡ length (flat bytes ds) → More f s at end
-        go [] i l p a e = absurd (omega arith)
-        go (d ∷ ds) i l p a e = record {
-          es = ds;
-          is = i ∙ ap (λ (x : Desc). flat bytes (keep (isOf f) (x ∷ ds))) (p .0);
-          front = l ∙ ap (λ (x : Desc). at + length (flat bytes (keep (isBelow f) (x ∷ ds)))) (p .0);
-          room = p .1;
-          stand = p .2;
-          asc = rw (p .0) at (a .1);
-          ends = omega (arith, length-append (bytes d) (flat bytes ds), ap (λ (x : Desc). length (bytes x)) (p .0), length-descAt s at (p .1));
-        }
-
-    other : (numberAt s at ≡ f → ⊥) → heldIn f s ≡ flat bytes (keep (isOf f) (more .es))
+  -- one is left, and the others es
+  module _ (es : List Desc) (r : Rest f s at (descAt s at ∷ es)) where
+    above-it : Asc (1 + numberAt s at) es
     unfolding descAt
-    other e = more .is ∙ ap (flat bytes) (keep-no (isOf f) (descAt s at) (more .es) (ne-eqb _ _ e))
+    above-it = r .asc .1
+
+    other : (numberAt s at ≡ f → ⊥) → heldIn f s ≡ flat bytes (keep (isOf f) es)
+    unfolding descAt
+    other e = r .is ∙ ap (flat bytes) (keep-no (isOf f) (descAt s at) es (ne-eqb _ _ e))
 
     -- where the descriptor at the place is not below f, none behind it is
     reached : f ≤ numberAt s at → at ≡ placeIn f s
     unfolding flat descAt
     reached l =
-        let e : keep (isBelow f) (descAt s at ∷ more .es) ≡ [] =
-        keep-no (isBelow f) (descAt s at) (more .es) (le-ltb (numberAt s at) f l) ∙ none-below f (1 + numberAt s at) (more .es) (omega arith) (more .asc) in
-        omega (arith, more .front, ap (λ (x : List Desc). length (flat bytes x)) e)
+        let e : keep (isBelow f) (descAt s at ∷ es) ≡ [] =
+        keep-no (isBelow f) (descAt s at) es (le-ltb (numberAt s at) f l) ∙ none-below f (1 + numberAt s at) es (omega arith) above-it in
+        omega (arith, r .front, ap (λ (x : List Desc). length (flat bytes x)) e)
 
-    passed : numberAt s at < f → placeIn f s ≡ at + (4 + lengthAt s at) + length (flat bytes (keep (isBelow f) (more .es)))
+    here : numberAt s at ≡ f → (at ≡ placeIn f s) × (take (4 + lengthAt s at) (drop at s) ≡ heldIn f s)
     unfolding flat descAt
-    passed l =
-        omega (
-          arith,
-          more .front,
-          ap (λ (x : List Desc). length (flat bytes x)) (keep-yes (isBelow f) (descAt s at) (more .es) (lt-ltb (numberAt s at) f l)),
-          length-append (bytes (descAt s at)) (flat bytes (keep (isBelow f) (more .es))),
-          length-descAt s at (more .room),
-        )
+    here e = (
+      reached (omega arith),
+      sym (
+          r .is
+          ∙ ap (flat bytes) (keep-yes (isOf f) (descAt s at) es (eq-eqb _ _ e))
+          ∙ ap (λ (x : List Desc). bytes (descAt s at) ++ flat bytes x) (keep-above f (1 + numberAt s at) es (omega arith) above-it)
+          ∙ append-nil (bytes (descAt s at))
+          ∙ bytes-descAt s at (r .all-bytes) (r .stand .1)
+          ),
+    )
 
-    -- with the number and the length that the code reads
-    module _ (number len : ℕ) (n : number ≡ field 2 s at) (m : len ≡ getD s (at + 3) 0) where
-      here : number ≡ f → (at ≡ placeIn f s) × (take (4 + len) (drop at s) ≡ heldIn f s)
-      unfolding flat descAt numberAt lengthAt
-      here e =
-          let g : numberAt s at ≡ f = cc in (
-            reached (omega arith),
-            sym (
-                more .is
-                ∙ ap (flat bytes) (keep-yes (isOf f) (descAt s at) (more .es) (eq-eqb _ _ g))
-                ∙ ap (λ (x : List Desc). bytes (descAt s at) ++ flat bytes x) (keep-above f (1 + numberAt s at) (more .es) (omega arith) (more .asc))
-                ∙ append-nil (bytes (descAt s at))
-                ∙ bytes-descAt s at (r .all-bytes) (more .room)
-                ∙ ap (λ (k : ℕ). take (4 + k) (drop at s)) (sym m)
-                ),
-          )
+    above : f < numberAt s at → (at ≡ placeIn f s) × ([] ≡ heldIn f s)
+    unfolding flat
+    above e = (reached (omega arith), sym (other (λ z. omega arith) ∙ ap (flat bytes) (keep-above f (1 + numberAt s at) es (omega arith) above-it)))
 
-      above : f < number → (at ≡ placeIn f s) × ([] ≡ heldIn f s)
-      unfolding flat numberAt
-      above e = (reached (omega arith), sym (other (λ z. omega arith) ∙ ap (flat bytes) (keep-above f (1 + numberAt s at) (more .es) (omega arith) (more .asc))))
+    passed : numberAt s at < f → Rest f s (at + 4 + lengthAt s at) es
+    unfolding flat descAt
+    passed l = record {
+      all-bytes = r .all-bytes;
+      lo = 1 + numberAt s at;
+      is = other (λ z. omega arith);
+      front = omega (
+        arith,
+        r .front,
+        ap (λ (x : List Desc). length (flat bytes x)) (keep-yes (isBelow f) (descAt s at) es (lt-ltb (numberAt s at) f l)),
+        length-append (bytes (descAt s at)) (flat bytes (keep (isBelow f) es)),
+        length-descAt s at (r .stand .1),
+      );
+      stand = r .stand .2;
+      asc = above-it;
+    }
 
-      pub rest-next : (number ≡ f → ⊥) → number ≤ f → Rest f s (at + (4 + len)) end
-      unfolding numberAt lengthAt
-      rest-next e l = record {
-        all-bytes = r .all-bytes;
-        lo = 1 + numberAt s at;
-        ds = more .es;
-        is = other (rw (← n) e);
-        front = rw m (passed (omega arith));
-        stand = rw (m, ← add-assoc) (more .stand);
-        asc = more .asc;
-        ends = omega (arith, more .ends);
-      }
+-- at each turn of the search, with the number that the code reads: the part that is handed back, or what is left
+module _ (f : ℕ) (s : RefT (List ℕ)) (at end : ℕ) (q : Rest f (now s) at (between (now s) at end)) where
+  pub rest-end : (r : RefT (List ℕ)) → end ≤ at → PartOf s at (take 0 (drop at (now s))) r → HeldIn f s r
+  rest-end r h p = part-is p (done f (now s) at (left-none (now s) at end (Rest f (now s) at) q h))
 
--- the part that is handed back at each end of the search
-module _ (f : ℕ) (s : RefT (List ℕ)) (at end : ℕ) (q : Rest f (now s) at end) (r : RefT (List ℕ)) where
-  pub rest-end : end ≤ at → PartOf s at (take 0 (drop at (now s))) r → HeldIn f s r
-  rest-end h p = part-is p (done f (now s) at end q h)
+  module _ (h : at < end) (number : ℕ) (n : number ≡ numberAt (now s) at) where
+    first : Rest f (now s) at (descAt (now s) at ∷ between (now s) (at + 4 + lengthAt (now s) at) end)
+    first = left-more (now s) at end (Rest f (now s) at) q _ h refl
 
-  module _ (h : at < end) (number len : ℕ) (n : number ≡ field 2 (now s) at) (m : len ≡ getD (now s) (at + 3) 0) where
-    pub rest-here : number ≡ f → PartOf s at (take (4 + len) (drop at (now s))) r → HeldIn f s r
-    rest-here e p = part-is p (here f (now s) at end q h number len n m e)
+    pub rest-here : (r : RefT (List ℕ)) (len : ℕ) → number ≡ f → len ≡ lengthAt (now s) at → PartOf s at (take (4 + len) (drop at (now s))) r → HeldIn f s r
+    rest-here r len e m p = part-is p (rw m (here f (now s) at _ first (sym n ∙ e)))
 
-    pub rest-above : f < number → PartOf s at (take 0 (drop at (now s))) r → HeldIn f s r
-    rest-above e p = part-is p (above f (now s) at end q h number len n m e)
+    pub rest-above : (r : RefT (List ℕ)) → f < number → PartOf s at (take 0 (drop at (now s))) r → HeldIn f s r
+    rest-above r e p = part-is p (above f (now s) at _ first (omega arith))
+
+    pub rest-next : (next : ℕ) → (number ≡ f → ⊥) → number ≤ f → end ≤ length (now s) → next ≡ nextAt (now s) at → Rest f (now s) next (between (now s) next end)
+    rest-next next e l k m = rw (next-is (now s) at next (omega arith) m) (passed f (now s) at _ first (omega arith))

@@ -9,7 +9,7 @@ use Rattle.base.specs.Lists.{flat, keep}
 use Rattle.fields.specs.Part.{PartOf}
 use Rattle.text.specs.Drive.{Desc}
 use Rattle.text.specs.Response.{bytes}
-use Rattle.text.specs.Reading.{wholes}
+use Rattle.reading.specs.Places.{descs}
 
 -- a descriptor of feature f
 abbrev pub isOf : ℕ → Desc → Bool
@@ -21,11 +21,11 @@ isBelow f d = ltb (d .number) f
 
 -- the bytes of feature f's descriptor in a response to RT 0 from 0: none where the response is refused or does not have it whole
 unfoldable pub heldIn : (f : ℕ) (s : List ℕ) → List ℕ
-heldIn f s = flat bytes (keep (isOf f) (wholes 65534 0 0 s))
+heldIn f s = flat bytes (keep (isOf f) (descs s))
 
 -- where it stands: behind the header and the whole descriptors of lower features. Where the response does not have it, it would stand there
 unfoldable pub placeIn : (f : ℕ) (s : List ℕ) → ℕ
-placeIn f s = 8 + length (flat bytes (keep (isBelow f) (wholes 65534 0 0 s)))
+placeIn f s = 8 + length (flat bytes (keep (isBelow f) (descs s)))
 
 -- r is that descriptor as a part of the response s
 abbrev pub HeldIn : (f : ℕ) (s r : RefT (List ℕ)) → Type 0
@@ -33,7 +33,7 @@ HeldIn f s r = PartOf s (placeIn f (now s)) (heldIn f (now s)) r
 
 -- the fresh response has it whole
 unfoldable pub fromFresh : (f : ℕ) (fresh : List ℕ) → Bool
-fromFresh f fresh = ltb 0 (length (keep (isOf f) (wholes 65534 0 0 fresh)))
+fromFresh f fresh = ltb 0 (length (keep (isOf f) (descs fresh)))
 
 -- that of the fresh response if whole there, else that of the kept one
 unfoldable pub heldOf : (f : ℕ) (fresh kept : List ℕ) → List ℕ

@@ -3,8 +3,8 @@ use mathlib.Core.List.{List, [], _∷_}
 use Prim.Native.Nat.{ℕ, zero, suc, _+_}
 use lib.ListN.{length}
 use Rattle.base.specs.Lists.{flat}
-use Rattle.text.specs.declared.Refusal.{Refusal}
-use Rattle.text.specs.First.{accept}
+use Rattle.refusal.specs.declared.Refusal.{Refusal}
+use Rattle.refusal.specs.First.{accept}
 use Rattle.text.specs.Drive.{Desc}
 use Rattle.text.specs.Response.{bytes}
 use Rattle.text.specs.Reading.{Walked, numberAt, lengthAt, headFault, refused, reading, wholes, lastNumber}

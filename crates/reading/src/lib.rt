@@ -1,18 +1,21 @@
 // The driver reads a response.
 ghost use mathlib.Core.Path.{_≡_};
 ghost use mathlib.Core.Bool.{not, _&&_};
-ghost use Prim.Native.Nat.{_≤_};
+ghost use Prim.Native.Nat.{_+_, _≤_};
 ghost use lib.Dec.{eqb};
 ghost use lib.ListN.{length};
+ghost use Rattle.fields.specs.Part.{PartOf};
 ghost use Rattle.text.specs.Flags.{current};
-ghost use Rattle.text.specs.Reading.{headerRule, headRule, walk, reading};
+ghost use Rattle.text.specs.Reading.{headerRule, headRule, numberAt, flagsAt, lengthAt, descAt, walk, reading};
+ghost use Rattle.reading.specs.Places.{nextAt};
 ghost use Rattle.reading.specs.Scan.{scanned, refusal, headAt, tally};
+ghost use Rattle.reading.specs.Completed.{completed};
 ghost use Rattle.reading.specs.Held.{HeldIn, HeldOf};
+use refusal::Refusal;
 use text::Feature;
 use text::Header;
 use text::Profile;
 use text::Reading;
-use text::Refusal;
 
 // A reading, and the number of its last whole descriptor.
 pub struct Scanned {
@@ -35,33 +38,80 @@ struct Walk {
     last: Feature,
 }
 
+// ---- a descriptor at a place; behind the end of s there is an empty one whose fields are 0
+
+pub fn number_at(s: &[u8], at: usize) -> Feature
+    ensures { λ r. ⌜ r .0 ≡ numberAt (now (s .entry)) at ⌝ }
+{
+    Feature(fields::get2(s, at))
+}
+
+pub fn flags_at(s: &[u8], at: usize) -> u8
+    ensures { λ r. ⌜ r ≡ flagsAt (now (s .entry)) at ⌝ }
+{
+    if s.len() <= at {
+        return 0;
+    }
+    fields::byte(s, at + 2)
+}
+
+// Additional Length.
+pub fn length_at(s: &[u8], at: usize) -> u8
+    ensures { λ r. ⌜ r ≡ lengthAt (now (s .entry)) at ⌝ }
+{
+    if s.len() <= at {
+        return 0;
+    }
+    fields::byte(s, at + 3)
+}
+
+// The place behind the descriptor, which is the place of the next one.
+pub fn next_at(s: &[u8], at: usize) -> usize
+    ensures { λ r. ⌜ r ≡ nextAt (now (s .entry)) at ⌝ }
+{
+    if s.len() <= at {
+        return at;
+    }
+    at + 4 + length_at(s, at) as usize
+}
+
+// The body, as far as it was received.
+pub fn body_at(s: &[u8], at: usize) -> &[u8]
+    ensures { λ r. ⌜ PartOf (s .entry) (at + 4) (descAt (now (s .entry)) at .body) r ⌝ }
+{
+    if s.len() <= at {
+        return fields::part(s, at, 0);
+    }
+    fields::part(s, at + 4, length_at(s, at) as usize)
+}
+
 // ---- the rules, on numbers
 
 fn header_rule(limit: usize, rt: u8, received: usize, stated: u32) -> Refusal
     ensures { λ r. ⌜ r ≡ headerRule limit rt received stated ⌝ }
 {
     if rt > 2 {
-        return text::READING_RT_BAD;
+        return refusal::READING_RT_BAD;
     }
     if received < Header::LENGTH {
-        return text::RECEIVED_BAD;
+        return refusal::RECEIVED_BAD;
     }
     if received > Header::RETURN_LIMIT {
-        return text::RECEIVED_BAD;
+        return refusal::RECEIVED_BAD;
     }
     if stated < 4 {
-        return text::STATED_BAD;
+        return refusal::STATED_BAD;
     }
     if stated % 4 != 0 {
-        return text::STATED_BAD;
+        return refusal::STATED_BAD;
     }
     if stated as usize + 4 < received {
-        return text::RECEIVED_MORE;
+        return refusal::RECEIVED_MORE;
     }
     if limit < received {
-        return text::RECEIVED_MORE;
+        return refusal::RECEIVED_MORE;
     }
-    text::ACCEPTED
+    refusal::ACCEPTED
 }
 
 // RT 2: not the feature that was asked for.
@@ -100,21 +150,21 @@ fn head_rule(
     ensures { λ r. ⌜ r ≡ headRule rt (sfn .0) end lo at (number .0) flags len ⌝ }
 {
     if len % 4 != 0 {
-        return text::ADDITIONAL_BAD;
+        return refusal::ADDITIONAL_BAD;
     }
     if (number.0 as u32) < lo {
-        return text::FEATURE_BAD;
+        return refusal::FEATURE_BAD;
     }
     if other_feature(rt, sfn, number) {
-        return text::FEATURE_BAD;
+        return refusal::FEATURE_BAD;
     }
     if not_current(rt, flags) {
-        return text::NOT_CURRENT;
+        return refusal::NOT_CURRENT;
     }
     if end < at + 4 + len as usize {
-        return text::ENDS_BEYOND;
+        return refusal::ENDS_BEYOND;
     }
-    text::ACCEPTED
+    refusal::ACCEPTED
 }
 
 // ---- the walk
@@ -125,9 +175,9 @@ fn head_at(rt: u8, sfn: Feature, end: usize, s: &[u8], lo: u32, at: usize) -> He
     requires { ⌜ at ≤ 65534 ⌝ }
     ensures { λ r. ⌜ r ≡ headAt rt (sfn .0) end (now (s .entry)) lo at ⌝ }
 {
-    let number = Feature(fields::get2(s, at));
-    let flags = fields::byte(s, at + 2);
-    let len = fields::byte(s, at + 3);
+    let number = number_at(s, at);
+    let flags = flags_at(s, at);
+    let len = length_at(s, at);
     let fault = head_rule(rt, sfn, end, lo, at, number, flags, len);
     Head { number, len, fault }
 }
@@ -156,7 +206,7 @@ fn walk_over(rt: u8, sfn: Feature, end: usize, s: &[u8]) -> Walk
         let next = at + 4 + head.len as usize;
         if s.len() < next {
             return Walk {
-                fault: text::ACCEPTED,
+                fault: refusal::ACCEPTED,
                 count,
                 end: at,
                 last,
@@ -168,7 +218,7 @@ fn walk_over(rt: u8, sfn: Feature, end: usize, s: &[u8]) -> Walk
         count += 1;
     }
     Walk {
-        fault: text::ACCEPTED,
+        fault: refusal::ACCEPTED,
         count,
         end: at,
         last,
@@ -212,7 +262,7 @@ pub fn scan(limit: usize, rt: u8, sfn: Feature, s: &[u8]) -> Scanned
     let last = walk.last;
     Scanned {
         reading: Reading {
-            refusal: text::ACCEPTED,
+            refusal: refusal::ACCEPTED,
             profile: Profile(fields::get2(s, 6)),
             data_length: stated,
             count: walk.count,
@@ -231,6 +281,22 @@ pub fn read(rt: u8, sfn: Feature, s: &[u8]) -> Reading
     scan.reading
 }
 
+// The reading of a response to RT 0 from 0 that has to be complete: one that is cut is refused.
+pub fn complete(s: &[u8]) -> Reading
+    ensures { λ r. ⌜ r ≡ completed (now (s .entry)) ⌝ }
+{
+    let reading = read(0, Feature(0), s);
+    let fault = reading.refusal;
+    if fault.number != 0 {
+        return reading;
+    }
+    if !reading.complete {
+        let cut = refusing(refusal::RESPONSE_CUT);
+        return cut.reading;
+    }
+    reading
+}
+
 // ---- fresh or kept
 
 // The descriptor of a feature as a part of a response to RT 0 from 0, empty where the response is refused or does not have it whole.
@@ -241,15 +307,14 @@ fn held_in(feature: Feature, s: &[u8]) -> &[u8]
     let end = reading.end;
     let mut at: usize = 8;
     while at < end {
-        let number = fields::get2(s, at);
-        let size = 4 + fields::byte(s, at + 3) as usize;
-        if number == feature.0 {
-            return fields::part(s, at, size);
+        let number = number_at(s, at);
+        if number.0 == feature.0 {
+            return fields::part(s, at, 4 + length_at(s, at) as usize);
         }
-        if number > feature.0 {
+        if number.0 > feature.0 {
             return fields::part(s, at, 0);
         }
-        at += size;
+        at = next_at(s, at);
     }
     fields::part(s, at, 0)
 }

@@ -19,8 +19,8 @@ use Rattle.layout.specs.Layout.{featureCount, number, flags}
 use Rattle.sheet.specs.Facts.{Facts}
 use Rattle.sheet.specs.Meaning.{desc, meaning}
 use Rattle.sheet.proofs.Accepted.{ascending}
-use Rattle.responder.specs.Index.{wantedEnd, skips, piece, pieces}
-use Rattle.responder.proofs.Bisection.{First}
+use Rattle.responder.specs.inner.Index.{wantedEnd, skips, piece, pieces}
+use Rattle.sheet.proofs.Bisection.{First}
 use Rattle.responder.proofs.Entries.{entry-bytes}
 
 -- ---- what is not passed over

@@ -10,7 +10,7 @@ use Rattle.layout.specs.Layout.{featureCount, bodyLength, offset}
 use Rattle.sheet.specs.Facts.{Facts}
 use Rattle.sheet.specs.Meaning.{desc}
 use Rattle.sheet.proofs.Meaning.{body-length}
-use Rattle.responder.specs.Index.{entryBytes}
+use Rattle.responder.specs.inner.Index.{entryBytes}
 
 module _ {s : List ℕ} (f : Facts s) where
   pub entry-bytes : (i : ℕ) → i < featureCount s → entryBytes s i ≡ bytes (desc s i)

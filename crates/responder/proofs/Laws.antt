@@ -1,21 +1,19 @@
 -- The response by index, case by case and turn by turn: what the box's functions and loops need. Assumes nothing.
-use mathlib.Core.Path.{_≡_, refl, sym, ap, _∙_}
-use mathlib.Core.Bool.{Bool, true, false}
-use mathlib.Core.List.{List, [], _∷_, _++_}
+use mathlib.Core.Path.{_≡_, refl, ap, _∙_}
+use mathlib.Core.Bool.{true, false}
+use mathlib.Core.List.{List, [], _++_}
 use Prim.Native.Nat.{ℕ, zero, suc, _+_, _-_, _*_, _≤_, _<_}
 use native.Mathlib.Nat.{add-zero, add-suc}
-use native.Mathlib.Numerals.{add-one}
 use native.Mathlib.Omega.{arith}
 use lib.ListN.{length}
-use lib.Dec.{ltb, eqb}
 use borrow.Author.Tests.{lt-ltb, le-ltb, eq-eqb, ne-eqb}
 use Rattle.base.specs.Lists.{Bytes}
 use Rattle.fields.proofs.Laws.{field-lt}
 use Rattle.lent.specs.Wrote.{Wrote}
-use Rattle.lent.proofs.Laws.{nowhere, then, kept}
-use Rattle.layout.specs.Layout.{featureCount, profileCount, entryAt, number, flags, bodyLength, offset, profile, current}
+use Rattle.lent.proofs.Laws.{nowhere, then}
+use Rattle.layout.specs.Layout.{featureCount, profileCount, entryAt, number, flags, bodyLength, offset}
 use Rattle.sheet.specs.Check.{endBefore}
-use Rattle.responder.specs.Index.{wantedEnd, skips, entryBytes, piece, pieces, pieceSize, piecesSize, span, entriesSize, zeroBytes, zeroPart, zeroSize, currentFrom}
+use Rattle.responder.specs.inner.Index.{wantedEnd, skips, entryBytes, piece, pieces, pieceSize, piecesSize, span, entriesSize, zeroBytes, zeroPart, zeroSize}
 
 -- ---- one entry
 
@@ -131,29 +129,6 @@ module _ (s : List ℕ) (sfn : ℕ) where
   pub zero-size-left : (sfn ≡ 0 → ⊥) → zeroSize s sfn ≡ 0
   unfolding zeroSize
   zero-size-left e = rw (ne-eqb sfn 0 e, zeroSize)
-
--- ---- the current profile: a loop at index i of p
-
-module _ (s : List ℕ) where
-  pub current-here : (i k : ℕ) → current s i ≡ 1 → currentFrom s i (suc k) ≡ profile s i
-  unfolding currentFrom
-  current-here i k e = rw (eq-eqb (current s i) 1 e, currentFrom)
-
-  pub current-on : (i k : ℕ) → (current s i ≡ 1 → ⊥) → currentFrom s i (suc k) ≡ currentFrom s (suc i) k
-  unfolding currentFrom
-  current-on i k e = rw (ne-eqb (current s i) 1 e, currentFrom)
-
-  pub current-found : (p i r : ℕ) → currentFrom s 0 p ≡ currentFrom s i (p - i) → i < p → current s i ≡ 1 → r ≡ profile s i → r ≡ currentFrom s 0 p
-  current-found p i r e h k q =
-      q ∙ sym (e ∙ ap (currentFrom s i) {x = p - i} {y = suc (p - suc i)} (omega arith) ∙ current-here i (p - suc i) k)
-
-  pub current-more : (p i : ℕ) → currentFrom s 0 p ≡ currentFrom s i (p - i) → i < p → (current s i ≡ 1 → ⊥) → currentFrom s 0 p ≡ currentFrom s (i + 1) (p - (i + 1))
-  current-more p i e h k =
-      e ∙ ap (currentFrom s i) {x = p - i} {y = suc (p - suc i)} (omega arith) ∙ current-on i (p - suc i) k ∙ rw add-one
-
-  pub current-end : (p i : ℕ) → currentFrom s 0 p ≡ currentFrom s i (p - i) → p ≤ i → 0 ≡ currentFrom s 0 p
-  unfolding currentFrom
-  current-end p i e h = sym (e ∙ ap (currentFrom s i) {x = p - i} {y = 0} (omega arith))
 
 -- ---- an end of a body takes little more than four bytes
 

@@ -1,10 +1,8 @@
 -- Laws that this crate's proofs and those above it cite.
 pub mod Laws
-pub mod Bisection
 pub mod Entries
 pub mod Zero
 pub mod Chosen
 pub mod Sizes
 pub mod Full
-pub mod Answers
 pub mod Trusting

@@ -13,7 +13,7 @@ use Rattle.layout.specs.Layout.{featureCount, flags, bodyLength}
 use Rattle.sheet.specs.Check.{endBefore, Accepted}
 use Rattle.sheet.specs.Facts.{Facts}
 use Rattle.sheet.proofs.Accepted.{end-next, end-rises}
-use Rattle.responder.specs.Index.{skips, piece, pieces, pieceSize, piecesSize, span, entriesSize, zeroPart, zeroSize}
+use Rattle.responder.specs.inner.Index.{skips, piece, pieces, pieceSize, piecesSize, span, entriesSize, zeroPart, zeroSize}
 use Rattle.responder.proofs.Entries.{length-entryBytes}
 use Rattle.responder.proofs.Zero.{length-zeroBytes}
 use Rattle.responder.proofs.Chosen.{skips-none}

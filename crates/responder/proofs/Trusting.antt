@@ -10,48 +10,52 @@ use borrow.Author.Tests.{lt-ltb, le-ltb}
 use Rattle.base.specs.Lists.{Bytes}
 use Rattle.base.proofs.Lists.{take-prefix}
 use Rattle.lent.specs.Wrote.{Wrote}
+use Rattle.lent.specs.declared.Made.{Made}
+use Rattle.lent.specs.Maker.{outcome, refused, written, refusing, making, makes}
 use Rattle.lent.proofs.Laws.{cut}
+use Rattle.lent.proofs.Maker.{written-making, refused-unless, makes-after}
 use Rattle.text.specs.declared.Header.{Header}
-use Rattle.text.specs.First.{refuse, accept, _if_else_}
+use Rattle.refusal.specs.declared.Refusal.{Refusal}
+use Rattle.refusal.specs.First.{refuse, accept, _if_else_, _orElse_, unless}
 use Rattle.text.specs.Command.{commandFault, rtOf, sfnOf, allocationOf, headerOf}
-use Rattle.text.specs.Response.{full, sent}
-use Rattle.text.proofs.First.{if-true, if-false}
+use Rattle.text.specs.Response.{currentProfile, full, sent}
+use Rattle.refusal.proofs.First.{if-true, if-false, orElse-none, orElse-accept, unless-none}
 use Rattle.text.proofs.Sent.{length-sent}
-use Rattle.layout.specs.Layout.{profileCount}
-use Rattle.sheet.specs.Check.{Accepted}
+use Rattle.profiles.specs.Profiles.{profilesOf}
+use Rattle.layout.specs.Layout.{profilesPart}
+use Rattle.sheet.specs.Check.{verdict, Accepted}
 use Rattle.sheet.specs.Meaning.{meaning}
 use Rattle.responder.specs.declared.Plan.{Plan}
-use Rattle.responder.specs.Answer.{Outcome, outcome, sending, unless, roomRule, requested, commanded}
-use Rattle.responder.specs.Index.{currentFrom, plan, fullBytes}
-use Rattle.responder.specs.Trusting.{found, limit, trusting, trustingCommand}
-use Rattle.responder.proofs.Answers.{unless-none, unless-fault, sending-sent}
+use Rattle.responder.specs.Answer.{due, requested, commanded, answered}
+use Rattle.responder.specs.inner.Index.{plan, fullBytes}
+use Rattle.responder.specs.Trusting.{foundBytes, limit, trusting, trustingCommand}
 use Rattle.responder.proofs.Full.{found-length, found-full}
 
 -- ---- sending from a plan
 
 module _ (s : List ℕ) (rt sfn a : ℕ) (d : List ℕ) (p : Plan) (is-plan : p ≡ plan s rt sfn) (n : ℕ) (is : n ≡ min (min a 65534) (8 + p .size)) where
-  due : n ≡ limit s rt sfn a
+  is-limit : n ≡ limit s rt sfn a
   unfolding limit plan
-  due = is ∙ ap (λ (q : Plan). min (min a 65534) (8 + q .size)) is-plan
+  is-limit = is ∙ ap (λ (q : Plan). min (min a 65534) (8 + q .size)) is-plan
 
-  pub send-short : length d < n → outcome record { refusal = refuse 12; count = 0 } d ≡ trusting s rt sfn a d
+  pub send-short : length d < n → (m : Made) → m ≡ refused (refuse 12) → outcome m d ≡ trusting s rt sfn a d
   unfolding trusting
-  send-short h =
-      rw (← due, lt-ltb (length d) n h, if-true)
-      (unless-fault (refuse 12) (sending (take n (found s rt sfn)) d) d (λ e. omega arith))
+  send-short h m e =
+      rw (← is-limit, lt-ltb (length d) n h, if-true) (refused-unless (making (take n (foundBytes s rt sfn)) d) e refl (λ z. omega arith))
 
-  pub send-sent : (h : Header) (profile count : ℕ) (e : List ℕ) → n ≤ length d → profile ≡ currentFrom s 0 (profileCount s) → h ≡ headerOf ((p .size + 4) % 2 ^ 32) profile
+  pub send-sent : (h : Header) (profile count : ℕ) (e : List ℕ) (m : Made) → m ≡ written count → n ≤ length d → profile ≡ currentProfile (profilesOf (profilesPart s)) → h ≡ headerOf ((p .size + 4) % 2 ^ 32) profile
       → Wrote (take n d) 0 (fullBytes s rt sfn (p .from) (p .to) (h .data_length) (h .profile .0)) count e
-      → outcome record { refusal = accept; count = count } (e ++ drop n d) ≡ trusting s rt sfn a d
-  unfolding trusting found plan headerOf
-  send-sent h profile count e room is-current is-header w =
-      let same : fullBytes s rt sfn (p .from) (p .to) (h .data_length) (h .profile .0) ≡ found s rt sfn =
+      → outcome m (e ++ drop n d) ≡ trusting s rt sfn a d
+  unfolding trusting foundBytes plan headerOf
+  send-sent h profile count e m made room is-current is-header w =
+      let same : fullBytes s rt sfn (p .from) (p .to) (h .data_length) (h .profile .0) ≡ foundBytes s rt sfn =
       ap (λ (g : Header). fullBytes s rt sfn (p .from) (p .to) (g .data_length) (g .profile .0)) is-header
       ∙ ap (fullBytes s rt sfn (p .from) (p .to) ((p .size + 4) % 2 ^ 32)) is-current
-      ∙ ap (λ (q : Plan). fullBytes s rt sfn (q .from) (q .to) ((q .size + 4) % 2 ^ 32) (currentFrom s 0 (profileCount s))) is-plan in
-      let xs = take n (found s rt sfn) in
-      rw (← due, le-ltb (length d) n room, if-false)
-      (sending-sent (omega (arith, length-take n (found s rt sfn))) (cut room (rw same at w)) ∙ sym (unless-none accept (sending xs d) d refl))
+      ∙ ap (λ (q : Plan). fullBytes s rt sfn (q .from) (q .to) ((q .size + 4) % 2 ^ 32) (currentProfile (profilesOf (profilesPart s)))) is-plan in
+      let xs = take n (foundBytes s rt sfn) in
+      rw (← is-limit, le-ltb (length d) n room, if-false)
+      (ap (λ (k : Made). outcome k (e ++ drop n d)) made
+      ∙ written-making (omega (arith, length-take n (foundBytes s rt sfn))) (cut room (rw same at w)) ∙ sym (unless-none accept (refusing d) (making xs d) refl))
 
 -- ---- from an accepted sheet
 
@@ -60,15 +64,26 @@ module _ (s : List ℕ) (b : Bytes s) (ok : Accepted s) where
   unfolding limit
   limit-sent rt sfn a = sym (length-sent rt sfn a (meaning s) ∙ ap (min (min a 65534)) (found-length s rt sfn b ok))
 
-  found-sent : (rt sfn a : ℕ) → take (limit s rt sfn a) (found s rt sfn) ≡ sent rt sfn a (meaning s)
+  found-sent : (rt sfn a : ℕ) → take (limit s rt sfn a) (foundBytes s rt sfn) ≡ sent rt sfn a (meaning s)
   unfolding sent
   found-sent rt sfn a = ap₂ take (limit-sent rt sfn a) (found-full s rt sfn b ok) ∙ sym (take-prefix (min a 65534) (full rt sfn (meaning s)))
 
   pub trusting-accepted : (rt sfn a : ℕ) (d : List ℕ) → trusting s rt sfn a d ≡ requested s rt sfn a d
-  unfolding trusting requested roomRule
+  unfolding trusting requested makes
   trusting-accepted rt sfn a d =
-      ap₂ (λ (n : ℕ) (xs : List ℕ). unless (refuse 12 if ltb (length d) n else accept) (sending xs d) d) (limit-sent rt sfn a) (found-sent rt sfn a)
+      ap₂ (λ (n : ℕ) (xs : List ℕ). unless (refuse 12 if ltb (length d) n else accept) (refusing d) (making xs d)) (limit-sent rt sfn a) (found-sent rt sfn a)
+      ∙ ap (λ (r : Refusal). unless r (refusing d) (making (sent rt sfn a (meaning s)) d)) (sym (orElse-none accept _ refl))
 
   pub trusting-commanded : (c d : List ℕ) → trustingCommand s c d ≡ commanded s c d
-  unfolding trustingCommand commanded
-  trusting-commanded c d = ap (λ (x : Outcome). unless (commandFault c) x d) (trusting-accepted (rtOf c) (sfnOf c) (allocationOf c) d)
+  unfolding trustingCommand commanded requested
+  trusting-commanded c d =
+      ap (unless (commandFault c) (refusing d)) (trusting-accepted (rtOf c) (sfnOf c) (allocationOf c) d)
+      ∙ sym (makes-after (commandFault c) accept 12 (due s c) d)
+      ∙ ap (λ (r : Refusal). makes r 12 (due s c) d) (orElse-accept (commandFault c))
+
+-- ---- the checked entry
+
+-- the sheet's refusal, or what the command is answered
+pub answered-after : (s c d : List ℕ) → answered s c d ≡ unless (verdict s) (refusing d) (commanded s c d)
+unfolding answered commanded
+answered-after s c d = makes-after (verdict s) (commandFault c) 12 (due s c) d

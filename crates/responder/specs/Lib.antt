@@ -1,3 +1,3 @@
 pub mod Answer
-pub mod Index
 pub mod Trusting
+pub mod inner

@@ -4,62 +4,16 @@ ghost use mathlib.Core.List.{_++_};
 ghost use Prim.Native.Nat.{_+_, _-_, _*_, _%_, _^_, _≤_, _<_, min};
 ghost use Rattle.lent.specs.Wrote.{Wrote};
 ghost use Rattle.text.specs.Response.{header};
-ghost use Rattle.layout.specs.Layout.{profileCount};
-ghost use Rattle.responder.specs.Answer.{outcome, answered};
+ghost use Rattle.lent.specs.Maker.{outcome};
+ghost use Rattle.responder.specs.Answer.{answered};
 ghost use Rattle.responder.specs.Trusting.{trusting, trustingCommand};
-ghost use Rattle.responder.specs.Index.{half, firstFrom, wantedEnd, skips, entryBytes, piece, pieces, pieceSize, piecesSize, span, entriesSize, zeroBytes, zeroPart, zeroSize, currentFrom, plan, fullBytes};
+ghost use Rattle.responder.specs.inner.Index.{wantedEnd, skips, entryBytes, piece, pieces, pieceSize, piecesSize, span, entriesSize, zeroBytes, zeroPart, zeroSize, plan, fullBytes};
+use lent::Made;
 use text::Command;
 use text::Feature;
 use text::Header;
-use text::Profile;
-use text::Refusal;
-
-// What a command is answered: the refusal or none, and how many bytes were sent.
-pub struct Reply {
-    pub refusal: Refusal,
-    pub count: usize,
-}
 
 // ---- which entries are wanted
-
-struct Range {
-    low: u16,
-    high: u16,
-}
-
-// The half of a range where the first entry numbered sfn or more is.
-// Asks: a range that is not empty; the bisection stops at an empty one.
-fn halved(s: &[u8], sfn: Feature, low: u16, high: u16) -> Range
-    requires { ⌜ low < high ⌝ }
-    ensures { λ r. ⌜ r ≡ half (now (s .entry)) (sfn .0) low high ⌝ }
-{
-    let middle = low + (high - low) / 2;
-    let feature = layout::feature_at(s, middle);
-    if feature.0 < sfn.0 {
-        return Range {
-            low: middle + 1,
-            high: high,
-        };
-    }
-    Range {
-        low: low,
-        high: middle,
-    }
-}
-
-// The first of n entries numbered sfn or more, n if there is none.
-fn first_from(s: &[u8], n: u16, sfn: Feature) -> u16
-    ensures { λ r. ⌜ r ≡ firstFrom (now (s .entry)) n (sfn .0) ⌝ }
-{
-    let mut low: u16 = 0;
-    let mut high = n;
-    while low < high {
-        let half = halved(s, sfn, low, high);
-        low = half.low;
-        high = half.high;
-    }
-    low
-}
 
 // The end of the wanted entries that start at from.
 fn wanted_end(s: &[u8], rt: u8, n: u16, sfn: Feature, from: u16) -> u16
@@ -160,7 +114,7 @@ fn planned(s: &[u8], rt: u8, sfn: Feature) -> Plan
     ensures { λ r. ⌜ (r ≡ plan (now (s .entry)) rt (sfn .0)) × (r .size < 6000000000) ⌝ }
 {
     let n = layout::feature_count(s);
-    let from = first_from(s, n, sfn);
+    let from = sheet::first_from(s, n, sfn);
     let to = wanted_end(s, rt, n, sfn, from);
     let zero = zero_size(s, sfn);
     let rest = entries_size(s, rt, from, to);
@@ -239,20 +193,6 @@ fn put_header(out: &mut [u8], at: usize, h: Header) -> usize
     lent::put2(out, b, profile.0)
 }
 
-// The first listed profile that is current, 0 if none.
-fn current_profile(s: &[u8], p: u16) -> Profile
-    ensures { λ r. ⌜ r .0 ≡ currentFrom (now (s .entry)) 0 p ⌝ }
-{
-    let mut i: u16 = 0;
-    while i < p {
-        if layout::current_at(s, i) == 1 {
-            return layout::profile_at(s, i);
-        }
-        i += 1;
-    }
-    Profile(0)
-}
-
 // The whole response.
 fn put_full(out: &mut [u8], s: &[u8], rt: u8, sfn: Feature, from: u16, to: u16, h: Header) -> usize
     ensures { λ r. ⌜ Wrote (now (out .entry)) 0 (fullBytes (now (s .entry)) rt (sfn .0) from to (h .data_length) (h .profile .0)) r (now (out .exit)) ⌝ }
@@ -281,7 +221,7 @@ fn data_length(size: usize) -> u32
 }
 
 // Answers a request with no check of the sheet: from an accepted one, what `respond` answers.
-pub fn send(s: &[u8], rt: u8, sfn: Feature, a: u16, out: &mut [u8]) -> Reply
+pub fn send(s: &[u8], rt: u8, sfn: Feature, a: u16, out: &mut [u8]) -> Made
     ensures { λ r. ⌜ outcome r (now (out .exit)) ≡ trusting (now (s .entry)) rt (sfn .0) a (now (out .entry)) ⌝ }
 {
     let plan = planned(s, rt, sfn);
@@ -290,45 +230,33 @@ pub fn send(s: &[u8], rt: u8, sfn: Feature, a: u16, out: &mut [u8]) -> Reply
         Header::LENGTH + plan.size,
     );
     if out.len() < limit {
-        return Reply {
-            refusal: text::BUFFER_SHORT,
-            count: 0,
-        };
+        return Made::refused(refusal::BUFFER_SHORT);
     }
-    let profile = current_profile(s, layout::profile_count(s));
+    let profile = profiles::current(layout::profiles_part(s));
     let header = Header::new(data_length(plan.size), profile);
     let count = put_full(&mut out[..limit], s, rt, sfn, plan.from, plan.to, header);
-    Reply {
-        refusal: text::ACCEPTED,
-        count: count,
-    }
+    Made::written(count)
 }
 
 // Answers a command with no check of the sheet: what a box does that has checked it once.
-pub fn respond_accepted(s: &[u8], command: &[u8], out: &mut [u8]) -> Reply
+pub fn respond_accepted(s: &[u8], command: &[u8], out: &mut [u8]) -> Made
     ensures { λ r. ⌜ outcome r (now (out .exit)) ≡ trustingCommand (now (s .entry)) (now (command .entry)) (now (out .entry)) ⌝ }
 {
     let fault = Command::fault(command);
     if fault.number != 0 {
-        return Reply {
-            refusal: fault,
-            count: 0,
-        };
+        return Made::refused(fault);
     }
     let c = Command::read(command);
     send(s, c.rt, c.sfn, c.allocation, out)
 }
 
 // Answers a command from any sheet.
-pub fn respond(s: &[u8], command: &[u8], out: &mut [u8]) -> Reply
+pub fn respond(s: &[u8], command: &[u8], out: &mut [u8]) -> Made
     ensures { λ r. ⌜ outcome r (now (out .exit)) ≡ answered (now (s .entry)) (now (command .entry)) (now (out .entry)) ⌝ }
 {
     let fault = sheet::check(s);
     if fault.number != 0 {
-        return Reply {
-            refusal: fault,
-            count: 0,
-        };
+        return Made::refused(fault);
     }
     respond_accepted(s, command, out)
 }

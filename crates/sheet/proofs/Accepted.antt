@@ -1,18 +1,21 @@
 -- A sheet is accepted exactly when the facts of an accepted sheet hold of it, and what follows from these. Assumes nothing.
-use mathlib.Core.Path.{_≡_, ap}
+use mathlib.Core.Path.{_≡_, refl, ap}
 use mathlib.Core.List.{List}
 use Prim.Native.Nat.{ℕ, zero, suc, _+_, _*_, _-_, _%_, _≤_, _<_}
 use native.Mathlib.Nat.{add-suc, add-zero, le-refl, div-add-mod}
 use native.Mathlib.Omega.{arith}
-use lib.ListN.{length}
-use borrow.Author.Tests.{ltb-false, leb-false, eqb-true, eqb-false, not-false, le-ltb, lt-leb, eq-eqb, ne-eqb}
+use lib.ListN.{length, drop, length-drop}
+use lib.Seq.{length-take-le}
+use borrow.Author.Tests.{ltb-false, leb-false, eqb-true, not-false, le-ltb, lt-leb, eq-eqb, ne-eqb}
 use Rattle.base.specs.Lists.{Bytes}
+use Rattle.base.proofs.Lists.{bytes-drop, bytes-take}
 use Rattle.fields.proofs.Laws.{field-lt}
-use Rattle.text.specs.declared.Refusal.{Refusal}
-use Rattle.text.specs.First.{accept, firstOf}
-use Rattle.text.proofs.First.{if-false, orElse-none, if-zero, orElse-zero, first-all, first-accept}
-use Rattle.layout.specs.Layout.{featureCount, profileCount, bodiesAt, number, flags, bodyLength, offset, profile, current, last}
-use Rattle.sheet.specs.Check.{profileRule, sameProfile, profileFault, numberBefore, endBefore, flagsRule, entryRule, entryFault, counted, verdict, Accepted}
+use Rattle.refusal.specs.declared.Refusal.{Refusal}
+use Rattle.refusal.specs.First.{accept, firstOf}
+use Rattle.refusal.proofs.First.{if-false, orElse-none, if-zero, orElse-zero, first-all, first-accept}
+use Rattle.profiles.proofs.Kept.{fault-kept, kept-accept}
+use Rattle.layout.specs.Layout.{featureCount, profileCount, profilesAt, bodiesAt, number, flags, bodyLength, offset, profilesPart}
+use Rattle.sheet.specs.Check.{numberBefore, endBefore, flagsRule, entryRule, entryFault, counted, verdict, Accepted}
 use Rattle.sheet.specs.Facts.{Facts}
 
 -- ---- the fields of a list of bytes
@@ -33,37 +36,14 @@ pub bodyLength-lt : (s : List ℕ) (i : ℕ) → Bytes s → bodyLength s i < 25
 unfolding bodyLength
 bodyLength-lt s i b = b (4 + 8 * i + 3)
 
-pub profile-lt : (s : List ℕ) (i : ℕ) → Bytes s → profile s i < 65536
-unfolding profile
-profile-lt s i b = field-lt 2 s (4 + 8 * featureCount s + 4 * i) b
+pub bytes-profilesPart : (s : List ℕ) → Bytes s → Bytes (profilesPart s)
+unfolding profilesPart
+bytes-profilesPart s b = bytes-take (4 * profileCount s) (drop (profilesAt s) s) (bytes-drop (profilesAt s) s b)
 
--- ---- a profile that is accepted
-
-record ProfileGood (number : ℕ) (listed : Refusal) (current last : ℕ) : Type 0 where
-  above : 0 < number
-  new : listed .number ≡ 0
-  bit : current ≤ 1
-  zero-last : last ≡ 0
-
-profile-good : (num : ℕ) (listed : Refusal) (cur las : ℕ) → profileRule num listed cur las .number ≡ 0 → ProfileGood num listed cur las
-unfolding profileRule
-profile-good num listed cur las e =
-    let a = if-zero _ _ _ e in
-    let b = orElse-zero _ _ (a .1) in
-    let d = if-zero _ _ _ (b .1) in
-    let g = if-zero _ _ _ (d .1) in
-    let n : num ≡ 0 → ⊥ = eqb-false _ _ (a .0) in
-    record {
-      above = omega arith;
-      new = b .0;
-      bit = ltb-false _ _ (d .0);
-      zero-last = eqb-true _ _ (not-false _ (g .0));
-    }
-
-profile-accept : (num : ℕ) (listed : Refusal) (cur las : ℕ) → ProfileGood num listed cur las → profileRule num listed cur las ≡ accept
-unfolding profileRule
-profile-accept num listed cur las g =
-    rw (ne-eqb num 0 (omega arith), if-false, orElse-none listed _ (g .new), le-ltb 1 cur (g .bit), if-false, eq-eqb las 0 (g .zero-last), if-false)
+-- with room for it the profile part has four bytes a profile
+pub length-profilesPart : (s : List ℕ) → bodiesAt s ≤ length s → length (profilesPart s) ≡ 4 * profileCount s
+unfolding profilesPart
+length-profilesPart s h = length-take-le (4 * profileCount s) (drop (profilesAt s) s) (omega (arith, length-drop (profilesAt s) s))
 
 -- ---- an entry that is accepted
 
@@ -92,17 +72,6 @@ unfolding entryRule
 entry-accept num before flag len off end g =
     rw (ne-eqb num 0 (omega arith), if-false, lt-leb num before (g .above), if-false, orElse-none (flagsRule flag) _ (g .legal), eq-eqb (len % 4) 0 (g .four), if-false, eq-eqb off end (g .follows), if-false)
 
--- ---- the profile numbers before profile i
-
--- none of them is profile i's number
-differs-of : (s : List ℕ) (i : ℕ) → firstOf (sameProfile s i) 0 i .number ≡ 0 → (j : ℕ) → j < i → profile s j ≡ profile s i → ⊥
-unfolding sameProfile
-differs-of s i e j l = eqb-false _ _ (if-zero _ _ _ (first-all (sameProfile s i) i e j l) .0)
-
-of-differs : (s : List ℕ) (i : ℕ) → ((j : ℕ) → j < i → profile s j ≡ profile s i → ⊥) → firstOf (sameProfile s i) 0 i ≡ accept
-unfolding sameProfile
-of-differs s i h = first-accept (sameProfile s i) 0 i (λ j l m. ap (λ (r : Refusal). r .number) (rw (ne-eqb (profile s j) (profile s i) (h j (omega arith))) (if-false _ _)))
-
 -- ---- the steps from one entry to the next
 
 module _ (s : List ℕ) (follows : (i : ℕ) → i < featureCount s → offset s i ≡ endBefore s i) where
@@ -125,27 +94,23 @@ fours : (n : ℕ) → n < 256 → n % 4 ≡ 0 → n ≤ 252
 fours n l e = omega (arith, div-add-mod n 4)
 
 pub facts : (s : List ℕ) → Bytes s → Accepted s → Facts s
-unfolding verdict counted profileFault entryFault
+unfolding verdict counted entryFault
 facts s bs e =
     let a = if-zero _ _ _ (if-zero _ _ _ e .1) in
     let b = if-zero _ _ _ (a .1) in
     let d = orElse-zero _ _ (b .1) in
     let g = orElse-zero _ _ (d .1) in
     let k = if-zero _ _ _ (g .1) in
-    let p : (i : ℕ) → i < profileCount s → ProfileGood (profile s i) (firstOf (sameProfile s i) 0 i) (current s i) (last s i) =
-    λ i h. profile-good _ _ _ _ (first-all _ _ (d .0) i h) in
+    let room : bodiesAt s ≤ length s = ltb-false _ _ (a .0) in
     let q : (i : ℕ) → i < featureCount s → EntryGood (number s i) (numberBefore s i) (flags s i) (bodyLength s i) (offset s i) (endBefore s i) =
     λ i h. entry-good _ _ _ _ _ _ (first-all _ _ (g .0) i h) in
     let end : length s ≡ endBefore s (featureCount s) = eqb-true _ _ (not-false _ (k .0)) in
     let fol : (i : ℕ) → i < featureCount s → offset s i ≡ endBefore s i = λ i h. q i h .follows in
     record {
-      room = ltb-false _ _ (a .0);
+      room = room;
       ends = end;
       few = ltb-false _ _ (b .0);
-      profile-above = λ i h. p i h .above;
-      profile-differs = λ i j l h. differs-of s i (p i h .new) j l;
-      profile-bit = λ i h. p i h .bit;
-      profile-last = λ i h. p i h .zero-last;
+      profiles = λ i h. fault-kept (profilesPart s) (d .0) i (omega (arith, length-profilesPart s room));
       above = λ i h. q i h .above;
       legal = λ i h. q i h .legal;
       four = λ i h. q i h .four;
@@ -155,16 +120,6 @@ facts s bs e =
     }
 
 module _ (s : List ℕ) (f : Facts s) where
-  profile-fine : (i : ℕ) → i < profileCount s → profileFault s i ≡ accept
-  unfolding profileFault
-  profile-fine i h =
-      profile-accept _ _ _ _ record {
-        above = f .profile-above i h;
-        new = ap (λ (r : Refusal). r .number) (of-differs s i (λ j l. f .profile-differs i j l h));
-        bit = f .profile-bit i h;
-        zero-last = f .profile-last i h;
-      }
-
   entry-fine : (i : ℕ) → i < featureCount s → entryFault s i ≡ accept
   unfolding entryFault
   entry-fine i h = entry-accept _ _ _ _ _ _ record { above = f .above i h; legal = f .legal i h; four = f .four i h; follows = f .follows i h }
@@ -183,7 +138,8 @@ accept-of s f =
       if-false,
       le-ltb 63 (profileCount s) (f .few),
       if-false,
-      orElse-none _ _ (all-fine (profileFault s) (profileCount s) (profile-fine s f)),
+      kept-accept (profilesPart s) (λ i h. f .profiles i (omega (arith, length-profilesPart s (f .room)))),
+      orElse-none accept _ refl,
       orElse-none _ _ (all-fine (entryFault s) (featureCount s) (entry-fine s f)),
       eq-eqb (length s) (endBefore s (featureCount s)) (f .ends),
       if-false,

@@ -1,28 +1,28 @@
 -- The accepted sheets are exactly the sheets of the drives that a sheet can describe, one for each. Assumes nothing.
 use mathlib.Core.Path.{_≡_, refl, sym, ap, _∙_}
-use mathlib.Core.Bool.{Bool, true, false}
 use mathlib.Core.List.{List, [], _∷_, _++_, append-assoc}
 use Prim.Native.Nat.{ℕ, zero, suc, _+_, _*_, _%_, _≤_, _<_}
-use native.Mathlib.Nat.{add-zero, add-assoc, le-refl}
+use native.Mathlib.Nat.{add-assoc, le-refl}
 use native.Mathlib.Omega.{arith}
-use lib.Dec.{eqb}
 use lib.ListN.{length, take, drop, getD, length-append, take-append-drop, drop-of-length-le}
-use lib.Seq.{drop-drop, take-add, take-append-seam, take-length, length-take-le}
+use lib.Seq.{drop-drop, take-add, take-at, take-append-seam, take-length}
 use Rattle.base.specs.Lists.{each, flat, All, Bytes}
 use Rattle.base.proofs.Lists.{bytes-two, length-each, bytes-append, bytes-flat, all-getD, all-map, each-getD, flat-cut, flat-take-suc, drop-flat, drop-behind, drop-inside, take-two, take-more, take-row}
 use Rattle.fields.specs.Field.{spell}
 use Rattle.fields.proofs.Laws.{length-spell, bytes-spell, spell-field, field-here}
-use Rattle.text.specs.declared.Refusal.{Refusal}
-use Rattle.text.specs.Drive.{Desc, Listed, Drive, Good, bit, profileBytes}
-use Rattle.layout.specs.Layout.{featureCount, profileCount, profileAt, number, flags, bodyLength, offset, profile, current, last}
+use Rattle.refusal.specs.declared.Refusal.{Refusal}
+use Rattle.text.specs.Drive.{Desc, Drive, Good, profileBytes}
+use Rattle.layout.specs.Layout.{featureCount, profileCount, number, flags, bodyLength, offset, profilesPart}
 use Rattle.sheet.specs.Check.{numberBefore, endBefore, flagsRule, Accepted}
 use Rattle.sheet.specs.Facts.{Facts}
-use Rattle.sheet.specs.Meaning.{desc, listed, meaning, contents, sheetOf, Fine}
-use Rattle.sheet.proofs.Accepted.{facts, accept-of, end-next}
-use Rattle.sheet.proofs.Meaning.{body-length}
+use Rattle.sheet.specs.Meaning.{desc, entry, meaning, contents, sheetOf, Fine}
+use Rattle.sheet.proofs.Accepted.{facts, accept-of, end-next, length-profilesPart, bytes-profilesPart}
+use Rattle.sheet.proofs.Meaning.{profiles-count, body-length}
+use Rattle.profiles.specs.Profiles.{profilesOf}
+use Rattle.profiles.proofs.Again.{profiles-back, profiles-written, kept-written}
 use Rattle.text.proofs.Profiles.{length-profiles, bytes-profiles}
-use Rattle.sheet.proofs.Pieces.{body, entry, length-contents, drop-contents, EntryReads, entry-reads, ProfileReads, profile-reads}
-use Rattle.sheet.proofs.Fine.{asc-first, asc-next, distinct-above, distinct-differs, count-low}
+use Rattle.sheet.proofs.Pieces.{body, entry-parts, length-contents, drop-contents, EntryReads, entry-reads}
+use Rattle.sheet.proofs.Fine.{asc-first, asc-next, count-low}
 use Rattle.sheet.proofs.Longest.{length-sheet, length-sheet-le}
 
 -- where the bodies of a drive's sheet start, and where body i does
@@ -34,22 +34,6 @@ start m i = base m + length (flat body (take i (m .features)))
 
 abbrev noDesc : Desc
 noDesc = record { number = 0; flags = 0; body = [] }
-
-abbrev noListed : Listed
-noListed = record { number = 0; on = false }
-
-bit-le : (b : Bool) → bit b ≤ 1
-bit-le true = omega arith
-bit-le false = omega arith
-
-eqb-bit : (b : Bool) → eqb (bit b) 1 ≡ b
-eqb-bit true = refl
-eqb-bit false = refl
-
-bit-eqb : (c : ℕ) → c ≤ 1 → bit (eqb c 1) ≡ c
-bit-eqb zero l = refl
-bit-eqb (suc zero) l = refl
-bit-eqb (suc (suc c)) l = absurd (omega arith)
 
 -- ---- where the pieces of a drive's sheet stand
 
@@ -77,16 +61,6 @@ module _ (m : Drive) where
       drop-inside (sheetOf m) 4 (contents (base m) (m .features)) _ (8 * i) (entry (start m i) (getD (m .features) i noDesc)) _ at-contents
       (omega (arith, length-contents (base m) (m .features)))
       (drop-contents (base m) (m .features) noDesc i l)
-
-  at-profile : (i : ℕ) → i < length (m .profiles)
-      → drop (4 + 8 * length (m .features) + 4 * i) (sheetOf m)
-      ≡ profileBytes (getD (m .profiles) i noListed) ++ (flat profileBytes (drop (suc i) (m .profiles)) ++ flat body (m .features))
-  at-profile i l =
-      let e : length (flat profileBytes (take i (m .profiles))) ≡ 4 * i =
-      length-profiles (take i (m .profiles)) ∙ ap (λ (k : ℕ). 4 * k) (length-take-le i (m .profiles) (omega arith)) in
-      drop-inside (sheetOf m) (4 + 8 * length (m .features)) (flat profileBytes (m .profiles)) _ (4 * i) (profileBytes (getD (m .profiles) i noListed)) _ at-profiles
-      (omega (arith, length-profiles (m .profiles)))
-      (rw e at (drop-flat profileBytes (m .profiles) noListed i l))
 
   at-body : (i : ℕ) → i < length (m .features)
       → drop (start m i) (sheetOf m) ≡ getD (m .features) i noDesc .body ++ flat body (drop (suc i) (m .features))
@@ -123,11 +97,11 @@ module _ {m : Drive} (f : Fine m) where
   entry-at i l =
       entry-reads (sheetOf m) (4 + 8 * i) (start m i) (getD (m .features) i noDesc) _ (at-entry m i l) (good-at i l .number-low) (omega (arith, start-le m i, length-sheet-le m f))
 
-  profile-at : (i : ℕ) → i < length (m .profiles) → ProfileReads (sheetOf m) (profileAt (sheetOf m) i) (getD (m .profiles) i noListed)
-  profile-at i l =
-      rw feature-count
-      (profile-reads (sheetOf m) (4 + 8 * length (m .features) + 4 * i) (getD (m .profiles) i noListed) _ (at-profile m i l)
-      (all-getD (λ (p : Listed). p .number < 65536) (m .profiles) noListed (f .sound .profiles-low) i l))
+  part-is : profilesPart (sheetOf m) ≡ flat profileBytes (m .profiles)
+  unfolding profilesPart
+  part-is =
+      rw (feature-count, profile-count)
+      (ap (take (4 * length (m .profiles))) (at-profiles m) ∙ take-at (flat profileBytes (m .profiles)) (flat body (m .features)) (4 * length (m .profiles)) (length-profiles (m .profiles)))
 
   end-is : (i : ℕ) → i ≤ length (m .features) → endBefore (sheetOf m) i ≡ start m i
   unfolding endBefore offset bodyLength flat
@@ -141,20 +115,14 @@ module _ {m : Drive} (f : Fine m) where
       omega (arith, entry-at i (omega arith) .number-is, entry-at (suc i) l .number-is, asc-next 1 (m .features) noDesc (f .sound .ascending) i l)
 
   sheet-facts : Facts (sheetOf m)
-  unfolding number flags bodyLength offset profile current last
+  unfolding number flags bodyLength offset
   sheet-facts =
       let n : (i : ℕ) → i < featureCount (sheetOf m) → i < length (m .features) = λ i h. omega (arith, feature-count) in
-      let p : (i : ℕ) → i < profileCount (sheetOf m) → i < length (m .profiles) = λ i h. omega (arith, profile-count) in
       record {
         room = omega (arith, feature-count, profile-count, length-sheet m);
         ends = sym (start-end m) ∙ sym (end-is (length (m .features)) (le-refl (length (m .features)))) ∙ ap (endBefore (sheetOf m)) (sym feature-count);
         few = omega (arith, profile-count, f .sound .few);
-        profile-above = λ i h. omega (arith, profile-at i (p i h) .number-is, distinct-above (m .profiles) noListed (f .distinct) i (p i h));
-        profile-differs = λ i j l h e.
-            distinct-differs (m .profiles) noListed (f .distinct) i j l (p i h)
-            (omega (arith, e, profile-at i (p i h) .number-is, profile-at j (omega (arith, p i h)) .number-is));
-        profile-bit = λ i h. omega (arith, profile-at i (p i h) .current-is, bit-le (getD (m .profiles) i noListed .on));
-        profile-last = λ i h. profile-at i (p i h) .last-is;
+        profiles = λ i h. rw part-is (kept-written (m .profiles) (f .sound .profiles-low) (f .distinct) i (omega (arith, profile-count, length-profiles (m .profiles))));
         above = λ i h. above-before i (n i h);
         legal = λ i h.
             ap (λ (k : ℕ). flagsRule k .number) (entry-at i (n i h) .flags-is)
@@ -165,7 +133,7 @@ module _ {m : Drive} (f : Fine m) where
         inside = λ i h. omega (arith, entry-at i (n i h) .offset-is, entry-at i (n i h) .length-is, start-next m i (n i h), start-le m (suc i));
       }
 
-  -- the descriptor of entry i, and profile i
+  -- the descriptor of entry i
   desc-is : (i : ℕ) → i < length (m .features) → desc (sheetOf m) i ≡ getD (m .features) i noDesc
   unfolding desc number flags bodyLength offset
   desc-is i l =
@@ -176,22 +144,14 @@ module _ {m : Drive} (f : Fine m) where
       ∙ take-append-seam (getD (m .features) i noDesc .body) (flat body (drop (suc i) (m .features))) in
       λ k. record { number = entry-at i l .number-is k; flags = entry-at i l .flags-is k; body = e k }
 
-  listed-is : (i : ℕ) → i < length (m .profiles) → listed (sheetOf m) i ≡ getD (m .profiles) i noListed
-  unfolding listed profile current
-  listed-is i l =
-      let e : eqb (current (sheetOf m) i) 1 ≡ getD (m .profiles) i noListed .on =
-      ap (λ (k : ℕ). eqb k 1) (profile-at i l .current-is) ∙ eqb-bit (getD (m .profiles) i noListed .on) in
-      λ k. record { number = profile-at i l .number-is k; on = e k }
-
 pub sheet-accepted : (m : Drive) → Fine m → Accepted (sheetOf m)
 sheet-accepted m f = ap (λ (r : Refusal). r .number) (accept-of (sheetOf m) (sheet-facts f))
 
 pub sheet-means : (m : Drive) → Fine m → meaning (sheetOf m) ≡ m
 unfolding meaning
 sheet-means m f =
-    let a : each (listed (sheetOf m)) 0 (profileCount (sheetOf m)) ≡ m .profiles =
-    each-getD (listed (sheetOf m)) (m .profiles) noListed (profileCount (sheetOf m)) (sym (profile-count f))
-    (λ i l. listed-is f i (omega (arith, profile-count f))) in
+    let a : profilesOf (profilesPart (sheetOf m)) ≡ m .profiles =
+    ap profilesOf (part-is f) ∙ profiles-written (m .profiles) (f .sound .profiles-low) in
     let b : each (desc (sheetOf m)) 0 (featureCount (sheetOf m)) ≡ m .features =
     each-getD (desc (sheetOf m)) (m .features) noDesc (featureCount (sheetOf m)) (sym (feature-count f))
     (λ i l. desc-is f i (omega (arith, feature-count f))) in
@@ -201,9 +161,10 @@ sheet-means m f =
 
 bytes-entry : (at : ℕ) (d : Desc) → Good d → Bytes (entry at d)
 bytes-entry at d g =
-    bytes-append (spell 2 (d .number) ++ (d .flags ∷ length (d .body) ∷ [])) (spell 4 at)
+    rw (entry-parts at d)
+    (bytes-append (spell 2 (d .number) ++ (d .flags ∷ length (d .body) ∷ [])) (spell 4 at)
     (bytes-append (spell 2 (d .number)) (d .flags ∷ length (d .body) ∷ []) (bytes-spell 2 (d .number)) (bytes-two (d .flags) (length (d .body)) (g .flags-low) (omega (arith, g .short))))
-    (bytes-spell 4 at)
+    (bytes-spell 4 at))
 
 bytes-contents : (at : ℕ) (ds : List Desc) → All Good ds → Bytes (contents at ds)
 unfolding contents
@@ -229,7 +190,7 @@ module _ {s : List ℕ} (b : Bytes s) (f : Facts s) where
       ap (λ (k : ℕ). flags s i ∷ k ∷ []) (body-length f i l) ∙ ap (λ (k : ℕ). flags s i ∷ getD s k 0 ∷ []) (sym (add-assoc (4 + 8 * i) 2 1)) ∙ take-two s (4 + 8 * i + 2) (omega (arith, f .room)) in
       let z : spell 4 (endBefore s i) ≡ take 4 (drop (4 + 8 * i + 4) s) =
       ap (spell 4) (sym (f .follows i l)) ∙ spell-field 4 s (4 + 8 * i + 4) b (omega (arith, f .room)) in
-      rw (x, y, z, take-more s (4 + 8 * i) 2 2, take-more s (4 + 8 * i) 4 4)
+      entry-parts (endBefore s i) (desc s i) ∙ rw (x, y, z, take-more s (4 + 8 * i) 2 2, take-more s (4 + 8 * i) 4 4)
 
   contents-back : (i k : ℕ) → i + k ≤ featureCount s → contents (endBefore s i) (each (desc s) i k) ≡ take (8 * k) (drop (4 + 8 * i) s)
   unfolding contents each
@@ -237,23 +198,6 @@ module _ {s : List ℕ} (b : Bytes s) (f : Facts s) where
   contents-back i (suc k) l =
       let e : endBefore s i + length (desc s i .body) ≡ endBefore s (suc i) = omega (arith, end-next f i (omega arith), body-length f i (omega arith)) in
       rw (e, contents-back (suc i) k (omega arith), entry-back i (omega arith)) (take-row s 4 8 i k)
-
-  profile-back : (i : ℕ) → i < profileCount s → profileBytes (listed s i) ≡ take 4 (drop (profileAt s i) s)
-  unfolding profileBytes listed profile current last
-  profile-back i l =
-      let x : spell 2 (profile s i) ≡ take 2 (drop (profileAt s i) s) = spell-field 2 s (profileAt s i) b (omega (arith, f .room)) in
-      let y : bit (eqb (current s i) 1) ∷ 0 ∷ [] ≡ take 2 (drop (profileAt s i + 2) s) =
-      ap (λ (k : ℕ). k ∷ 0 ∷ []) (bit-eqb (current s i) (f .profile-bit i l))
-      ∙ ap (λ (k : ℕ). current s i ∷ k ∷ []) (sym (f .profile-last i l))
-      ∙ ap (λ (k : ℕ). current s i ∷ getD s k 0 ∷ []) (sym (add-assoc (profileAt s i) 2 1))
-      ∙ take-two s (profileAt s i + 2) (omega (arith, f .room)) in
-      rw (x, y, take-more s (profileAt s i) 2 2)
-
-  profiles-back : (i k : ℕ) → i + k ≤ profileCount s → flat profileBytes (each (listed s) i k) ≡ take (4 * k) (drop (profileAt s i) s)
-  unfolding flat each
-  profiles-back i zero l = refl
-  profiles-back i (suc k) l =
-      rw (profiles-back (suc i) k (omega arith), profile-back i (omega arith)) (take-row s (4 + 8 * featureCount s) 4 i k)
 
   bodies-back : (i k : ℕ) → i + k ≡ featureCount s → flat body (each (desc s) i k) ≡ drop (endBefore s i) s
   unfolding flat each desc
@@ -264,24 +208,30 @@ module _ {s : List ℕ} (b : Bytes s) (f : Facts s) where
       rw (bodies-back (suc i) k (omega arith), end-next f i (omega arith), f .follows i (omega arith), ← drop-drop (bodyLength s i) (endBefore s i) s)
       (take-append-drop (bodyLength s i) (drop (endBefore s i) s))
 
+-- the profile part is what the profiles are written as
+pub part-back : (s : List ℕ) → Bytes s → Facts s → flat profileBytes (meaning s .profiles) ≡ profilesPart s
+unfolding meaning
+part-back s b f =
+    let l : length (profilesPart s) ≡ 4 * profileCount s = length-profilesPart s (f .room) in
+    profiles-back (profilesPart s) (bytes-profilesPart s b) (omega arith) (λ i h. f .profiles i (omega arith))
+
 -- the pieces, one behind the other, are the sheet
 pieces-back : (s : List ℕ) (n p : ℕ) → take 2 s ++ take 2 (drop 2 s) ++ take (8 * n) (drop 4 s) ++ take (4 * p) (drop (4 + 8 * n) s) ++ drop (4 + 8 * n + 4 * p) s ≡ s
 pieces-back s n p = rw (← take-add 2 2 s, ← take-add 4 (8 * n) s, ← take-add (4 + 8 * n) (4 * p) s) (take-append-drop (4 + 8 * n + 4 * p) s)
 
 back-of : (s : List ℕ) → Bytes s → Facts s → sheetOf (meaning s) ≡ s
-unfolding sheetOf meaning featureCount profileCount endBefore
+unfolding sheetOf meaning featureCount profileCount endBefore profilesPart
 back-of s b f =
     let x : spell 2 (featureCount s) ≡ take 2 s = spell-field 2 s 0 b (omega (arith, f .room)) in
     let y : spell 2 (profileCount s) ≡ take 2 (drop 2 s) = spell-field 2 s 2 b (omega (arith, f .room)) in
     rw (
       length-each (desc s) 0 (featureCount s),
-      length-each (listed s) 0 (profileCount s),
+      profiles-count s f,
       x,
       y,
       contents-back b f 0 (featureCount s) (omega arith),
-      profiles-back b f 0 (profileCount s) (omega arith),
+      part-back s b f,
       bodies-back b f 0 (featureCount s) (omega arith),
-      add-zero (4 + 8 * featureCount s),
     )
     (pieces-back s (featureCount s) (profileCount s))
 

@@ -4,8 +4,8 @@ use mathlib.Core.List.{List}
 use Prim.Native.Nat.{ℕ, zero, suc, _+_, _-_, _≤_}
 use native.Mathlib.Omega.{arith}
 use lib.ListN.{length}
-use Rattle.text.specs.declared.Refusal.{Refusal}
-use Rattle.text.proofs.First.{tests}
+use Rattle.refusal.specs.declared.Refusal.{Refusal}
+use Rattle.refusal.proofs.First.{tests}
 use Rattle.layout.specs.Layout.{featureCount, profileCount, bodiesAt, number, flags, offset, bodyLength}
 use Rattle.sheet.specs.Check.{numberBefore, endBefore, entryRule, entryFault, counted, verdict}
 

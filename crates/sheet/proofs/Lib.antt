@@ -6,4 +6,5 @@ pub mod Pieces
 pub mod Fine
 pub mod Longest
 pub mod Build
+pub mod Bisection
 pub mod Decides

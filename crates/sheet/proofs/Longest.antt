@@ -8,13 +8,15 @@ use lib.ListN.{length, length-append, replicate, length-replicate}
 use Rattle.base.specs.Lists.{each, flat, Bytes}
 use Rattle.base.proofs.Lists.{length-each, each-all}
 use Rattle.fields.proofs.Laws.{length-spell}
-use Rattle.text.specs.First.{_if_else_}
+use Rattle.refusal.specs.First.{_if_else_, pickZero, _orElse_}
+use Rattle.text.specs.Flags as text
 use Rattle.text.specs.Drive.{Desc, Listed, Drive, Good, Asc}
 use Rattle.layout.specs.Layout.{featureCount, bodiesAt}
 use Rattle.sheet.specs.Check.{endBefore, flagsRule, Accepted}
 use Rattle.sheet.specs.Facts.{Facts}
-use Rattle.sheet.specs.Meaning.{sheetOf, Distinct, Fine}
+use Rattle.sheet.specs.Meaning.{sheetOf, Fine}
 use Rattle.sheet.proofs.Accepted.{facts, featureCount-lt, end-next}
+use Rattle.profiles.specs.Profiles.{Distinct}
 use Rattle.text.proofs.Profiles.{length-profiles}
 use Rattle.sheet.proofs.Pieces.{body, length-contents}
 use Rattle.sheet.proofs.Fine.{count-low, bodies-low}
@@ -86,7 +88,7 @@ plain-good w i l e h = record {
 }
 
 plain-legal : (w i : ℕ) → flagsRule (plainDesc w i .flags) .number ≡ 0
-unfolding plainDesc flagsRule _if_else_
+unfolding plainDesc flagsRule text.flagsRule _if_else_ pickZero _orElse_
 plain-legal w i = refl
 
 plain-low : (i : ℕ) → i < 65536 → plainListed i .number < 65536

@@ -1,5 +1,5 @@
 -- An accepted sheet means a drive that a sheet can describe. Assumes nothing.
-use mathlib.Core.Path.{_≡_, sym, ap, _∙_}
+use mathlib.Core.Path.{_≡_, ap, _∙_}
 use mathlib.Core.List.{List}
 use Prim.Native.Nat.{ℕ, zero, suc, _+_, _%_, _≤_, _<_}
 use native.Mathlib.Omega.{arith}
@@ -7,20 +7,21 @@ use lib.ListN.{length, drop, length-drop}
 use lib.Seq.{length-take-le}
 use Rattle.base.specs.Lists.{each, Bytes}
 use Rattle.base.proofs.Lists.{bytes-drop, bytes-take, length-each, each-all}
-use Rattle.text.specs.Drive.{Desc, Listed, Good, Asc}
-use Rattle.layout.specs.Layout.{featureCount, profileCount, number, flags, bodyLength, offset, profile}
+use Rattle.text.specs.Drive.{Desc, Good, Asc}
+use Rattle.profiles.proofs.Kept.{length-profilesOf, low-of, kept-distinct}
+use Rattle.layout.specs.Layout.{featureCount, profileCount, number, flags, bodyLength, offset, profilesPart}
 use Rattle.sheet.specs.Check.{numberBefore, flagsRule, Accepted}
 use Rattle.sheet.specs.Facts.{Facts}
-use Rattle.sheet.specs.Meaning.{desc, listed, meaning, Distinct, Fine}
-use Rattle.sheet.proofs.Accepted.{facts, number-lt, flags-lt, profile-lt}
+use Rattle.sheet.specs.Meaning.{desc, meaning, Fine}
+use Rattle.sheet.proofs.Accepted.{facts, number-lt, flags-lt, length-profilesPart, bytes-profilesPart}
 
 pub features-count : (s : List ℕ) → length (meaning s .features) ≡ featureCount s
 unfolding meaning
 features-count s = length-each (desc s) 0 (featureCount s)
 
-pub profiles-count : (s : List ℕ) → length (meaning s .profiles) ≡ profileCount s
+pub profiles-count : (s : List ℕ) → Facts s → length (meaning s .profiles) ≡ profileCount s
 unfolding meaning
-profiles-count s = length-each (listed s) 0 (profileCount s)
+profiles-count s f = omega (arith, length-profilesOf (profilesPart s), length-profilesPart s (f .room))
 
 module _ {s : List ℕ} (f : Facts s) where
   -- a body is as long as its entry says
@@ -47,25 +48,16 @@ module _ {s : List ℕ} (f : Facts s) where
       let e : 1 + number s i ≡ suc (number s i) = omega arith in
       (f .above i (omega arith), rw e (ascend-from (suc i) k (omega arith)))
 
-  distinct-from : (i k : ℕ) → i + k ≤ profileCount s → Distinct (each (listed s) i k)
-  unfolding each listed
-  distinct-from i zero l = tt
-  distinct-from i (suc k) l = (
-    f .profile-above i (omega arith),
-    each-all (λ (q : Listed). q .number ≡ profile s i → ⊥) (listed s) (suc i) k (λ j m n e. f .profile-differs j i m (omega arith) (sym e)),
-    distinct-from (suc i) k (omega arith),
-  )
-
 pub fine-of : (s : List ℕ) → Bytes s → Facts s → Fine (meaning s)
-unfolding meaning numberBefore desc listed
+unfolding meaning numberBefore desc
 fine-of s b f = record {
   sound = record {
-    few = omega (arith, profiles-count s, f .few);
-    profiles-low = each-all (λ (p : Listed). p .number < 65536) (listed s) 0 (profileCount s) (λ j l m. profile-lt s j b);
+    few = omega (arith, profiles-count s f, f .few);
+    profiles-low = low-of (profilesPart s) (bytes-profilesPart s b);
     ascending = ascend-from f 0 (featureCount s) (omega arith);
     good = each-all Good (desc s) 0 (featureCount s) (λ j l m. desc-good f b j (omega arith));
   };
-  distinct = distinct-from f 0 (profileCount s) (omega arith);
+  distinct = kept-distinct (profilesPart s) (λ i h. f .profiles i (omega (arith, length-profilesPart s (f .room))));
   legal = each-all (λ (d : Desc). flagsRule (d .flags) .number ≡ 0) (desc s) 0 (featureCount s) (λ j l m. f .legal j (omega arith));
 }
 

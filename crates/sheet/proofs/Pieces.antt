@@ -10,20 +10,23 @@ use Rattle.base.specs.Lists.{flat}
 use Rattle.base.proofs.Lists.{drop-behind}
 use Rattle.fields.specs.Field.{field, spell}
 use Rattle.fields.proofs.Laws.{length-spell, field-here, byte-here}
-use Rattle.text.specs.Drive.{Desc, Listed, bit, profileBytes}
-use Rattle.sheet.specs.Meaning.{contents}
+use Rattle.text.specs.Drive.{Desc}
+use Rattle.layout.specs.Layout.{entryBytes}
+use Rattle.sheet.specs.Meaning.{entry, contents}
 
--- the body of a descriptor, and its entry with the offset `at`
+-- the body of a descriptor
 abbrev pub body : Desc → List ℕ
 body d = d .body
 
-abbrev pub entry : ℕ → Desc → List ℕ
-entry at d = spell 2 (d .number) ++ (d .flags ∷ length (d .body) ∷ []) ++ spell 4 at
+-- the two bytes in the middle of an entry taken together
+pub entry-parts : (at : ℕ) (d : Desc) → entry at d ≡ spell 2 (d .number) ++ (d .flags ∷ length (d .body) ∷ []) ++ spell 4 at
+unfolding entryBytes
+entry-parts at d = rw (append-assoc (spell 2 (d .number)) (d .flags ∷ []) (length (d .body) ∷ []))
 
 -- ---- lengths
 
 pub length-entry : (at : ℕ) (d : Desc) → length (entry at d) ≡ 8
-length-entry at d = simp (length-append, length-spell)
+length-entry at d = ap length (entry-parts at d) ∙ simp (length-append, length-spell)
 
 pub length-contents : (at : ℕ) (ds : List Desc) → length (contents at ds) ≡ 8 * length ds
 unfolding contents
@@ -56,7 +59,7 @@ pub record EntryReads (s : List ℕ) (at o : ℕ) (d : Desc) : Type 0 where
 
 pub entry-reads : (s : List ℕ) (at o : ℕ) (d : Desc) (rest : List ℕ) → drop at s ≡ entry o d ++ rest → d .number < 65536 → o < 4294967296 → EntryReads s at o d
 entry-reads s at o d rest e l m =
-    let a : drop at s ≡ spell 2 (d .number) ++ (d .flags ∷ length (d .body) ∷ (spell 4 o ++ rest)) = e ∙ simp append-assoc in
+    let a : drop at s ≡ spell 2 (d .number) ++ (d .flags ∷ length (d .body) ∷ (spell 4 o ++ rest)) = e ∙ ap (λ (x : List ℕ). x ++ rest) (entry-parts o d) ∙ simp append-assoc in
     let b : drop (at + 2) s ≡ d .flags ∷ length (d .body) ∷ (spell 4 o ++ rest) = drop-behind s at (spell 2 (d .number)) _ 2 a (length-spell 2 (d .number)) in
     let c : drop (at + 3) s ≡ length (d .body) ∷ (spell 4 o ++ rest) = ap (λ (k : ℕ). drop k s) (sym (add-assoc at 2 1)) ∙ drop-behind s (at + 2) (d .flags ∷ []) _ 1 b refl in
     let f : drop (at + 4) s ≡ spell 4 o ++ rest = ap (λ (k : ℕ). drop k s) (sym (add-assoc at 3 1)) ∙ drop-behind s (at + 3) (length (d .body) ∷ []) _ 1 c refl in
@@ -65,22 +68,4 @@ entry-reads s at o d rest e l m =
       flags-is = byte-here s (at + 2) _ _ b;
       length-is = byte-here s (at + 3) _ _ c;
       offset-is = field-here s (at + 4) 4 o rest f m;
-    }
-
--- the fields of a profile
-pub record ProfileReads (s : List ℕ) (at : ℕ) (p : Listed) : Type 0 where
-  pub number-is : field 2 s at ≡ p .number
-  pub current-is : getD s (at + 2) 0 ≡ bit (p .on)
-  pub last-is : getD s (at + 3) 0 ≡ 0
-
-pub profile-reads : (s : List ℕ) (at : ℕ) (p : Listed) (rest : List ℕ) → drop at s ≡ profileBytes p ++ rest → p .number < 65536 → ProfileReads s at p
-unfolding profileBytes
-profile-reads s at p rest e l =
-    let a : drop at s ≡ spell 2 (p .number) ++ (bit (p .on) ∷ 0 ∷ rest) = e ∙ simp append-assoc in
-    let b : drop (at + 2) s ≡ bit (p .on) ∷ 0 ∷ rest = drop-behind s at (spell 2 (p .number)) _ 2 a (length-spell 2 (p .number)) in
-    let c : drop (at + 3) s ≡ 0 ∷ rest = ap (λ (k : ℕ). drop k s) (sym (add-assoc at 2 1)) ∙ drop-behind s (at + 2) (bit (p .on) ∷ []) _ 1 b refl in
-    record {
-      number-is = field-here s at 2 (p .number) _ a l;
-      current-is = byte-here s (at + 2) _ _ b;
-      last-is = byte-here s (at + 3) _ _ c;
     }

@@ -1,30 +1,14 @@
 -- The number that the check of a drive sheet gives, in the paper's order. Assumes nothing: these are definitions.
-use mathlib.Core.Bool.{Bool, not, _&&_}
+use mathlib.Core.Bool.{not, _&&_}
 use mathlib.Core.List.{List}
 use Prim.Native.Nat.{ℕ, zero, suc, _+_, _%_}
 use lib.Dec.{ltb, leb, eqb}
 use lib.ListN.{length}
-use Rattle.text.specs.declared.Refusal.{Refusal}
-use Rattle.text.specs.First.{refuse, accept, _if_else_, _orElse_, firstOf}
-use Rattle.text.specs.Flags.{reserved, version, persistent}
+use Rattle.refusal.specs.declared.Refusal.{Refusal}
+use Rattle.refusal.specs.First.{refuse, accept, _if_else_, _orElse_, firstOf}
+use Rattle.profiles.specs.Profiles.{profilesFault}
 use Rattle.text.specs.Flags as text
-use Rattle.layout.specs.Layout.{featureCount, profileCount, bodiesAt, number, flags, bodyLength, offset, profile, current, last}
-
--- 3: profile number 0 or listed before; current byte over 1; last byte not 0
-unfoldable pub profileRule : (number : ℕ) (listed : Refusal) (current last : ℕ) → Refusal
-profileRule number listed current last =
-    refuse 3 if eqb number 0 else
-    listed orElse
-    refuse 3 if ltb 1 current else
-    refuse 3 if not (eqb last 0) else
-    accept
-
--- profile j has the number of profile i
-unfoldable pub sameProfile : List ℕ → ℕ → ℕ → Refusal
-sameProfile s i j = refuse 3 if eqb (profile s j) (profile s i) else accept
-
-unfoldable pub profileFault : List ℕ → ℕ → Refusal
-profileFault s i = profileRule (profile s i) (firstOf (sameProfile s i) 0 i) (current s i) (last s i)
+use Rattle.layout.specs.Layout.{featureCount, profileCount, bodiesAt, number, flags, bodyLength, offset, profilesPart}
 
 -- the feature number before entry i, and the end of the body before its body
 unfoldable pub numberBefore : List ℕ → ℕ → ℕ
@@ -37,11 +21,7 @@ endBefore s (suc i) = offset s i + bodyLength s i
 
 -- 5: reserved flag bits or Version not 0; Persistent without Current
 unfoldable pub flagsRule : ℕ → Refusal
-flagsRule f =
-    refuse 5 if not (eqb (reserved f) 0) else
-    refuse 5 if not (eqb (version f) 0) else
-    refuse 5 if eqb (persistent f) 1 && eqb (text.current f) 0 else
-    accept
+flagsRule f = text.flagsRule (refuse 5) (refuse 5) (refuse 5) f
 
 -- 4: feature number 0, or not above the one before. 5: flags. 6: body length no multiple of 4. 7: offset not the end of the body before
 unfoldable pub entryRule : (number before flags len offset end : ℕ) → Refusal
@@ -56,11 +36,11 @@ entryRule number before flags len offset end =
 unfoldable pub entryFault : List ℕ → ℕ → Refusal
 entryFault s i = entryRule (number s i) (numberBefore s i) (flags s i) (bodyLength s i) (offset s i) (endBefore s i)
 
--- 2: p over 63. Then all p profiles in order, all n entries in order, and 8: the sheet does not end where the last body ends
+-- 2: p over 63. Then 3 of the profiles, all n entries in order, and 8: the sheet does not end where the last body ends
 unfoldable pub counted : (s : List ℕ) (n p : ℕ) → Refusal
 counted s n p =
     refuse 2 if ltb 63 p else
-    firstOf (profileFault s) 0 p orElse
+    profilesFault (profilesPart s) orElse
     firstOf (entryFault s) 0 n orElse
     refuse 8 if not (eqb (length s) (endBefore s n)) else
     accept

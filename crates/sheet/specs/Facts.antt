@@ -3,7 +3,8 @@ use mathlib.Core.Path.{_≡_}
 use mathlib.Core.List.{List}
 use Prim.Native.Nat.{ℕ, _+_, _%_, _≤_, _<_}
 use lib.ListN.{length}
-use Rattle.layout.specs.Layout.{featureCount, profileCount, bodiesAt, number, flags, bodyLength, offset, profile, current, last}
+use Rattle.profiles.specs.Profiles.{Kept}
+use Rattle.layout.specs.Layout.{featureCount, profileCount, bodiesAt, number, flags, bodyLength, offset, profilesPart}
 use Rattle.sheet.specs.Check.{numberBefore, endBefore, flagsRule}
 
 pub record Facts (s : List ℕ) : Type 0 where
@@ -12,10 +13,7 @@ pub record Facts (s : List ℕ) : Type 0 where
   pub ends : length s ≡ endBefore s (featureCount s)
   -- at most 63 profiles, their numbers not 0 and distinct, their third byte 0 or 1 and their last 0
   pub few : profileCount s ≤ 63
-  pub profile-above : (i : ℕ) → i < profileCount s → 0 < profile s i
-  pub profile-differs : (i j : ℕ) → j < i → i < profileCount s → profile s j ≡ profile s i → ⊥
-  pub profile-bit : (i : ℕ) → i < profileCount s → current s i ≤ 1
-  pub profile-last : (i : ℕ) → i < profileCount s → last s i ≡ 0
+  pub profiles : (i : ℕ) → i < profileCount s → Kept (profilesPart s) i
   -- feature numbers not 0 and strictly ascending, flags legal, body lengths multiples of 4 and at most 252
   pub above : (i : ℕ) → i < featureCount s → numberBefore s i < number s i
   pub legal : (i : ℕ) → i < featureCount s → flagsRule (flags s i) .number ≡ 0

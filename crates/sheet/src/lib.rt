@@ -1,137 +1,53 @@
-// The check of a drive sheet.
+// The check of a drive sheet, and the search for an entry.
 ghost use mathlib.Core.Path.{_≡_};
+ghost use Prim.Native.Nat.{_<_};
 ghost use Rattle.layout.specs.Layout.{number, flags, bodyLength, offset};
-ghost use Rattle.text.specs.First.{firstOf};
-ghost use Rattle.sheet.specs.Check.{profileRule, sameProfile, profileFault, numberBefore, endBefore, flagsRule, entryRule, entryFault, counted, verdict};
+ghost use Rattle.refusal.specs.First.{firstOf};
+ghost use Rattle.sheet.specs.Check.{numberBefore, endBefore, flagsRule, entryRule, entryFault, counted, verdict};
+ghost use Rattle.sheet.specs.Search.{half, firstFrom};
+use refusal::Refusal;
 use text::Feature;
-use text::Profile;
-use text::Refusal;
+use text::Flags;
 
 // ---- the rules, on numbers
 
-// 3 of a profile; `listed` is what its number's place among those before it gives.
-pub fn profile_rule(number: Profile, listed: Refusal, current: u8, last: u8) -> Refusal
-    ensures { λ r. ⌜ r ≡ profileRule (number .0) listed current last ⌝ }
-{
-    if number.0 == 0 {
-        return text::PROFILE_BAD;
-    }
-    if listed.number != 0 {
-        return listed;
-    }
-    if current > 1 {
-        return text::PROFILE_BAD;
-    }
-    if last != 0 {
-        return text::PROFILE_BAD;
-    }
-    text::ACCEPTED
-}
-
 // 5 of a flags byte.
-pub fn flags_rule(f: u8) -> Refusal
-    ensures { λ r. ⌜ r ≡ flagsRule f ⌝ }
+pub fn flags_rule(flags: Flags) -> Refusal
+    ensures { λ r. ⌜ r ≡ flagsRule (flags .0) ⌝ }
 {
-    if f / 64 != 0 {
-        return text::FLAGS_BAD;
-    }
-    if f / 4 % 16 != 0 {
-        return text::FLAGS_BAD;
-    }
-    if f / 2 % 2 != 1 {
-        return text::ACCEPTED;
-    }
-    if f % 2 == 0 {
-        return text::FLAGS_BAD;
-    }
-    text::ACCEPTED
+    flags.fault(refusal::FLAGS_BAD, refusal::FLAGS_BAD, refusal::FLAGS_BAD)
 }
 
 fn entry_rule(
     number: Feature,
     before: Feature,
-    flags: u8,
+    flags: Flags,
     len: u8,
     offset: u32,
     end: usize,
 ) -> Refusal
-    ensures { λ r. ⌜ r ≡ entryRule (number .0) (before .0) flags len offset end ⌝ }
+    ensures { λ r. ⌜ r ≡ entryRule (number .0) (before .0) (flags .0) len offset end ⌝ }
 {
     if number.0 == 0 {
-        return text::ORDER_BAD;
+        return refusal::ORDER_BAD;
     }
     if number.0 <= before.0 {
-        return text::ORDER_BAD;
+        return refusal::ORDER_BAD;
     }
     let fault = flags_rule(flags);
     if fault.number != 0 {
         return fault;
     }
     if len % 4 != 0 {
-        return text::LENGTH_BAD;
+        return refusal::LENGTH_BAD;
     }
     if offset as usize != end {
-        return text::OFFSET_BAD;
+        return refusal::OFFSET_BAD;
     }
-    text::ACCEPTED
+    refusal::ACCEPTED
 }
 
-// ---- the rules, at each profile and entry
-
-// Whether profiles i and j have one number.
-fn same_profile(s: &[u8], i: u16, j: u16) -> Refusal
-    ensures { λ r. ⌜ r ≡ sameProfile (now (s .entry)) i j ⌝ }
-{
-    let a = layout::profile_at(s, j);
-    let b = layout::profile_at(s, i);
-    if a.0 == b.0 {
-        return text::PROFILE_BAD;
-    }
-    text::ACCEPTED
-}
-
-// Whether a profile before profile i has its number.
-fn listed_before(s: &[u8], i: u16) -> Refusal
-    ensures { λ r. ⌜ r ≡ firstOf (sameProfile (now (s .entry)) i) 0 i ⌝ }
-{
-    let mut j: u16 = 0;
-    while j < i {
-        let fault = same_profile(s, i, j);
-        if fault.number != 0 {
-            return fault;
-        }
-        j += 1;
-    }
-    text::ACCEPTED
-}
-
-fn profile_fault(s: &[u8], i: u16) -> Refusal
-    ensures { λ r. ⌜ r ≡ profileFault (now (s .entry)) i ⌝ }
-{
-    let profile = layout::profile_at(s, i);
-    let listed = listed_before(s, i);
-    profile_rule(
-        profile,
-        listed,
-        layout::current_at(s, i),
-        layout::last_at(s, i),
-    )
-}
-
-// The first refusal of the first p profiles.
-fn profiles_fault(s: &[u8], p: u16) -> Refusal
-    ensures { λ r. ⌜ r ≡ firstOf (profileFault (now (s .entry))) 0 p ⌝ }
-{
-    let mut i: u16 = 0;
-    while i < p {
-        let fault = profile_fault(s, i);
-        if fault.number != 0 {
-            return fault;
-        }
-        i += 1;
-    }
-    text::ACCEPTED
-}
+// ---- the rules, at each entry
 
 // The feature number before entry i, 0 at the first.
 fn number_before(s: &[u8], i: u16) -> Feature
@@ -158,10 +74,11 @@ fn entry_fault(s: &[u8], i: u16, before: Feature, end: usize) -> Refusal
     ensures { λ r. ⌜ r ≡ entryRule (number (now (s .entry)) i) (before .0) (flags (now (s .entry)) i) (bodyLength (now (s .entry)) i) (offset (now (s .entry)) i) end ⌝ }
 {
     let feature = layout::feature_at(s, i);
+    let flags = Flags(layout::flags_at(s, i));
     entry_rule(
         feature,
         before,
-        layout::flags_at(s, i),
+        flags,
         layout::length_at(s, i),
         layout::offset_at(s, i),
         end,
@@ -184,7 +101,7 @@ fn entries_fault(s: &[u8], n: u16) -> Refusal
         before = number_before(s, i);
         end = end_before(s, i);
     }
-    text::ACCEPTED
+    refusal::ACCEPTED
 }
 
 // ---- the check
@@ -194,9 +111,9 @@ fn counted_fault(s: &[u8], n: u16, p: u16) -> Refusal
     ensures { λ r. ⌜ r ≡ counted (now (s .entry)) n p ⌝ }
 {
     if 63 < p {
-        return text::PROFILES_MANY;
+        return refusal::PROFILES_MANY;
     }
-    let profiles = profiles_fault(s, p);
+    let profiles = profiles::fault(layout::profiles_part(s));
     if profiles.number != 0 {
         return profiles;
     }
@@ -205,9 +122,9 @@ fn counted_fault(s: &[u8], n: u16, p: u16) -> Refusal
         return entries;
     }
     if s.len() != end_before(s, n) {
-        return text::SHEET_LONG;
+        return refusal::SHEET_LONG;
     }
-    text::ACCEPTED
+    refusal::ACCEPTED
 }
 
 // The first refusal of a drive sheet, number 0 where it is accepted.
@@ -215,10 +132,51 @@ pub fn check(s: &[u8]) -> Refusal
     ensures { λ r. ⌜ r ≡ verdict (now (s .entry)) ⌝ }
 {
     if s.len() < 4 {
-        return text::SHEET_SHORT;
+        return refusal::SHEET_SHORT;
     }
     if s.len() < layout::bodies_at(s) {
-        return text::SHEET_SHORT;
+        return refusal::SHEET_SHORT;
     }
     counted_fault(s, layout::feature_count(s), layout::profile_count(s))
+}
+
+// ---- the search for an entry
+
+struct Range {
+    low: u16,
+    high: u16,
+}
+
+// The half of a range where the first entry numbered sfn or more is.
+// Asks: a range that is not empty; the bisection stops at an empty one.
+fn halved(s: &[u8], sfn: Feature, low: u16, high: u16) -> Range
+    requires { ⌜ low < high ⌝ }
+    ensures { λ r. ⌜ r ≡ half (now (s .entry)) (sfn .0) low high ⌝ }
+{
+    let middle = low + (high - low) / 2;
+    let feature = layout::feature_at(s, middle);
+    if feature.0 < sfn.0 {
+        return Range {
+            low: middle + 1,
+            high: high,
+        };
+    }
+    Range {
+        low: low,
+        high: middle,
+    }
+}
+
+// The first of n entries numbered sfn or more, n if there is none: by bisection, so that an accepted sheet's entries are not walked.
+pub fn first_from(s: &[u8], n: u16, sfn: Feature) -> u16
+    ensures { λ r. ⌜ r ≡ firstFrom (now (s .entry)) n (sfn .0) ⌝ }
+{
+    let mut low: u16 = 0;
+    let mut high = n;
+    while low < high {
+        let half = halved(s, sfn, low, high);
+        low = half.low;
+        high = half.high;
+    }
+    low
 }

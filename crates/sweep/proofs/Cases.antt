@@ -8,58 +8,58 @@ use lib.Dec.{ltb, eqb}
 use lib.ListN.{length, take, drop}
 use borrow.Author.Tests.{ltb-false, eqb-false}
 use Rattle.base.specs.Lists.{flat}
-use Rattle.text.specs.declared.Refusal.{Refusal}
-use Rattle.text.specs.First.{_orElse_}
+use Rattle.refusal.specs.declared.Refusal.{Refusal}
+use Rattle.refusal.specs.First.{_orElse_}
 use Rattle.text.specs.Response.{bytes}
 use Rattle.text.specs.Reading.{readFault, lastNumber}
-use Rattle.text.proofs.First.{if-zero, orElse-assoc, orElse-zero}
+use Rattle.refusal.proofs.First.{if-zero, orElse-assoc, orElse-zero}
 use Rattle.sweep.specs.declared.Sweep.{Sweep}
-use Rattle.sweep.specs.Sweep.{most, startRule, none, fresh, started, cut, empty, found, openRule, roomRule, takeFault, advanced, endedNow, after, stepped, collecting}
-use Rattle.sweep.specs.Numbers.{closedRule, refusing}
+use Rattle.sweep.specs.Sweep.{most, startRule, notStarted, fresh, started, cut, empty, wholesOf, openRule, roomRule, takeFault, advanced, endedNow, after, stepped, collecting, refusedStep}
+use Rattle.sweep.specs.inner.Numbers.{closedRule}
 
 -- ---- starting
 
 -- what holds of a fresh record and of one that has ended with all numbers 0 holds of a started one
-pub started-cases : (rt a : ℕ) (P : Sweep → Type 0) → P (fresh rt a) → P none → P (started rt a .sweep)
+pub started-cases : (rt a : ℕ) (P : Sweep → Type 0) → P (fresh rt a) → P notStarted → P (started rt a .sweep)
 unfolding started
 started-cases rt a P p q = go (startRule rt a .number)
   where
-    go : (n : ℕ) → P (elim n [ zero ↦ fresh rt a | suc e ↦ none ])
+    go : (n : ℕ) → P (elim n [ zero ↦ fresh rt a | suc e ↦ notStarted ])
     go zero = p
     go (suc n) = q
 
 -- ---- a refusal
 
 module _ (r : Refusal) (w : Sweep) (s : List ℕ) (h : r .number ≡ 0 → ⊥) where
-  after-fault : after r w s ≡ refusing r w .sweep
-  unfolding refusing after
+  after-fault : after r w s ≡ refusedStep r w .sweep
+  unfolding refusedStep after
   after-fault = go (r .number) h
     where
-      go : (n : ℕ) → (n ≡ 0 → ⊥) → elim n [ zero ↦ advanced w s (found w s) | suc e ↦ refusing r w .sweep ] ≡ refusing r w .sweep
+      go : (n : ℕ) → (n ≡ 0 → ⊥) → elim n [ zero ↦ advanced w s (wholesOf w s) | suc e ↦ refusedStep r w .sweep ] ≡ refusedStep r w .sweep
       go zero k = absurd (k refl)
       go (suc n) k = refl
 
 module _ (w : Sweep) (s out : List ℕ) (h : takeFault w s (length out) .number ≡ 0 → ⊥) where
-  pub stepped-fault : stepped w s out ≡ refusing (takeFault w s (length out)) w
-  unfolding stepped refusing
+  pub stepped-fault : stepped w s out ≡ refusedStep (takeFault w s (length out)) w
+  unfolding stepped refusedStep
   stepped-fault = ap (λ (v : Sweep). record { refusal = takeFault w s (length out); sweep = v }) (after-fault (takeFault w s (length out)) w s h)
 
   pub collecting-fault : collecting w s out ≡ out
   unfolding collecting
   collecting-fault = go (takeFault w s (length out) .number) h
     where
-      go : (n : ℕ) → (n ≡ 0 → ⊥) → elim n [ zero ↦ take (w .collected) out ++ flat bytes (found w s) ++ drop (w .collected + length (flat bytes (found w s))) out | suc e ↦ out ] ≡ out
+      go : (n : ℕ) → (n ≡ 0 → ⊥) → elim n [ zero ↦ take (w .collected) out ++ flat bytes (wholesOf w s) ++ drop (w .collected + length (flat bytes (wholesOf w s))) out | suc e ↦ out ] ≡ out
       go zero k = absurd (k refl)
       go (suc n) k = refl
 
 -- ---- an accepted response
 
 module _ (w : Sweep) (s out : List ℕ) (h : takeFault w s (length out) .number ≡ 0) where
-  pub stepped-none : stepped w s out ≡ record { refusal = takeFault w s (length out); sweep = advanced w s (found w s) }
+  pub stepped-none : stepped w s out ≡ record { refusal = takeFault w s (length out); sweep = advanced w s (wholesOf w s) }
   unfolding stepped after
   stepped-none = rw (h, after)
 
-  pub collecting-none : collecting w s out ≡ take (w .collected) out ++ flat bytes (found w s) ++ drop (w .collected + length (flat bytes (found w s))) out
+  pub collecting-none : collecting w s out ≡ take (w .collected) out ++ flat bytes (wholesOf w s) ++ drop (w .collected + length (flat bytes (wholesOf w s))) out
   unfolding collecting
   collecting-none = rw (h, collecting)
 
@@ -69,9 +69,9 @@ pub record Taken (w : Sweep) (s : List ℕ) (room : ℕ) : Type 0 where
   pub few : w .commands ≤ 65535
   pub read : readFault (most (w .allocation)) (w .rt) (w .next .0) s .number ≡ 0
   pub full : cut s ≡ true → most (w .allocation) ≤ length s
-  pub some : cut s ≡ true → empty (found w s) ≡ false
-  pub below : cut s ≡ true → lastNumber (found w s) ≡ 65535 → ⊥
-  pub fits : w .collected + length (flat bytes (found w s)) ≤ room
+  pub some : cut s ≡ true → empty (wholesOf w s) ≡ false
+  pub below : cut s ≡ true → lastNumber (wholesOf w s) ≡ 65535 → ⊥
+  pub fits : w .collected + length (flat bytes (wholesOf w s)) ≤ room
 
 pub taken-facts : (w : Sweep) (s : List ℕ) (room : ℕ) → takeFault w s room .number ≡ 0 → Taken w s room
 unfolding takeFault openRule roomRule
@@ -88,9 +88,9 @@ taken-facts w s room h =
       few = ltb-false 65535 (w .commands) (if-zero _ _ _ (d .1) .0);
       read = c .0;
       full = λ q. ltb-false (length s) (most (w .allocation)) (only (ltb (length s) (most (w .allocation))) q (e .0));
-      some = λ q. only (empty (found w s)) q (f .0);
-      below = λ q. eqb-false (lastNumber (found w s)) 65535 (only (eqb (lastNumber (found w s)) 65535) q (g .0));
-      fits = ltb-false room (w .collected + length (flat bytes (found w s))) (if-zero _ _ _ (g .1) .0);
+      some = λ q. only (empty (wholesOf w s)) q (f .0);
+      below = λ q. eqb-false (lastNumber (wholesOf w s)) 65535 (only (eqb (lastNumber (wholesOf w s)) 65535) q (g .0));
+      fits = ltb-false room (w .collected + length (flat bytes (wholesOf w s))) (if-zero _ _ _ (g .1) .0);
     }
   where
     only : (b : Bool) → cut s ≡ true → (cut s && b) ≡ false → b ≡ false
@@ -99,9 +99,9 @@ taken-facts w s room h =
 -- ---- what holds of a refused step, whether or not it ends the sweep, and of an accepted one, holds of every step
 
 module _ (w : Sweep) (s out : List ℕ) (P : ℕ → Sweep → Type 0) where
-  pub step-cases : ((e : ℕ) → P (suc e) w) → ((e : ℕ) → P (suc e) (endedNow w)) → (takeFault w s (length out) .number ≡ 0 → P 0 (advanced w s (found w s)))
+  pub step-cases : ((e : ℕ) → P (suc e) w) → ((e : ℕ) → P (suc e) (endedNow w)) → (takeFault w s (length out) .number ≡ 0 → P 0 (advanced w s (wholesOf w s)))
       → P (stepped w s out .refusal .number) (stepped w s out .sweep)
-  unfolding refusing
+  unfolding refusedStep
   step-cases stays ends accepts = go (takeFault w s (length out) .number) refl
     where
       mark : (n : ℕ) (b : Bool) → P (suc n) (elim b [ true ↦ endedNow w | false ↦ w ])
@@ -115,6 +115,6 @@ module _ (w : Sweep) (s out : List ℕ) (P : ℕ → Sweep → Type 0) where
 -- ---- the record's own refusals come first
 
 pub closed-first : (w : Sweep) (s : List ℕ) (room : ℕ)
-    → takeFault w s room ≡ (closedRule w orElse readFault (most (w .allocation)) (w .rt) (w .next .0) s orElse roomRule w s (found w s) room)
+    → takeFault w s room ≡ (closedRule w orElse readFault (most (w .allocation)) (w .rt) (w .next .0) s orElse roomRule w s (wholesOf w s) room)
 unfolding takeFault closedRule
 closed-first w s room = sym (orElse-assoc _ _ _)

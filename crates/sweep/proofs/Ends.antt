@@ -9,17 +9,17 @@ use lib.Dec.{ltb}
 use lib.ListN.{length}
 use borrow.Author.Tests.{not-false}
 use Rattle.base.specs.Lists.{All, Bytes}
-use Rattle.text.specs.declared.Refusal.{Refusal}
-use Rattle.text.specs.First.{refuse, accept, _if_else_, pickZero, _orElse_}
+use Rattle.refusal.specs.declared.Refusal.{Refusal}
+use Rattle.refusal.specs.First.{refuse, accept, _if_else_, pickZero, _orElse_}
 use Rattle.text.specs.Drive.{Desc, Good, Asc}
 use Rattle.text.specs.Reading.{lastNumber}
-use Rattle.text.proofs.First.{if-true, orElse-fault}
+use Rattle.refusal.proofs.First.{if-true, orElse-fault}
 use Rattle.text.proofs.Again.{walked-asc, walked-good}
 use Rattle.sweep.specs.declared.Sweep.{Sweep}
 use Rattle.sweep.specs.declared.Step.{Step}
-use Rattle.sweep.specs.Sweep.{startRule, none, fresh, started, cut, empty, found, openRule, takeFault, advanced, endedNow, stepped}
-use Rattle.sweep.specs.Numbers.{closedRule, refusing}
-use Rattle.sweep.specs.Run.{Offer, Received, taking, run, ifNone, accepted}
+use Rattle.sweep.specs.Sweep.{startRule, notStarted, fresh, started, cut, empty, wholesOf, openRule, takeFault, advanced, endedNow, stepped, refusedStep}
+use Rattle.sweep.specs.inner.Numbers.{closedRule}
+use Rattle.sweep.specs.Run.{Offer, Received, taking, sweepOver, ifNone, acceptedOf}
 use Rattle.sweep.proofs.Numbers.{refusing-stays}
 use Rattle.sweep.proofs.Cases.{started-cases, step-cases, stepped-fault, Taken, taken-facts, closed-first}
 
@@ -45,16 +45,16 @@ pub record Within (w : Sweep) : Type 0 where
   pub most : w .commands ≤ 65536
 
 module _ (w : Sweep) (s out : List ℕ) (b : Bytes s) (i : Within w) where
-  advanced-within : takeFault w s (length out) .number ≡ 0 → Within (advanced w s (found w s))
-  unfolding advanced found
+  advanced-within : takeFault w s (length out) .number ≡ 0 → Within (advanced w s (wholesOf w s))
+  unfolding advanced wholesOf
   advanced-within h =
       let t : Taken w s (length out) = taken-facts w s (length out) h in
       let g : (w .commands ≤ w .next .0) × (w .next .0 ≤ 65535) = i .going (t .going) in
-      let low : lastNumber (found w s) < 65536 = last-low (found w s) (walked-good (w .rt) (w .next .0) s b) in
+      let low : lastNumber (wholesOf w s) < 65536 = last-low (wholesOf w s) (walked-good (w .rt) (w .next .0) s b) in
       record {
         going = λ e.
             let c : cut s ≡ true = not-false (cut s) e in
-            let f : w .next .0 ≤ lastNumber (found w s) = last-from (w .next .0) (found w s) (walked-asc (w .rt) (w .next .0) s) (t .some c) in
+            let f : w .next .0 ≤ lastNumber (wholesOf w s) = last-from (w .next .0) (wholesOf w s) (walked-asc (w .rt) (w .next .0) s) (t .some c) in
             rw (c, advanced) (omega arith, omega (arith, t .below c));
         most = omega arith;
       }
@@ -69,13 +69,13 @@ module _ (w : Sweep) (s out : List ℕ) (b : Bytes s) (i : Within w) where
 
 -- ---- all steps
 
-pub run-within : (w : Sweep) (os : List Offer) → All Received os → Within w → Within (run w os)
-unfolding run taking
+pub run-within : (w : Sweep) (os : List Offer) → All Received os → Within w → Within (sweepOver w os)
+unfolding sweepOver taking
 run-within w [] a i = i
 run-within w (o ∷ os) a i = run-within (taking w o) os (a .1) (stepped-within w (o .response) (o .buffer) (a .0) i)
 
 pub started-within : (rt a : ℕ) → Within (started rt a .sweep)
-unfolding none fresh
+unfolding notStarted fresh
 started-within rt a =
     started-cases rt a Within
     record { going = λ e. (omega arith, omega arith); most = omega arith }
@@ -86,30 +86,30 @@ step-commands : (w : Sweep) (s out : List ℕ) → stepped w s out .sweep .comma
 unfolding ifNone advanced endedNow
 step-commands w s out = step-cases w s out (λ n v. v .commands ≡ w .commands + ifNone n) (λ e. omega arith) (λ e. omega arith) (λ h. refl)
 
-pub run-commands : (w : Sweep) (os : List Offer) → run w os .commands ≡ w .commands + accepted w os
-unfolding run accepted taking
+pub run-commands : (w : Sweep) (os : List Offer) → sweepOver w os .commands ≡ w .commands + acceptedOf w os
+unfolding sweepOver acceptedOf taking
 run-commands w [] = omega arith
 run-commands w (o ∷ os) = omega (arith, run-commands (taking w o) os, step-commands w (o .response) (o .buffer))
 
 started-commands : (rt a : ℕ) → started rt a .sweep .commands ≡ 0
-unfolding none fresh
+unfolding notStarted fresh
 started-commands rt a = started-cases rt a (λ w. w .commands ≡ 0) refl refl
 
 -- ---- the theorem
 
 module _ (rt a : ℕ) (os : List Offer) (r : All Received os) where
-  count-is : run (started rt a .sweep) os .commands ≡ accepted (started rt a .sweep) os
+  count-is : sweepOver (started rt a .sweep) os .commands ≡ acceptedOf (started rt a .sweep) os
   count-is = omega (arith, run-commands (started rt a .sweep) os, started-commands rt a)
 
   -- a started sweep accepts at most 65,536 responses
-  pub accepts-most : accepted (started rt a .sweep) os ≤ 65536
+  pub accepts-most : acceptedOf (started rt a .sweep) os ≤ 65536
   accepts-most = omega (arith, count-is, run-within (started rt a .sweep) os r (started-within rt a) .most)
 
   -- and the last of so many ends it
-  pub last-ends : accepted (started rt a .sweep) os ≡ 65536 → run (started rt a .sweep) os .ended ≡ true
-  last-ends e = go (run (started rt a .sweep) os .ended) refl
+  pub last-ends : acceptedOf (started rt a .sweep) os ≡ 65536 → sweepOver (started rt a .sweep) os .ended ≡ true
+  last-ends e = go (sweepOver (started rt a .sweep) os .ended) refl
     where
-      go : (b : Bool) → run (started rt a .sweep) os .ended ≡ b → run (started rt a .sweep) os .ended ≡ true
+      go : (b : Bool) → sweepOver (started rt a .sweep) os .ended ≡ b → sweepOver (started rt a .sweep) os .ended ≡ true
       go true q = q
       go false q = absurd (omega (arith, count-is, run-within (started rt a .sweep) os r (started-within rt a) .going q))
 
@@ -138,16 +138,16 @@ module _ (w : Sweep) (h : w .ended ≡ true) where
   ended-step s out =
       let f : takeFault w s (length out) ≡ closedRule w = closed-first w s (length out) ∙ orElse-fault _ _ (ended-refuses .0) in
       refusing-stays (closedRule w) w (ended-refuses .1)
-      ∙ ap (λ (r : Refusal). refusing r w) (sym f) ∙ sym (stepped-fault w s out (rw f (ended-refuses .0)))
+      ∙ ap (λ (r : Refusal). refusedStep r w) (sym f) ∙ sym (stepped-fault w s out (rw f (ended-refuses .0)))
 
   -- it accepts nothing more, whatever it is handed
-  pub ended-accepts-none : (os : List Offer) → (accepted w os ≡ 0) × (run w os ≡ w)
-  unfolding accepted run taking
+  pub ended-accepts-none : (os : List Offer) → (acceptedOf w os ≡ 0) × (sweepOver w os ≡ w)
+  unfolding acceptedOf sweepOver taking
   ended-accepts-none [] = (refl, refl)
   ended-accepts-none (o ∷ os) =
       let e : stepped w (o .response) (o .buffer) ≡ record { refusal = closedRule w; sweep = w } = sym (ended-step (o .response) (o .buffer)) in
       let v : taking w o ≡ w = ap (λ (t : Step). t .sweep) e in
       let n : ifNone (stepped w (o .response) (o .buffer) .refusal .number) ≡ 0 =
       ap (λ (t : Step). ifNone (t .refusal .number)) e ∙ ifNone-fault (closedRule w .number) (ended-refuses .0) in
-      let rest : (accepted w os ≡ 0) × (run w os ≡ w) = ended-accepts-none os in
-      (omega (arith, ap (λ (x : Sweep). accepted x os) v), ap (λ (x : Sweep). run x os) v ∙ rest .1)
+      let rest : (acceptedOf w os ≡ 0) × (sweepOver w os ≡ w) = ended-accepts-none os in
+      (omega (arith, ap (λ (x : Sweep). acceptedOf x os) v), ap (λ (x : Sweep). sweepOver x os) v ∙ rest .1)

@@ -3,12 +3,12 @@ use mathlib.Core.Path.{_≡_, refl, ap}
 use mathlib.Core.Bool.{true, false}
 use Prim.Native.Nat.{ℕ, zero, suc, _+_, _≤_, _<_}
 use borrow.Author.Tests.{lt-ltb, le-ltb, eq-eqb, ne-eqb}
-use Rattle.text.specs.declared.Refusal.{Refusal}
-use Rattle.text.specs.First.{refuse, accept, _if_else_}
+use Rattle.refusal.specs.declared.Refusal.{Refusal}
+use Rattle.refusal.specs.First.{refuse, accept, _if_else_}
 use Rattle.reading.specs.declared.Scanned.{Scanned}
 use Rattle.sweep.specs.declared.Sweep.{Sweep}
-use Rattle.sweep.specs.Sweep.{startRule, none, fresh, started, endedNow}
-use Rattle.sweep.specs.Numbers.{spaceRule, refusing, moved}
+use Rattle.sweep.specs.Sweep.{startRule, notStarted, fresh, started, endedNow, refusedStep}
+use Rattle.sweep.specs.inner.Numbers.{spaceRule, moved}
 
 -- ---- the rules
 
@@ -24,11 +24,11 @@ module _ (collected size room : ℕ) where
 -- ---- starting
 
 module _ (rt a : ℕ) (r : Refusal) (q : r ≡ startRule rt a) where
-  pub start-fault : (r .number ≡ 0 → ⊥) → record { refusal = r; sweep = none } ≡ started rt a
+  pub start-fault : (r .number ≡ 0 → ⊥) → record { refusal = r; sweep = notStarted } ≡ started rt a
   unfolding started
   start-fault h = rw (← q) (ap (λ (w : Sweep). record { refusal = r; sweep = w }) (go (r .number) h))
     where
-      go : (n : ℕ) → (n ≡ 0 → ⊥) → none ≡ elim n [ zero ↦ fresh rt a | suc e ↦ none ]
+      go : (n : ℕ) → (n ≡ 0 → ⊥) → notStarted ≡ elim n [ zero ↦ fresh rt a | suc e ↦ notStarted ]
       go zero k = absurd (k refl)
       go (suc n) k = refl
 
@@ -39,13 +39,13 @@ module _ (rt a : ℕ) (r : Refusal) (q : r ≡ startRule rt a) where
 -- ---- the record afterwards
 
 module _ (r : Refusal) (w : Sweep) where
-  pub refusing-ends : r .number ≡ 23 → record { refusal = r; sweep = endedNow w } ≡ refusing r w
-  unfolding refusing
-  refusing-ends h = rw (eq-eqb (r .number) 23 h, refusing)
+  pub refusing-ends : r .number ≡ 23 → record { refusal = r; sweep = endedNow w } ≡ refusedStep r w
+  unfolding refusedStep
+  refusing-ends h = rw (eq-eqb (r .number) 23 h, refusedStep)
 
-  pub refusing-stays : (r .number ≡ 23 → ⊥) → record { refusal = r; sweep = w } ≡ refusing r w
-  unfolding refusing
-  refusing-stays h = rw (ne-eqb (r .number) 23 h, refusing)
+  pub refusing-stays : (r .number ≡ 23 → ⊥) → record { refusal = r; sweep = w } ≡ refusedStep r w
+  unfolding refusedStep
+  refusing-stays h = rw (ne-eqb (r .number) 23 h, refusedStep)
 
 module _ (w : Sweep) (x : Scanned) (collected : ℕ) where
   pub moved-complete : x .reading .complete ≡ true

@@ -10,12 +10,12 @@ use borrow.Author.Tests.{ne-eqb}
 use Rattle.base.specs.Lists.{flat, Bytes}
 use Rattle.lent.specs.Wrote.{Wrote}
 use Rattle.lent.proofs.Laws.{placed}
-use Rattle.text.specs.declared.Refusal.{Refusal}
-use Rattle.text.specs.First.{refuse, accept, _if_else_, _orElse_}
+use Rattle.refusal.specs.declared.Refusal.{Refusal}
+use Rattle.refusal.specs.First.{refuse, accept, _if_else_, _orElse_}
 use Rattle.text.specs.Drive.{Desc}
 use Rattle.text.specs.Response.{bytes}
 use Rattle.text.specs.Reading.{statedEnd, refused, taken, readFault, lastNumber}
-use Rattle.text.proofs.First.{orElse-none, orElse-fault}
+use Rattle.refusal.proofs.First.{orElse-none, orElse-fault}
 use Rattle.text.proofs.Walk.{wholes-accepted}
 use Rattle.text.proofs.Again.{walked-again}
 use Rattle.text.proofs.Received.{reading-cases, reading-none}
@@ -23,8 +23,8 @@ use Rattle.reading.specs.declared.Scanned.{Scanned}
 use Rattle.reading.specs.Scan.{scanned}
 use Rattle.sweep.specs.declared.Sweep.{Sweep}
 use Rattle.sweep.specs.declared.Step.{Step}
-use Rattle.sweep.specs.Sweep.{most, cut, empty, found, roomRule, takeFault, advanced, stepped, collecting}
-use Rattle.sweep.specs.Numbers.{closedRule, cutRule, spaceRule, scanRule, refusing, moved}
+use Rattle.sweep.specs.Sweep.{most, cut, empty, wholesOf, roomRule, takeFault, advanced, stepped, collecting, refusedStep}
+use Rattle.sweep.specs.inner.Numbers.{closedRule, cutRule, spaceRule, scanRule, moved}
 use Rattle.sweep.proofs.Cases.{stepped-fault, collecting-fault, stepped-none, collecting-none, Taken, taken-facts, closed-first}
 
 -- ---- the rules of a scan are those of the definition
@@ -53,17 +53,17 @@ module _ (w : Sweep) (s : List ℕ) (room : ℕ) where
 
   -- the reading's refusal, then those of the room
   scan-room : scanRule w (scanned (most (w .allocation)) (w .rt) (w .next .0) s) (length s) room
-      ≡ (readFault (most (w .allocation)) (w .rt) (w .next .0) s orElse roomRule w s (found w s) room)
-  unfolding scanRule scanned refused taken found
+      ≡ (readFault (most (w .allocation)) (w .rt) (w .next .0) s orElse roomRule w s (wholesOf w s) room)
+  unfolding scanRule scanned refused taken wholesOf
   scan-room =
       reading-cases (most (w .allocation)) (w .rt) (w .next .0) s
       (λ r ds.
       (r .refusal orElse cutRule (r .complete) (length s) (most (w .allocation)) (r .count) (lastNumber ds) orElse spaceRule (w .collected) (r .end - 8) room)
-      ≡ (readFault (most (w .allocation)) (w .rt) (w .next .0) s orElse roomRule w s (found w s) room))
+      ≡ (readFault (most (w .allocation)) (w .rt) (w .next .0) s orElse roomRule w s (wholesOf w s) room))
       (λ k. orElse-fault _ _ k ∙ sym (orElse-fault _ _ k))
       (λ k.
-      let n : 8 + length (flat bytes (found w s)) - 8 ≡ length (flat bytes (found w s)) = omega arith in
-      rw n (orElse-none _ _ refl ∙ cut-space (found w s) (eqb (length s) (statedEnd s)) refl ∙ sym (orElse-none _ _ k)))
+      let n : 8 + length (flat bytes (wholesOf w s)) - 8 ≡ length (flat bytes (wholesOf w s)) = omega arith in
+      rw n (orElse-none _ _ refl ∙ cut-space (wholesOf w s) (eqb (length s) (statedEnd s)) refl ∙ sym (orElse-none _ _ k)))
 
 -- ---- what a scan shows of an accepted response with the whole descriptors ds
 
@@ -81,14 +81,14 @@ seen-moved w s ds n e = rw e (go (eqb (length s) (statedEnd s)) refl)
 -- ---- the step
 
 module _ (w : Sweep) (s out : List ℕ) where
-  refused-step : (r : Refusal) (t : Step) → r ≡ takeFault w s (length out) → (r .number ≡ 0 → ⊥) → t ≡ refusing r w → (t ≡ stepped w s out) × (out ≡ collecting w s out)
+  refused-step : (r : Refusal) (t : Step) → r ≡ takeFault w s (length out) → (r .number ≡ 0 → ⊥) → t ≡ refusedStep r w → (t ≡ stepped w s out) × (out ≡ collecting w s out)
   refused-step r t q h p =
       let k : takeFault w s (length out) .number ≡ 0 → ⊥ = rw (← q) h in
-      (p ∙ ap (λ (x : Refusal). refusing x w) q ∙ sym (stepped-fault w s out k), sym (collecting-fault w s out k))
+      (p ∙ ap (λ (x : Refusal). refusedStep x w) q ∙ sym (stepped-fault w s out k), sym (collecting-fault w s out k))
 
   module _ (r : Refusal) (q : r ≡ closedRule w) where
     -- the record refuses every response
-    pub take-closed : (r .number ≡ 0 → ⊥) → (t : Step) → t ≡ refusing r w → (t ≡ stepped w s out) × (out ≡ collecting w s out)
+    pub take-closed : (r .number ≡ 0 → ⊥) → (t : Step) → t ≡ refusedStep r w → (t ≡ stepped w s out) × (out ≡ collecting w s out)
     take-closed h t p = refused-step r t (q ∙ sym (closed-first w s (length out) ∙ orElse-fault _ _ (rw (← q) h))) h p
 
     -- it is open, and the response is scanned
@@ -103,7 +103,7 @@ module _ (w : Sweep) (s out : List ℕ) where
           ∙ sym (closed-first w s (length out) ∙ orElse-none _ _ (rw (← q) k))
 
       -- the response is refused
-      pub take-refused : (f .number ≡ 0 → ⊥) → (t : Step) → t ≡ refusing f w → (t ≡ stepped w s out) × (out ≡ collecting w s out)
+      pub take-refused : (f .number ≡ 0 → ⊥) → (t : Step) → t ≡ refusedStep f w → (t ≡ stepped w s out) × (out ≡ collecting w s out)
       take-refused h t e = refused-step f t fault-is h e
 
       -- it is accepted
@@ -114,8 +114,8 @@ module _ (w : Sweep) (s out : List ℕ) where
         facts : Taken w s (length out)
         facts = taken-facts w s (length out) fault-zero
 
-        scan-seen : x ≡ seen s (found w s)
-        unfolding scanned seen found
+        scan-seen : x ≡ seen s (wholesOf w s)
+        unfolding scanned seen wholesOf
         scan-seen = scan-is ∙ rw (reading-none _ _ _ s (facts .read), wholes-accepted _ _ _ s (facts .read))
 
         pub take-commands : w .commands < 65536
@@ -125,14 +125,14 @@ module _ (w : Sweep) (s out : List ℕ) where
         unfolding seen taken cut
         take-last = rw scan-seen (λ c. facts .below (ap not c))
 
-        scan-size : x .reading .end - 8 ≡ length (flat bytes (found w s))
+        scan-size : x .reading .end - 8 ≡ length (flat bytes (wholesOf w s))
         unfolding seen taken
         scan-size = rw scan-seen (omega arith)
 
         -- the part of the response that has them was written behind what was collected, and ends at n
         module _ (b : Bytes s) (n size : ℕ) (part e : List ℕ) (i : size ≡ x .reading .end - 8) (j : part ≡ take size (drop 8 s)) (o : Wrote out (w .collected) part n e) where
-          part-found : flat bytes (found w s) ≡ part
-          unfolding found
+          part-found : flat bytes (wholesOf w s) ≡ part
+          unfolding wholesOf
           part-found = walked-again (w .rt) (w .next .0) s b ∙ ap (λ (y : ℕ). take y (drop 8 s)) (sym (i ∙ scan-size)) ∙ sym j
 
           part-fits : w .collected + length part ≤ length out
@@ -140,8 +140,8 @@ module _ (w : Sweep) (s out : List ℕ) where
 
           pub take-taken : (v : Sweep) → v ≡ moved w x n → (record { refusal = f; sweep = v } ≡ stepped w s out) × (e ≡ collecting w s out)
           take-taken v t =
-              let y : n ≡ w .collected + length (flat bytes (found w s)) = omega (arith, ap length part-found, part-fits, o .next) in
-              let z : v ≡ advanced w s (found w s) = t ∙ ap (λ (c : Scanned). moved w c n) scan-seen ∙ seen-moved w s (found w s) n y in (
+              let y : n ≡ w .collected + length (flat bytes (wholesOf w s)) = omega (arith, ap length part-found, part-fits, o .next) in
+              let z : v ≡ advanced w s (wholesOf w s) = t ∙ ap (λ (c : Scanned). moved w c n) scan-seen ∙ seen-moved w s (wholesOf w s) n y in (
                 ap₂ (λ (a : Refusal) (c : Sweep). record { refusal = a; sweep = c }) fault-is z ∙ sym (stepped-none w s out fault-zero),
                 rw (← part-found) at (placed o part-fits) ∙ sym (collecting-none w s out fault-zero),
               )

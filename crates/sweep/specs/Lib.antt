@@ -1,3 +1,3 @@
 pub mod Sweep
-pub mod Numbers
 pub mod Run
+pub mod inner

@@ -18,15 +18,15 @@ Received o = Bytes (o .response)
 unfoldable pub taking : Sweep → Offer → Sweep
 taking w o = stepped w (o .response) (o .buffer) .sweep
 
-unfoldable pub run : Sweep → List Offer → Sweep
-run w [] = w
-run w (o ∷ os) = run (taking w o) os
+unfoldable pub sweepOver : Sweep → List Offer → Sweep
+sweepOver w [] = w
+sweepOver w (o ∷ os) = sweepOver (taking w o) os
 
 -- 1 where a response is accepted, 0 where it is refused; and how many of all are accepted
 unfoldable pub ifNone : ℕ → ℕ
 ifNone zero = 1
 ifNone (suc e) = 0
 
-unfoldable pub accepted : Sweep → List Offer → ℕ
-accepted w [] = 0
-accepted w (o ∷ os) = ifNone (stepped w (o .response) (o .buffer) .refusal .number) + accepted (taking w o) os
+unfoldable pub acceptedOf : Sweep → List Offer → ℕ
+acceptedOf w [] = 0
+acceptedOf w (o ∷ os) = ifNone (stepped w (o .response) (o .buffer) .refusal .number) + acceptedOf (taking w o) os

@@ -5,8 +5,8 @@ use Prim.Native.Nat.{ℕ, zero, suc, _+_, min}
 use lib.Dec.{ltb, eqb}
 use lib.ListN.{length, take, drop}
 use Rattle.base.specs.Lists.{flat}
-use Rattle.text.specs.declared.Refusal.{Refusal}
-use Rattle.text.specs.First.{refuse, accept, _if_else_, _orElse_}
+use Rattle.refusal.specs.declared.Refusal.{Refusal}
+use Rattle.refusal.specs.First.{refuse, accept, _if_else_, _orElse_}
 use Rattle.text.specs.Drive.{Desc}
 use Rattle.text.specs.Response.{bytes}
 use Rattle.text.specs.Reading.{statedEnd, walked, readFault, lastNumber}
@@ -25,8 +25,8 @@ startRule rt a =
     accept
 
 -- a record that has ended, with all numbers 0; and a fresh one
-unfoldable pub none : Sweep
-none = record { rt = 0; allocation = 0; next = record { 0 = 0 }; commands = 0; collected = 0; ended = true }
+unfoldable pub notStarted : Sweep
+notStarted = record { rt = 0; allocation = 0; next = record { 0 = 0 }; commands = 0; collected = 0; ended = true }
 
 unfoldable pub fresh : (rt a : ℕ) → Sweep
 fresh rt a = record { rt = rt; allocation = a; next = record { 0 = 0 }; commands = 0; collected = 0; ended = false }
@@ -35,7 +35,7 @@ fresh rt a = record { rt = rt; allocation = a; next = record { 0 = 0 }; commands
 unfoldable pub started : (rt a : ℕ) → Step
 started rt a = record {
   refusal = startRule rt a;
-  sweep = elim (startRule rt a .number) [ zero ↦ fresh rt a | suc e ↦ none ];
+  sweep = elim (startRule rt a .number) [ zero ↦ fresh rt a | suc e ↦ notStarted ];
 }
 
 -- the response is cut; it has no whole descriptor
@@ -47,8 +47,8 @@ empty [] = true
 empty (d ∷ ds) = false
 
 -- the whole descriptors of a response to the record's next command
-unfoldable pub found : Sweep → List ℕ → List Desc
-found w s = walked (w .rt) (w .next .0) s .found
+unfoldable pub wholesOf : Sweep → List ℕ → List Desc
+wholesOf w s = walked (w .rt) (w .next .0) s .found
 
 -- 26: it had ended, or has more than 65,535 commands
 unfoldable pub openRule : Sweep → Refusal
@@ -72,7 +72,7 @@ takeFault w s room =
     startRule (w .rt) (w .allocation) orElse
     openRule w orElse
     readFault (most (w .allocation)) (w .rt) (w .next .0) s orElse
-    roomRule w s (found w s) room
+    roomRule w s (wholesOf w s) room
 
 -- the record afterwards: on 23 only the mark that it has ended changes, on any other refusal nothing; else the descriptors count, a complete
 -- response ends it, a cut one sets the next start to the last number plus 1
@@ -89,8 +89,12 @@ advanced w s ds = record {
 unfoldable pub endedNow : Sweep → Sweep
 endedNow w = record { rt = w .rt; allocation = w .allocation; next = w .next; commands = w .commands; collected = w .collected; ended = true }
 
+-- what a refusal hands back: on 23 only the mark that it has ended changes, on any other nothing
+unfoldable pub refusedStep : Refusal → Sweep → Step
+refusedStep r w = record { refusal = r; sweep = elim (eqb (r .number) 23) [ true ↦ endedNow w | false ↦ w ] }
+
 unfoldable pub after : Refusal → Sweep → List ℕ → Sweep
-after r w s = elim (r .number) [ zero ↦ advanced w s (found w s) | suc e ↦ elim (eqb (r .number) 23) [ true ↦ endedNow w | false ↦ w ] ]
+after r w s = elim (r .number) [ zero ↦ advanced w s (wholesOf w s) | suc e ↦ elim (eqb (r .number) 23) [ true ↦ endedNow w | false ↦ w ] ]
 
 -- what is handed back, and the collecting buffer afterwards: the whole descriptors behind those collected, its only change
 unfoldable pub stepped : (w : Sweep) (s out : List ℕ) → Step
@@ -99,6 +103,6 @@ stepped w s out = record { refusal = takeFault w s (length out); sweep = after (
 unfoldable pub collecting : (w : Sweep) (s out : List ℕ) → List ℕ
 collecting w s out =
     elim (takeFault w s (length out) .number) [
-      | zero ↦ take (w .collected) out ++ flat bytes (found w s) ++ drop (w .collected + length (flat bytes (found w s))) out
+      | zero ↦ take (w .collected) out ++ flat bytes (wholesOf w s) ++ drop (w .collected + length (flat bytes (wholesOf w s))) out
       | suc e ↦ out
     ]

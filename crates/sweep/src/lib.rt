@@ -2,12 +2,12 @@
 ghost use mathlib.Core.Path.{_≡_};
 ghost use mathlib.Core.Bool.{false};
 ghost use Prim.Native.Nat.{_-_, _<_};
-ghost use Rattle.sweep.specs.Sweep.{most, startRule, openRule, started, stepped, collecting};
-ghost use Rattle.sweep.specs.Numbers.{closedRule, cutRule, spaceRule, scanRule, refusing, moved};
+ghost use Rattle.sweep.specs.Sweep.{most, startRule, openRule, started, stepped, collecting, refusedStep};
+ghost use Rattle.sweep.specs.inner.Numbers.{closedRule, cutRule, spaceRule, scanRule, moved};
 use reading::Scanned;
+use refusal::Refusal;
 use text::Feature;
 use text::Header;
-use text::Refusal;
 
 // A sweep so far. Any record may be handed in, one that no sweep reaches too.
 pub struct Sweep {
@@ -34,12 +34,12 @@ fn start_rule(rt: u8, allocation: u16) -> Refusal
     ensures { λ r. ⌜ r ≡ startRule rt allocation ⌝ }
 {
     if rt > 1 {
-        return text::SWEEP_RT_BAD;
+        return refusal::SWEEP_RT_BAD;
     }
     if (allocation as usize) < Header::LENGTH {
-        return text::ALLOCATION_SHORT;
+        return refusal::ALLOCATION_SHORT;
     }
-    text::ACCEPTED
+    refusal::ACCEPTED
 }
 
 // What is refused of a cut response of so many bytes, with so many whole descriptors, the last numbered last.
@@ -47,18 +47,18 @@ fn cut_rule(complete: bool, received: usize, most: usize, count: u32, last: Feat
     ensures { λ r. ⌜ r ≡ cutRule complete received most count (last .0) ⌝ }
 {
     if complete {
-        return text::ACCEPTED;
+        return refusal::ACCEPTED;
     }
     if received < most {
-        return text::CUT_SHORT;
+        return refusal::CUT_SHORT;
     }
     if count == 0 {
-        return text::NONE_WHOLE;
+        return refusal::NONE_WHOLE;
     }
     if last.0 == LAST_FEATURE.0 {
-        return text::CUT_AT_LAST;
+        return refusal::CUT_AT_LAST;
     }
-    text::ACCEPTED
+    refusal::ACCEPTED
 }
 
 // Size bytes behind those collected need room.
@@ -66,12 +66,12 @@ fn space_rule(collected: usize, size: usize, room: usize) -> Refusal
     ensures { λ r. ⌜ r ≡ spaceRule collected size room ⌝ }
 {
     if room < collected {
-        return text::COLLECTED_FULL;
+        return refusal::COLLECTED_FULL;
     }
     if room - collected < size {
-        return text::COLLECTED_FULL;
+        return refusal::COLLECTED_FULL;
     }
-    text::ACCEPTED
+    refusal::ACCEPTED
 }
 
 // C: the most bytes that a response to an allocation length has.
@@ -102,12 +102,12 @@ impl Sweep {
         ensures { λ r. ⌜ r ≡ openRule self ⌝ }
     {
         if self.ended {
-            return text::SWEEP_ENDED;
+            return refusal::SWEEP_ENDED;
         }
         if self.commands >= Sweep::MOST_COMMANDS {
-            return text::SWEEP_ENDED;
+            return refusal::SWEEP_ENDED;
         }
-        text::ACCEPTED
+        refusal::ACCEPTED
     }
 
     // What a record refuses whatever the response.
@@ -146,10 +146,10 @@ impl Sweep {
 
     // A refusal. A cut response with no whole descriptor ends the sweep, any other refusal leaves it as it was.
     fn refused(self, fault: Refusal) -> Step
-        ensures { λ r. ⌜ r ≡ refusing fault self ⌝ }
+        ensures { λ r. ⌜ r ≡ refusedStep fault self ⌝ }
     {
         let mut sweep = self;
-        if fault.number == text::NONE_WHOLE.number {
+        if fault.number == refusal::NONE_WHOLE.number {
             sweep.ended = true;
             return Step {
                 refusal: fault,

@@ -10,8 +10,8 @@ use Rattle.base.specs.Lists.{flat, All, Bytes}
 use Rattle.base.proofs.Lists.{bytes-take, bytes-drop, take-two, take-more, part-take, front-rest, front-count}
 use Rattle.fields.specs.Field.{spell}
 use Rattle.fields.proofs.Laws.{spell-field, field-lt, field-take}
-use Rattle.text.specs.declared.Refusal.{Refusal}
-use Rattle.text.specs.First.{accept}
+use Rattle.refusal.specs.declared.Refusal.{Refusal}
+use Rattle.refusal.specs.First.{accept}
 use Rattle.text.specs.Drive.{Desc, Good, Asc}
 use Rattle.text.specs.Response.{bytes}
 use Rattle.text.specs.Reading.{Walked, stop, onward, statedLength, statedEnd, numberAt, flagsAt, lengthAt, descAt, headFault, walk, walked, readFault, wholes}

@@ -1,5 +1,5 @@
 -- Laws that the proofs of the crates above cite.
-pub mod First
+pub mod FlagsRule
 pub mod Profiles
 pub mod Selection
 pub mod Sizes

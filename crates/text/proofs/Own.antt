@@ -11,12 +11,12 @@ use lib.Seq.{drop-at}
 use borrow.Author.Tests.{le-leb, lt-leb, eq-eqb, ne-eqb}
 use Rattle.base.specs.Lists.{flat, All}
 use Rattle.base.proofs.Lists.{all-map, drop-behind, take-append-ge}
-use Rattle.text.specs.declared.Refusal.{Refusal}
-use Rattle.text.specs.First.{accept}
+use Rattle.refusal.specs.declared.Refusal.{Refusal}
+use Rattle.refusal.specs.First.{accept, unless}
 use Rattle.text.specs.Flags.{current}
 use Rattle.text.specs.Drive.{Desc, Drive, Good, Asc, Sound}
 use Rattle.text.specs.Response.{bytes, wants, selected, currentProfile, header, dataLength, full, sent}
-use Rattle.text.specs.Reading.{Walked, statedLength, statedProfile, statedEnd, lengthAt, headFault, walk, walked, readFault, taken, unless, reading, wholes}
+use Rattle.text.specs.Reading.{Walked, statedLength, statedProfile, statedEnd, lengthAt, headFault, walk, walked, readFault, taken, reading, wholes}
 use Rattle.text.specs.Packing.{size, total, whole, rest}
 use Rattle.base.proofs.Compare.{le-or-lt}
 use Rattle.text.proofs.Selection.{asc-down, wants-current, selected-wanted, selected-asc, selected-good}

@@ -8,12 +8,13 @@ use lib.ListN.{length, take, drop, length-append, length-drop}
 use lib.Seq.{length-take-le}
 use Rattle.base.specs.Lists.{flat, Bytes}
 use Rattle.base.proofs.Lists.{take-more}
-use Rattle.text.specs.declared.Refusal.{Refusal}
+use Rattle.refusal.specs.declared.Refusal.{Refusal}
 use Rattle.text.specs.declared.Reading.{Reading}
-use Rattle.text.specs.First.{refuse}
+use Rattle.refusal.specs.First.{refuse}
+use Rattle.refusal.proofs.First.{unless-none, unless-fault}
 use Rattle.text.specs.Drive.{Desc, Asc}
 use Rattle.text.specs.Response.{bytes}
-use Rattle.text.specs.Reading.{lengthAt, descAt, walk, statedLength, statedEnd, walked, readFault, refused, taken, unless, reading, wholes}
+use Rattle.text.specs.Reading.{lengthAt, descAt, walk, statedLength, statedEnd, walked, readFault, refused, taken, reading, wholes}
 use Rattle.text.proofs.Sizes.{length-bytes}
 use Rattle.text.proofs.Walk.{walk-induct, readFault-header, wholes-accepted, wholes-refused}
 use Rattle.text.proofs.Again.{bytes-descAt, walk-asc}
@@ -66,24 +67,16 @@ stand-ends s at (d ∷ ds) l h =
 
 -- ---- a reading that is refused, and one that is not
 
-unless-fault : (r : Refusal) (x : Reading) → (r .number ≡ 0 → ⊥) → unless r x ≡ refused r
-unfolding unless
-unless-fault r x k = go (r .number) refl
-  where
-    go : (n : ℕ) → r .number ≡ n → unless r x ≡ refused r
-    go zero e = absurd (k e)
-    go (suc n) e = rw (e, unless) (ap (λ (m : ℕ). refused (refuse m)) e)
-
 module _ (limit rt sfn : ℕ) (s : List ℕ) where
   module _ (k : readFault limit rt sfn s .number ≡ 0 → ⊥) where
     pub reading-fault : reading limit rt sfn s ≡ refused (readFault limit rt sfn s)
     unfolding reading
-    reading-fault = unless-fault (readFault limit rt sfn s) (taken s (walked rt sfn s .found)) k
+    reading-fault = unless-fault (readFault limit rt sfn s) refused (taken s (walked rt sfn s .found)) k
 
   module _ (k : readFault limit rt sfn s .number ≡ 0) where
     pub reading-none : reading limit rt sfn s ≡ taken s (walked rt sfn s .found)
-    unfolding reading unless
-    reading-none = rw (k, unless)
+    unfolding reading
+    reading-none = unless-none (readFault limit rt sfn s) refused (taken s (walked rt sfn s .found)) k
 
   -- what holds of a refused reading, and of an accepted one, holds of every reading and its whole descriptors
   pub reading-cases : (P : Reading → List Desc → Type 0)

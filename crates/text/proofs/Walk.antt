@@ -12,13 +12,13 @@ use borrow.Author.Tests.{ltb-false, eqb-true, not-false, le-leb, lt-leb, le-ltb,
 use Rattle.base.proofs.Lists.{drop-behind}
 use Rattle.fields.specs.Field.{spell}
 use Rattle.fields.proofs.Laws.{length-spell, field-here, byte-here}
-use Rattle.text.specs.declared.Refusal.{Refusal}
-use Rattle.text.specs.First.{refuse, accept, _if_else_}
+use Rattle.refusal.specs.declared.Refusal.{Refusal}
+use Rattle.refusal.specs.First.{refuse, accept, _if_else_}
 use Rattle.text.specs.Flags.{current}
 use Rattle.text.specs.Drive.{Desc}
 use Rattle.text.specs.Response.{bytes}
 use Rattle.text.specs.Reading.{statedLength, headerRule, headRule, numberAt, flagsAt, lengthAt, descAt, headFault, Walked, stop, onward, walk, walked, readFault, wholes}
-use Rattle.text.proofs.First.{if-zero, orElse-none, orElse-zero}
+use Rattle.refusal.proofs.First.{if-zero, orElse-none, orElse-zero}
 use Rattle.base.proofs.Compare.{le-or-lt}
 
 module _ (k rt sfn end : ℕ) (s : List ℕ) (lo at : ℕ) where

@@ -6,10 +6,10 @@ use Prim.Native.Nat.{ℕ, _%_}
 use lib.Dec.{eqb}
 use lib.ListN.{length, getD}
 use Rattle.fields.specs.Field.{field}
-use Rattle.text.specs.declared.Refusal.{Refusal}
+use Rattle.refusal.specs.declared.Refusal.{Refusal}
 use Rattle.text.specs.declared.Command.{Command}
 use Rattle.text.specs.declared.Header.{Header}
-use Rattle.text.specs.First.{refuse, accept, _if_else_}
+use Rattle.refusal.specs.First.{refuse, accept, _if_else_}
 
 unfoldable pub opcodeOf : List ℕ → ℕ
 opcodeOf c = getD c 0 0

@@ -1,5 +1,9 @@
 -- The flags byte of a descriptor: bits 7-6 reserved, 5-2 Version, 1 Persistent, 0 Current. Assumes nothing: these are definitions.
+use mathlib.Core.Bool.{Bool, not, _&&_}
 use Prim.Native.Nat.{ℕ, _/_, _%_}
+use lib.Dec.{eqb}
+use Rattle.refusal.specs.declared.Refusal.{Refusal}
+use Rattle.refusal.specs.First.{accept, _if_else_, _orElse_}
 
 abbrev pub reserved : ℕ → ℕ
 reserved f = f / 64
@@ -12,3 +16,15 @@ persistent f = f / 2 % 2
 
 abbrev pub current : ℕ → ℕ
 current f = f % 2
+
+-- Persistent without Current
+abbrev pub alone : ℕ → Bool
+alone f = eqb (persistent f) 1 && not (eqb (current f) 1)
+
+-- the first refusal of a flags byte, where whoever asks gives a refusal for each rule, `accept` for a rule that is not looked at: reserved bits
+-- not 0; Version not 0; Persistent without Current
+unfoldable pub flagsRule : (bits newer lone : Refusal) (flags : ℕ) → Refusal
+flagsRule bits newer lone f =
+    (bits if not (eqb (reserved f) 0) else accept) orElse
+    (newer if not (eqb (version f) 0) else accept) orElse
+    (lone if alone f else accept)

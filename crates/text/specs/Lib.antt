@@ -1,4 +1,3 @@
-pub mod First
 pub mod Flags
 pub mod Drive
 pub mod Command

@@ -6,9 +6,9 @@ use lib.Dec.{ltb, leb, eqb}
 use lib.ListN.{length, take, drop, getD}
 use Rattle.base.specs.Lists.{flat}
 use Rattle.fields.specs.Field.{field}
-use Rattle.text.specs.declared.Refusal.{Refusal}
+use Rattle.refusal.specs.declared.Refusal.{Refusal}
 use Rattle.text.specs.declared.Reading.{Reading}
-use Rattle.text.specs.First.{refuse, accept, _if_else_, _orElse_}
+use Rattle.refusal.specs.First.{refuse, accept, _if_else_, _orElse_, unless}
 use Rattle.text.specs.Flags.{current}
 use Rattle.text.specs.Drive.{Desc}
 use Rattle.text.specs.Response.{bytes}
@@ -114,12 +114,9 @@ taken s ds = record {
   complete = eqb (length s) (statedEnd s);
 }
 
-unfoldable pub unless : Refusal → Reading → Reading
-unless r x = elim (r .number) [ zero ↦ x | suc e ↦ refused r ]
-
 -- the reading of a response to RT rt from sfn
 unfoldable pub reading : (limit rt sfn : ℕ) (s : List ℕ) → Reading
-reading limit rt sfn s = unless (readFault limit rt sfn s) (taken s (walked rt sfn s .found))
+reading limit rt sfn s = unless (readFault limit rt sfn s) refused (taken s (walked rt sfn s .found))
 
 -- the whole descriptors of a response, none where it is refused
 unfoldable pub wholes : (limit rt sfn : ℕ) (s : List ℕ) → List Desc

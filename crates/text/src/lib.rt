@@ -1,6 +1,11 @@
 // The words of the T10 text that the code of every layer above shares.
 ghost use mathlib.Core.Path.{_≡_};
+ghost use mathlib.Core.Bool.{not};
+ghost use lib.Dec.{eqb};
+ghost use Rattle.refusal.specs.First.{accept, _if_else_};
+ghost use Rattle.text.specs.Flags.{reserved, version, persistent, current, alone, flagsRule};
 ghost use Rattle.text.specs.Command.{commandFault, commandOf, headerOf};
+use refusal::Refusal;
 
 // A feature number. C takes it as a struct of one number (include/gcf.h).
 #[repr(C)]
@@ -10,100 +15,88 @@ pub struct Feature(pub u16);
 #[repr(C)]
 pub struct Profile(pub u16);
 
-// Why something was refused: the paper's number, 0 where nothing was.
-pub struct Refusal {
-    pub number: u8,
+// The flags byte of a descriptor.
+pub struct Flags(pub u8);
+
+impl Flags {
+    // Bits 7-6, as a number.
+    pub fn reserved(self) -> u8
+        ensures { λ r. ⌜ r ≡ reserved (self .0) ⌝ }
+    {
+        self.0 / 64
+    }
+
+    // Bits 5-2, as a number.
+    pub fn version(self) -> u8
+        ensures { λ r. ⌜ r ≡ version (self .0) ⌝ }
+    {
+        self.0 / 4 % 16
+    }
+
+    pub fn persistent(self) -> bool
+        ensures { λ r. ⌜ r ≡ eqb (persistent (self .0)) 1 ⌝ }
+    {
+        self.0 / 2 % 2 == 1
+    }
+
+    pub fn current(self) -> bool
+        ensures { λ r. ⌜ r ≡ eqb (current (self .0)) 1 ⌝ }
+    {
+        self.0 % 2 == 1
+    }
+
+    // Persistent without Current.
+    fn alone(self) -> bool
+        ensures { λ r. ⌜ r ≡ alone (self .0) ⌝ }
+    {
+        if !self.persistent() {
+            return false;
+        }
+        !self.current()
+    }
+
+    fn reserved_fault(self, given: Refusal) -> Refusal
+        ensures { λ r. ⌜ r ≡ (given if not (eqb (reserved (self .0)) 0) else accept) ⌝ }
+    {
+        if self.reserved() != 0 {
+            return given;
+        }
+        refusal::ACCEPTED
+    }
+
+    fn version_fault(self, given: Refusal) -> Refusal
+        ensures { λ r. ⌜ r ≡ (given if not (eqb (version (self .0)) 0) else accept) ⌝ }
+    {
+        if self.version() != 0 {
+            return given;
+        }
+        refusal::ACCEPTED
+    }
+
+    fn alone_fault(self, given: Refusal) -> Refusal
+        ensures { λ r. ⌜ r ≡ (given if alone (self .0) else accept) ⌝ }
+    {
+        if self.alone() {
+            return given;
+        }
+        refusal::ACCEPTED
+    }
+
+    // The first refusal of the flags; a rule whose refusal is `refusal::ACCEPTED` is not looked at.
+    pub fn fault(self, bits: Refusal, newer: Refusal, lone: Refusal) -> Refusal
+        ensures { λ r. ⌜ r ≡ flagsRule bits newer lone (self .0) ⌝ }
+    {
+        let fault = self.reserved_fault(bits);
+        if fault.number != 0 {
+            return fault;
+        }
+        let fault = self.version_fault(newer);
+        if fault.number != 0 {
+            return fault;
+        }
+        self.alone_fault(lone)
+    }
 }
-
-pub const ACCEPTED: Refusal = Refusal { number: 0 };
-
-// The sheet's refusals.
-pub const SHEET_SHORT: Refusal = Refusal { number: 1 };
-
-pub const PROFILES_MANY: Refusal = Refusal { number: 2 };
-
-pub const PROFILE_BAD: Refusal = Refusal { number: 3 };
-
-pub const ORDER_BAD: Refusal = Refusal { number: 4 };
-
-pub const FLAGS_BAD: Refusal = Refusal { number: 5 };
-
-pub const LENGTH_BAD: Refusal = Refusal { number: 6 };
-
-pub const OFFSET_BAD: Refusal = Refusal { number: 7 };
-
-pub const SHEET_LONG: Refusal = Refusal { number: 8 };
-
-// The command's refusals.
-pub const COMMAND_LENGTH: Refusal = Refusal { number: 9 };
-
-pub const OPCODE_OTHER: Refusal = Refusal { number: 10 };
-
-pub const RT_RESERVED: Refusal = Refusal { number: 11 };
-
-pub const BUFFER_SHORT: Refusal = Refusal { number: 12 };
-
-// A reading's refusals.
-pub const READING_RT_BAD: Refusal = Refusal { number: 13 };
-
-pub const RECEIVED_BAD: Refusal = Refusal { number: 14 };
-
-pub const STATED_BAD: Refusal = Refusal { number: 15 };
-
-pub const RECEIVED_MORE: Refusal = Refusal { number: 16 };
-
-pub const ADDITIONAL_BAD: Refusal = Refusal { number: 17 };
-
-pub const FEATURE_BAD: Refusal = Refusal { number: 18 };
-
-pub const NOT_CURRENT: Refusal = Refusal { number: 19 };
-
-pub const ENDS_BEYOND: Refusal = Refusal { number: 20 };
-
-// A sweep's refusals.
-pub const SWEEP_RT_BAD: Refusal = Refusal { number: 21 };
-
-pub const ALLOCATION_SHORT: Refusal = Refusal { number: 22 };
-
-pub const NONE_WHOLE: Refusal = Refusal { number: 23 };
-
-pub const COLLECTED_FULL: Refusal = Refusal { number: 24 };
-
-pub const STARTS_FULL: Refusal = Refusal { number: 25 };
-
-pub const SWEEP_ENDED: Refusal = Refusal { number: 26 };
-
-pub const CUT_AT_LAST: Refusal = Refusal { number: 27 };
-
-pub const CUT_SHORT: Refusal = Refusal { number: 28 };
-
-// The checks' refusals and findings.
-pub const RESPONSE_CUT: Refusal = Refusal { number: 29 };
-
-pub const CORE_MISSING: Refusal = Refusal { number: 30 };
-
-pub const BODY_LENGTH_BAD: Refusal = Refusal { number: 31 };
-
-pub const FLAGS_NOT_BOTH: Refusal = Refusal { number: 32 };
-
-pub const FLAGS_RESERVED: Refusal = Refusal { number: 33 };
-
-pub const PERSISTENT_ALONE: Refusal = Refusal { number: 34 };
-
-pub const PERSISTENT_BARRED: Refusal = Refusal { number: 35 };
-
-pub const BITS_RESERVED: Refusal = Refusal { number: 36 };
-
-pub const CUE_LENGTH: Refusal = Refusal { number: 37 };
-
-pub const PROFILE_ZERO: Refusal = Refusal { number: 39 };
-
-pub const NO_TABLE: Refusal = Refusal { number: 40 };
-
-// The import's refusals.
-pub const NOT_OWN: Refusal = Refusal { number: 41 };
-
-pub const SHEET_BUFFER_SHORT: Refusal = Refusal { number: 42 };
 
 // What a driver reads off a response: all 0 but the refusal where it is refused.
 pub struct Reading {
@@ -132,15 +125,15 @@ impl Command {
         ensures { λ r. ⌜ r ≡ commandFault (now (bytes .entry)) ⌝ }
     {
         if bytes.len() != Command::LENGTH {
-            return COMMAND_LENGTH;
+            return refusal::COMMAND_LENGTH;
         }
         if fields::byte(bytes, 0) != Command::OPCODE {
-            return OPCODE_OTHER;
+            return refusal::OPCODE_OTHER;
         }
         if fields::byte(bytes, 1) % 4 == 3 {
-            return RT_RESERVED;
+            return refusal::RT_RESERVED;
         }
-        ACCEPTED
+        refusal::ACCEPTED
     }
 
     // The command that its bytes spell. All other bits are reserved or control, and are ignored.

@@ -1,6 +1,6 @@
 -- `abi::gcf_bench` meets its contract: what the bench sweep answers, and its two counts told. Assumes nothing.
 use Rattle.abi.proofs.Laws.{leaves}
-use Rattle.abi.specs.Left.{benched}
+use Rattle.abi.specs.Left.{showBenched}
 use mathlib.Core.Path.{ap}
 use denote.Ref.{now}
 use borrow.Author.Needs.{needs}
@@ -8,8 +8,8 @@ use Rattle.abi.proofs.gcf_bench.Statement.{statement}
 use Rattle.abi.proofs.gcf_bench.Tie as tie
 
 returns : tie.Need-returns
-unfolding benched
-returns c = leaves (c .before .before .tell2 .ensures) (ap (λ x. benched x (now (c .before .before .before .before .before .before .before .before .before .before .before .before .before .before .before .before .before .before .before .before .before .args .numbers))) (c .before .before .before .before .before .before .before .before .before .before .before .before .bench .ensures))
+unfolding showBenched
+returns c = leaves (c .before .before .tell2 .ensures) (ap (λ x. showBenched x (now (c .before .before .before .before .before .before .before .before .before .before .before .before .before .before .before .before .before .before .before .before .before .args .numbers))) (c .before .before .before .before .before .before .before .before .before .before .before .before .bench .ensures))
 
 pub gcf-bench-spec : {M : Type 1} → statement M
 gcf-bench-spec =

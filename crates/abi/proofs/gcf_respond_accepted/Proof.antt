@@ -1,15 +1,15 @@
 -- `abi::gcf_respond_accepted` meets its contract: what the box answers that does not check its sheet, and its count told. Assumes nothing.
 use denote.Ref.{now}
 use Rattle.abi.proofs.Laws.{leaves}
-use Rattle.abi.specs.Left.{replied}
+use Rattle.abi.specs.Left.{showMade}
 use mathlib.Core.Path.{ap}
 use borrow.Author.Needs.{needs}
 use Rattle.abi.proofs.gcf_respond_accepted.Statement.{statement}
 use Rattle.abi.proofs.gcf_respond_accepted.Tie as tie
 
 returns : tie.Need-returns
-unfolding replied
-returns c = leaves (c .before .before .tell .ensures) (ap (λ x. replied x (now (c .before .before .before .before .before .before .before .before .before .before .before .before .before .args .numbers))) (c .before .before .before .before .before .before .before .respond-accepted .ensures))
+unfolding showMade
+returns c = leaves (c .before .before .tell .ensures) (ap (λ x. showMade x (now (c .before .before .before .before .before .before .before .before .before .before .before .before .before .args .numbers))) (c .before .before .before .before .before .before .before .respond-accepted .ensures))
 
 pub gcf-respond-accepted-spec : {M : Type 1} → statement M
 gcf-respond-accepted-spec =

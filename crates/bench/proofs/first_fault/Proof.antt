@@ -1,9 +1,9 @@
 -- `bench::first_fault` meets its contract: each early return is a case of the refusal.
 use mathlib.Core.Path.{ap}
-use Rattle.text.proofs.First.{tests}
+use Rattle.refusal.proofs.First.{tests}
 use Rattle.sweep.specs.declared.Step.{Step}
 use Rattle.sweep.specs.Sweep.{started}
-use Rattle.bench.specs.Loop.{openFault}
+use Rattle.bench.specs.inner.Loop.{openFault}
 use borrow.Author.Needs.{needs}
 use Rattle.bench.proofs.first_fault.Statement.{statement}
 use Rattle.bench.proofs.first_fault.Tie as tie

@@ -1,21 +1,21 @@
 -- `checks::check_descriptors` meets its contract: each early return is a case of the definition.
 use Rattle.checks.specs.Check.{checked}
+use Rattle.reading.proofs.Completed.{complete-fault, complete-none}
 use Rattle.checks.proofs.Findings.{next-none, next-call}
-use Rattle.checks.proofs.Calls.{call-none}
 use borrow.Author.Needs.{needs}
 use Rattle.checks.proofs.check_descriptors.Statement.{statement}
 use Rattle.checks.proofs.check_descriptors.Tie as tie
 
 returns : tie.Need-returns
 unfolding checked
-returns c = search next-call
+returns c = search (next-call, complete-fault)
 
 check-all-requires : tie.Need-check-all-requires
-check-all-requires c κs = search call-none
+check-all-requires c κs = search complete-none
 
 returns-2 : tie.Need-returns-2
 unfolding checked
-returns-2 c = search (next-none, call-none)
+returns-2 c = search (next-none, complete-none)
 
 pub check-descriptors-spec : {M : Type 1} → statement M
 check-descriptors-spec =

@@ -1,27 +1,20 @@
 -- `import::capture_fault` meets its contract: each early return is a case of the definition.
-use Rattle.reading.proofs.Input.{input-refused, input-cut}
-use Rattle.import.specs.Import.{captureFault}
-use Rattle.import.proofs.Faults.{capture-own, own-there, capture-sheet}
+use Rattle.import.proofs.Faults.{capture-refused, capture-own, own-there, capture-sheet}
 use borrow.Author.Needs.{needs}
 use Rattle.import.proofs.capture_fault.Statement.{statement}
 use Rattle.import.proofs.capture_fault.Tie as tie
 
 returns : tie.Need-returns
-unfolding captureFault
-returns c = search input-refused
+returns c = search capture-refused
 
 returns-2 : tie.Need-returns-2
-unfolding captureFault
-returns-2 c = search input-cut
-
-returns-3 : tie.Need-returns-3
-returns-3 c = search capture-own
+returns-2 c = search capture-own
 
 sheet-fault-requires : tie.Need-sheet-fault-requires
-sheet-fault-requires c κs = own-there (c .before .before .before .before .before .before .before .before .before .args .s .now) (c .before .before .before .before .before .before .before .before .before .args .read) (c .before .before .before .before .before .before .before .before .before .pre) (c .before .before .before .before .before .if1 .left) (c .before .before .before .if2 .left) _ (c .before .before .own-fault .ensures) (c .if3 .left)
+sheet-fault-requires c κs = own-there (c .before .before .before .before .before .before .before .args .s .now) (c .before .before .before .before .before .before .before .args .read) (c .before .before .before .before .before .before .before .pre) (c .before .before .before .if1 .left) _ (c .before .before .own-fault .ensures) (c .if2 .left)
 
-returns-4 : tie.Need-returns-4
-returns-4 c = search capture-sheet
+returns-3 : tie.Need-returns-3
+returns-3 c = search capture-sheet
 
 pub capture-fault-spec : {M : Type 1} → statement M
-capture-fault-spec = tie.close (tie.spec returns returns-2 (λ c κs. search needs) returns-3 sheet-fault-requires returns-4)
+capture-fault-spec = tie.close (tie.spec returns (λ c κs. search needs) returns-2 sheet-fault-requires returns-3)

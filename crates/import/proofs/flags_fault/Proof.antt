@@ -2,10 +2,10 @@
 use borrow.Author.Needs.{needs}
 use Prim.Native.Nat.{_-_}
 use mathlib.Core.Path.{_≡_, refl}
-use native.Mathlib.Omega.{arith}
 use lib.ListN.{length}
 use Rattle.import.specs.Import.{flagsFault}
 use Rattle.reading.specs.Places.{from}
+use Rattle.reading.proofs.Places.{from-less}
 use Rattle.import.proofs.Faults.{flags-stop, flags-go, flags-none}
 use Rattle.import.proofs.flags_fault.Statement.{statement}
 use Rattle.import.proofs.flags_fault.Tie as tie
@@ -19,6 +19,9 @@ abbrev μ-loop : tie.MeasureT-loop
 returns : tie.Need-returns Inv-loop μ-loop
 returns c = search flags-stop
 
+loop-less : tie.Need-loop-less Inv-loop μ-loop
+loop-less c = search from-less
+
 loop-again : tie.Need-loop-again Inv-loop μ-loop
 loop-again c = search flags-go
 
@@ -28,4 +31,4 @@ returns-2 c = search flags-none
 pub flags-fault-spec : {M : Type 1} → statement M
 flags-fault-spec =
     tie.close
-    (tie.spec Inv-loop μ-loop (λ c. refl) (λ c. search needs) (λ c κs. search needs) (λ c κs. search needs) returns (λ c κs. search needs) (λ c. omega arith) loop-again returns-2)
+    (tie.spec Inv-loop μ-loop (λ c. refl) (λ c κs. search needs) (λ c κs. search needs) returns (λ c κs. search needs) loop-less loop-again returns-2)

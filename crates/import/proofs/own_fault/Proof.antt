@@ -1,5 +1,5 @@
 -- `import::own_fault` meets its contract: each early return is a case of the rule.
-use Rattle.text.proofs.First.{tests}
+use Rattle.refusal.proofs.First.{tests}
 use Rattle.import.proofs.Faults.{own-none, own-some}
 use borrow.Author.Needs.{needs}
 use Rattle.import.proofs.own_fault.Statement.{statement}
@@ -9,19 +9,19 @@ returns : tie.Need-returns
 returns c = search own-none
 
 returns-2 : tie.Need-returns-2
-returns-2 c = rw (own-some (c .before .before .before .before .before .args .s .now) (c .before .before .before .if1 .left)) (search (tests, ← c .before .before .get2 .ensures))
+returns-2 c = rw (own-some (c .before .before .before .before .before .args .s .now) (c .before .before .before .if1 .left)) (search (tests, ← c .before .before .number-at .ensures))
 
 returns-3 : tie.Need-returns-3
-returns-3 c = rw (own-some (c .before .before .before .before .before .before .before .args .s .now) (c .before .before .before .before .before .if1 .left)) (search (tests, ← c .before .before .before .before .get2 .ensures, ← c .before .byte .ensures))
+returns-3 c = rw (own-some (c .before .before .before .before .before .before .before .args .s .now) (c .before .before .before .before .before .if1 .left)) (search (tests, ← c .before .before .before .before .number-at .ensures, ← c .before .flags-at .ensures))
 
 returns-4 : tie.Need-returns-4
-returns-4 c = rw (own-some (c .before .before .before .before .before .before .before .before .before .args .s .now) (c .before .before .before .before .before .before .before .if1 .left)) (search (tests, ← c .before .before .before .before .before .before .get2 .ensures, ← c .before .before .before .byte .ensures, ← c .before .get22 .ensures))
+returns-4 c = rw (own-some (c .before .before .before .before .before .before .before .before .before .args .s .now) (c .before .before .before .before .before .before .before .if1 .left)) (search (tests, ← c .before .before .before .before .before .before .number-at .ensures, ← c .before .before .before .flags-at .ensures, ← c .before .get2 .ensures))
 
 returns-5 : tie.Need-returns-5
-returns-5 c = rw (own-some (c .before .before .before .before .before .before .before .before .before .before .before .before .before .before .before .args .s .now) (c .before .before .before .before .before .before .before .before .before .before .before .before .before .if1 .left)) (search (tests, ← c .before .before .before .before .before .before .before .before .before .before .before .before .get2 .ensures, ← c .before .before .before .before .before .before .before .before .before .byte .ensures, ← c .before .before .before .before .before .before .before .get22 .ensures, ← c .before .before .before .before .before .body-at .ensures .0, ← c .before .before .before .before .current-profile .ensures, ← c .before .before .before .get23 .ensures))
+returns-5 c = rw (own-some (c .before .before .before .before .before .before .before .before .before .before .before .before .before .before .before .args .s .now) (c .before .before .before .before .before .before .before .before .before .before .before .before .before .if1 .left)) (search (tests, ← c .before .before .before .before .before .before .before .before .before .before .before .before .number-at .ensures, ← c .before .before .before .before .before .before .before .before .before .flags-at .ensures, ← c .before .before .before .before .before .before .before .get2 .ensures, ← c .before .before .before .before .before .body-at .ensures .holds, ← c .before .before .before .before .current .ensures, ← c .before .before .before .get22 .ensures))
 
 returns-6 : tie.Need-returns-6
-returns-6 c = rw (own-some (c .before .before .before .before .before .before .before .before .before .before .before .before .before .before .before .args .s .now) (c .before .before .before .before .before .before .before .before .before .before .before .before .before .if1 .left)) (search (tests, ← c .before .before .before .before .before .before .before .before .before .before .before .before .get2 .ensures, ← c .before .before .before .before .before .before .before .before .before .byte .ensures, ← c .before .before .before .before .before .before .before .get22 .ensures, ← c .before .before .before .before .before .body-at .ensures .0, ← c .before .before .before .before .current-profile .ensures, ← c .before .before .before .get23 .ensures))
+returns-6 c = rw (own-some (c .before .before .before .before .before .before .before .before .before .before .before .before .before .before .before .args .s .now) (c .before .before .before .before .before .before .before .before .before .before .before .before .before .if1 .left)) (search (tests, ← c .before .before .before .before .before .before .before .before .before .before .before .before .number-at .ensures, ← c .before .before .before .before .before .before .before .before .before .flags-at .ensures, ← c .before .before .before .before .before .before .before .get2 .ensures, ← c .before .before .before .before .before .body-at .ensures .holds, ← c .before .before .before .before .current .ensures, ← c .before .before .before .get22 .ensures))
 
 pub own-fault-spec : {M : Type 1} → statement M
 own-fault-spec =

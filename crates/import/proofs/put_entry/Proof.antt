@@ -1,18 +1,20 @@
--- `import::put_entry` meets its contract: four writings one after the other.
-use Rattle.lent.proofs.Laws.{then}
-use Rattle.text.specs.Reading.{numberAt, flagsAt, descAt}
-use Rattle.import.specs.Pieces.{entryOf}
+-- `import::put_entry` meets its contract: the entry of what stands at the place.
+use native.Mathlib.Omega.{arith}
+use Rattle.text.specs.Reading.{descAt}
+use Rattle.reading.proofs.At.{body-short}
 use borrow.Author.Needs.{needs}
 use Rattle.import.proofs.put_entry.Statement.{statement}
 use Rattle.import.proofs.put_entry.Tie as tie
 
+cast-put-entry : tie.Need-cast-put-entry
+cast-put-entry c = omega (arith, body-short _ _ _ (c .before .before .before .body-at .ensures .holds) (λ i. c .before .before .before .before .shared-slice-known .given i .fits))
+
 returns : tie.Need-returns
-unfolding entryOf descAt numberAt flagsAt
+unfolding descAt
 returns c =
-    rw (← c .before .before .before .before .before .before .before .before .before .before .before .before .before .before .before .before .before .get2 .ensures, ← c .before .before .before .before .before .before .before .before .before .before .before .byte .ensures, ← c .before .before .before .before .before .before .before .before .before .before .before .before .before .before .before .before .before .before .body-at .ensures .0)
-    (then (then (then (c .before .before .before .before .before .before .before .before .before .before .before .before .before .before .before .put2 .ensures) (c .before .before .before .before .before .before .before .before .before .before .put .ensures)) (c .before .before .before .before .before .before .put3 .ensures)) (c .before .before .put4 .ensures))
+    rw (← c .before .before .before .before .before .number-at .ensures, ← c .before .before .before .before .flags-at .ensures, ← c .before .before .before .before .before .before .body-at .ensures .holds)
+    (c .before .before .put-entry .ensures)
 
 pub put-entry-spec : {M : Type 1} → statement M
 put-entry-spec =
-    tie.close
-    (tie.spec (λ c κs. search needs) (λ c κs. search needs) (λ c κs. search needs) (λ c. search needs) (λ c κs. search needs) (λ c κs. search needs) (λ c. search needs) (λ c κs. search needs) (λ c κs. search needs) (λ c. search needs) returns)
+    tie.close (tie.spec (λ c κs. search needs) (λ c κs. search needs) (λ c κs. search needs) cast-put-entry (λ c κs. search needs) (λ c. search needs) returns)

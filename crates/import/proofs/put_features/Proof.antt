@@ -8,6 +8,7 @@ use lib.Seq.{sets}
 use Rattle.lent.proofs.Laws.{kept}
 use Rattle.sheet.specs.Meaning.{contents}
 use Rattle.reading.specs.Places.{from}
+use Rattle.reading.proofs.Places.{from-less}
 use Rattle.import.specs.Pieces.{bodies}
 use Rattle.import.proofs.Beside.{Passed, passed-start, passed-more, passed-end}
 use Rattle.import.proofs.put_features.Statement.{statement}
@@ -28,11 +29,11 @@ cast-put-entry : tie.Need-cast-put-entry Inv-loop μ-loop
 cast-put-entry c = omega (arith, c .before .before .loop .inv .0 .fits .low)
 
 loop-less : tie.Need-loop-less Inv-loop μ-loop
-loop-less c = omega (arith, c .next-at .ensures)
+loop-less c = search from-less
 
 loop-again : tie.Need-loop-again Inv-loop μ-loop
 loop-again c = (
-  passed-more (c .before .before .before .before .before .before .before .before .before .before .before .loop .inv .0) (c .before .before .before .before .before .before .before .before .before .before .loop-test .taken) (c .before .before .before .before .before .before .before .before .put-entry .ensures) (c .before .before .before .before .body-at .ensures .0) (c .before .before .before .copy .ensures) (c .next-at .ensures),
+  passed-more (c .before .before .before .before .before .before .before .before .before .before .before .loop .inv .0) (c .before .before .before .before .before .before .before .before .before .before .loop-test .taken) (c .before .before .before .before .before .before .before .before .put-entry .ensures) (c .before .before .before .before .body-at .ensures .holds) (c .before .before .before .copy .ensures) (c .next-at .ensures),
   kept (c .before .before .before .copy .ensures) ∙ kept (c .before .before .before .before .before .before .before .before .put-entry .ensures) ∙ c .before .before .before .before .before .before .before .before .before .before .before .loop .inv .1,
 )
 

@@ -6,11 +6,11 @@ use Rattle.import.proofs.sheet_fault.Tie as tie
 
 returns : tie.Need-returns
 returns c =
-    sheet-profiles (c .before .before .before .before .before .args .s .now) (c .before .before .before .before .before .pre) _ (c .before .before .before .body-at .ensures .0) _ (c .before .before .profiles-fault .ensures) (c .if1 .taken)
+    sheet-profiles (c .before .before .before .before .before .args .s .now) (c .before .before .before .before .before .pre) _ (c .before .before .before .body-at .ensures .holds) _ (c .before .before .fault .ensures) (c .if1 .taken)
 
 returns-2 : tie.Need-returns-2
 returns-2 c =
-    sheet-flags (c .before .before .before .before .before .before .before .args .s .now) (c .before .before .before .before .before .before .before .pre) _ (c .before .before .before .before .before .body-at .ensures .0) _ (c .before .before .before .before .profiles-fault .ensures) (c .before .before .if1 .left) _ _ (c .before .next-at .ensures) (c .flags-fault .ensures)
+    sheet-flags (c .before .before .before .before .before .before .before .args .s .now) (c .before .before .before .before .before .before .before .pre) _ (c .before .before .before .before .before .body-at .ensures .holds) _ (c .before .before .before .before .fault .ensures) (c .before .before .if1 .left) _ _ (c .before .next-at .ensures) (c .flags-fault .ensures)
 
 pub sheet-fault-spec : {M : Type 1} → statement M
 sheet-fault-spec =

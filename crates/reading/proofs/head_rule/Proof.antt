@@ -1,5 +1,5 @@
 -- `reading::head_rule` meets its contract: each early return is a case of the rule.
-use Rattle.text.proofs.First.{tests}
+use Rattle.refusal.proofs.First.{tests}
 use Rattle.text.specs.Reading.{headRule}
 use borrow.Author.Needs.{needs}
 use Rattle.reading.proofs.head_rule.Statement.{statement}

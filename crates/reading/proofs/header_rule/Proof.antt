@@ -1,5 +1,5 @@
 -- `reading::header_rule` meets its contract: each early return is a case of the rule.
-use Rattle.text.proofs.First.{tests}
+use Rattle.refusal.proofs.First.{tests}
 use Rattle.text.specs.Reading.{headerRule}
 use borrow.Author.Needs.{needs}
 use Rattle.reading.proofs.header_rule.Statement.{statement}

@@ -2,12 +2,14 @@
 use borrow.Author.Needs.{needs}
 use Prim.Native.Nat.{_-_, _≤_}
 use lib.ListN.{length}
+use Rattle.reading.specs.Places.{between}
+use Rattle.reading.proofs.Places.{left-less}
 use Rattle.reading.proofs.Rest.{Rest, rest-start, rest-within, rest-here, rest-above, rest-next, rest-end}
 use Rattle.reading.proofs.held_in.Statement.{statement}
 use Rattle.reading.proofs.held_in.Tie as tie
 
 abbrev Inv-loop : tie.InvT-loop
-Inv-loop feature s end at₀ at = (end ≤ length s) × Rest (feature .0) s at end
+Inv-loop feature s end at₀ at = (end ≤ length s) × Rest (feature .0) s at (between s at end)
 
 abbrev μ-loop : tie.MeasureT-loop
 μ-loop feature s end at₀ at = end - at
@@ -27,7 +29,10 @@ loop-again c = (search needs, search rest-next)
 returns-3 : tie.Need-returns-3 Inv-loop μ-loop
 returns-3 c = search rest-end
 
+loop-less : tie.Need-loop-less Inv-loop μ-loop
+loop-less c = search left-less
+
 pub held-in-spec : {M : Type 1} → statement M
 held-in-spec =
     tie.close
-    (tie.spec Inv-loop μ-loop (λ c κs. search needs) loop-holds (λ c κs. search needs) (λ c. search needs) (λ c κs. search needs) (λ c. search needs) (λ c. search needs) (λ c κs. search needs) returns (λ c. search needs) returns-2 (λ c. search needs) (λ c. search needs) loop-again (λ c. search needs) returns-3)
+    (tie.spec Inv-loop μ-loop (λ c κs. search needs) loop-holds (λ c κs. search needs) (λ c κs. search needs) (λ c. search needs) (λ c. search needs) (λ c κs. search needs) returns (λ c κs. search needs) returns-2 (λ c κs. search needs) loop-less loop-again (λ c κs. search needs) returns-3)

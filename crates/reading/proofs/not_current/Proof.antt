@@ -1,5 +1,5 @@
 -- `reading::not_current` meets its contract: each early return is a case of the test.
-use Rattle.text.proofs.First.{tests}
+use Rattle.refusal.proofs.First.{tests}
 use Rattle.reading.proofs.not_current.Statement.{statement}
 use Rattle.reading.proofs.not_current.Tie as tie
 

@@ -1,5 +1,5 @@
 -- `reading::other_feature` meets its contract: each early return is a case of the test.
-use Rattle.text.proofs.First.{tests}
+use Rattle.refusal.proofs.First.{tests}
 use Rattle.reading.proofs.other_feature.Statement.{statement}
 use Rattle.reading.proofs.other_feature.Tie as tie
 

@@ -3,7 +3,7 @@ use mathlib.Core.Path.{_≡_, sym}
 use mathlib.Core.Bool.{true, false}
 use native.Mathlib.Omega.{arith}
 use Rattle.layout.specs.Layout.{flags}
-use Rattle.responder.specs.Index.{skips}
+use Rattle.responder.specs.inner.Index.{skips}
 use Rattle.responder.proofs.Laws.{size-none, size-some}
 use borrow.Author.Needs.{needs}
 use Rattle.responder.proofs.piece_size.Statement.{statement}

@@ -3,7 +3,7 @@ use borrow.Author.Needs.{needs}
 use Prim.Native.Nat.{_+_, _-_, _*_, _≤_}
 use mathlib.Core.Path.{_≡_, sym, ap, _∙_}
 use native.Mathlib.Omega.{arith}
-use Rattle.responder.specs.Index.{piecesSize}
+use Rattle.responder.specs.inner.Index.{piecesSize}
 use Rattle.responder.proofs.Laws.{sizes-start, sizes-more}
 use Rattle.responder.proofs.pieces_size.Statement.{statement}
 use Rattle.responder.proofs.pieces_size.Tie as tie

@@ -1,6 +1,6 @@
 -- `responder::planned` meets its contract: what its calls find.
 use native.Mathlib.Omega.{arith}
-use Rattle.responder.specs.Index.{takenFrom, takenTo, takenSize, plan}
+use Rattle.responder.specs.inner.Index.{takenFrom, takenTo, takenSize, plan}
 use borrow.Author.Needs.{needs}
 use Rattle.responder.proofs.planned.Statement.{statement}
 use Rattle.responder.proofs.planned.Tie as tie

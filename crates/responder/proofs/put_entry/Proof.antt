@@ -1,6 +1,6 @@
 -- `responder::put_entry` meets its contract: four writings one after the other.
 use Rattle.lent.proofs.Laws.{then}
-use Rattle.responder.specs.Index.{entryBytes}
+use Rattle.responder.specs.inner.Index.{entryBytes}
 use borrow.Author.Needs.{needs}
 use Rattle.responder.proofs.put_entry.Statement.{statement}
 use Rattle.responder.proofs.put_entry.Tie as tie

@@ -1,6 +1,6 @@
 -- `responder::put_full` meets its contract: three writings one after the other.
 use Rattle.lent.proofs.Laws.{then}
-use Rattle.responder.specs.Index.{fullBytes}
+use Rattle.responder.specs.inner.Index.{fullBytes}
 use borrow.Author.Needs.{needs}
 use Rattle.responder.proofs.put_full.Statement.{statement}
 use Rattle.responder.proofs.put_full.Tie as tie

@@ -3,7 +3,7 @@ use mathlib.Core.Path.{_≡_}
 use mathlib.Core.Bool.{true, false}
 use Rattle.lent.proofs.Laws.{nothing}
 use Rattle.layout.specs.Layout.{flags}
-use Rattle.responder.specs.Index.{skips}
+use Rattle.responder.specs.inner.Index.{skips}
 use Rattle.responder.proofs.Laws.{piece-none, piece-some}
 use borrow.Author.Needs.{needs}
 use Rattle.responder.proofs.put_piece.Statement.{statement}

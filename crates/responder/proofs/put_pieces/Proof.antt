@@ -5,7 +5,7 @@ use Prim.Native.Nat.{_+_, _-_, _≤_}
 use native.Mathlib.Omega.{arith}
 use Rattle.lent.specs.Wrote.{Wrote}
 use Rattle.lent.proofs.Laws.{nothing, then, kept}
-use Rattle.responder.specs.Index.{pieces}
+use Rattle.responder.specs.inner.Index.{pieces}
 use Rattle.responder.proofs.Laws.{pieces-start, pieces-more, full-stop}
 use Rattle.responder.proofs.put_pieces.Statement.{statement}
 use Rattle.responder.proofs.put_pieces.Tie as tie

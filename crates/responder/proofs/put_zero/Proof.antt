@@ -1,6 +1,6 @@
 -- `responder::put_zero` meets its contract: four writings one after the other.
 use Rattle.lent.proofs.Laws.{then}
-use Rattle.responder.specs.Index.{zeroBytes}
+use Rattle.responder.specs.inner.Index.{zeroBytes}
 use borrow.Author.Needs.{needs}
 use Rattle.responder.proofs.put_zero.Statement.{statement}
 use Rattle.responder.proofs.put_zero.Tie as tie

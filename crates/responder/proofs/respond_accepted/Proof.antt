@@ -3,16 +3,16 @@ use mathlib.Core.Path.{_≡_, sym, ap, _∙_}
 use Rattle.text.specs.declared.Command.{Command}
 use Rattle.text.specs.Command.{commandOf, commandFault}
 use Rattle.responder.specs.Trusting.{trusting, trustingCommand}
-use Rattle.responder.proofs.Answers.{unless-none, unless-fault}
+use Rattle.refusal.proofs.First.{unless-none}
+use Rattle.lent.specs.Maker.{refusing}
+use Rattle.lent.proofs.Maker.{refused-unless}
 use borrow.Author.Needs.{needs}
 use Rattle.responder.proofs.respond_accepted.Statement.{statement}
 use Rattle.responder.proofs.respond_accepted.Tie as tie
 
 returns : tie.Need-returns
 unfolding trustingCommand
-returns c =
-    let a = c .before .before .before .before .before .before .args in
-    rw (← c .before .before .fault .ensures) (unless-fault (c .before .before .fault .result) _ (a .out .now) (c .if1 .taken))
+returns c = refused-unless _ (c .refused .ensures) (c .before .before .before .fault .ensures) (c .before .if1 .taken)
 
 returns-2 : tie.Need-returns-2
 unfolding trustingCommand commandOf
@@ -20,8 +20,8 @@ returns-2 c =
     let a = c .before .before .before .before .before .before .before .before .before .before .before .args in
     c .before .before .send .ensures
     ∙ ap (λ (k : Command). trusting (a .s .now) (k .rt) (k .sfn .0) (k .allocation) (a .out .now)) (c .before .before .before .before .read .ensures)
-    ∙ sym (unless-none (commandFault (a .command .now)) _ (a .out .now) (sym (ap (λ r. r .number) (c .before .before .before .before .before .before .before .fault .ensures)) ∙ c .before .before .before .before .before .if1 .left))
+    ∙ sym (unless-none (commandFault (a .command .now)) (refusing (a .out .now)) _ (sym (ap (λ r. r .number) (c .before .before .before .before .before .before .before .fault .ensures)) ∙ c .before .before .before .before .before .if1 .left))
 
 pub respond-accepted-spec : {M : Type 1} → statement M
 respond-accepted-spec =
-    tie.close (tie.spec (λ c κs. search needs) returns (λ c κs. search needs) (λ c κs. search needs) (λ c. search needs) returns-2)
+    tie.close (tie.spec (λ c κs. search needs) (λ c κs. search needs) returns (λ c κs. search needs) (λ c κs. search needs) (λ c. search needs) returns-2)

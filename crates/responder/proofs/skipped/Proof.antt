@@ -1,6 +1,6 @@
 -- `responder::skipped` meets its contract.
-use Rattle.text.proofs.First.{tests}
-use Rattle.responder.specs.Index.{skips}
+use Rattle.refusal.proofs.First.{tests}
+use Rattle.responder.specs.inner.Index.{skips}
 use Rattle.responder.proofs.skipped.Statement.{statement}
 use Rattle.responder.proofs.skipped.Tie as tie
 

@@ -1,6 +1,6 @@
 -- `responder::span_size` meets its contract: ends of bodies stay below 2 ^ 32 + 256.
 use native.Mathlib.Omega.{arith}
-use Rattle.responder.specs.Index.{span}
+use Rattle.responder.specs.inner.Index.{span}
 use Rattle.responder.proofs.Laws.{end-low}
 use borrow.Author.Needs.{needs}
 use Rattle.responder.proofs.span_size.Statement.{statement}

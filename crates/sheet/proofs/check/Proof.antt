@@ -1,6 +1,6 @@
 -- `sheet::check` meets its contract: each early return is a case of the verdict.
 use native.Mathlib.Omega.{arith}
-use Rattle.text.proofs.First.{tests}
+use Rattle.refusal.proofs.First.{tests}
 use Rattle.sheet.specs.Check.{verdict}
 use Rattle.sheet.proofs.Laws.{verdict-counted}
 use borrow.Author.Needs.{needs}

@@ -3,8 +3,8 @@ use borrow.Author.Needs.{needs}
 use Prim.Native.Nat.{_≤_, _-_}
 use mathlib.Core.Path.{_≡_, refl}
 use native.Mathlib.Omega.{arith}
-use Rattle.text.specs.First.{firstOf}
-use Rattle.text.proofs.First.{rest, first-start, first-stop, first-go, first-none}
+use Rattle.refusal.specs.First.{firstOf}
+use Rattle.refusal.proofs.First.{rest, first-start, first-stop, first-go, first-none}
 use Rattle.sheet.specs.Check.{numberBefore, endBefore, entryFault}
 use Rattle.sheet.proofs.Laws.{carried}
 use Rattle.sheet.proofs.entries_fault.Statement.{statement}

@@ -1,6 +1,6 @@
 -- `sweep::cut_rule` meets its contract: each early return is a case of the rule.
-use Rattle.text.proofs.First.{tests}
-use Rattle.sweep.specs.Numbers.{cutRule}
+use Rattle.refusal.proofs.First.{tests}
+use Rattle.sweep.specs.inner.Numbers.{cutRule}
 use Rattle.sweep.proofs.cut_rule.Statement.{statement}
 use Rattle.sweep.proofs.cut_rule.Tie as tie
 

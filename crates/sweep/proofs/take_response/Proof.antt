@@ -39,7 +39,7 @@ use denote.Triple.Clauses.{ensured, lasts}
 use denote.Triple.Table.{entered, cited}
 use denote.Triple.Walked.{says, Stays, stay-ref, stay-none-slice, gave-slice, walkOf, AllGo, goes-ref, goes-none-slice, goes-gave-slice, Walks, ends-at, walked, walk-meets}
 use denote.Exit.{yes}
-use Rattle.text.specs.declared.Refusal.{Refusal}
+use Rattle.refusal.specs.declared.Refusal.{Refusal}
 use Rattle.sweep.specs.declared.Sweep.{Sweep}
 use Rattle.sweep.specs.declared.Step.{Step}
 use Rattle.sweep.specs.Sweep.{stepped, collecting}
@@ -47,8 +47,8 @@ use Rattle.sweep.proofs.Sweep as T
 use Rattle.sweep.proofs.Sweep.Laws as T′
 use Rattle.sweep.proofs.Step as N
 use Rattle.sweep.proofs.Step.Laws as N′
-use Rattle.text.proofs.Refusal as E
-use Rattle.text.proofs.Refusal.Laws as E′
+use Rattle.refusal.proofs.Refusal as E
+use Rattle.refusal.proofs.Refusal.Laws as E′
 use Rattle.sweep.proofs.Sweep.take as take
 use Rattle.sweep.proofs.Sweep.take.Symbol as take-def
 use Rattle.sweep.proofs.Sweep.take.Symbol.{name as #sweep·Sweep·take}

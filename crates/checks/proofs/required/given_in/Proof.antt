@@ -2,11 +2,10 @@
 use borrow.Author.Needs.{needs}
 use Prim.Native.Nat.{_-_}
 use mathlib.Core.Path.{_≡_}
-use native.Mathlib.Omega.{arith}
 use lib.ListN.{length}
 use Rattle.checks.specs.Pick.{some}
-use Rattle.checks.specs.Input.{descs}
-use Rattle.reading.specs.Places.{from}
+use Rattle.reading.specs.Places.{descs, from}
+use Rattle.reading.proofs.Places.{from-less}
 use Rattle.checks.proofs.Complete.{walk-start, walk-found, walk-next, walk-end}
 use Rattle.checks.proofs.Calls.{call-true, call-false}
 use Rattle.checks.specs.Required.{gives}
@@ -25,6 +24,9 @@ loop-holds c = search walk-start
 returns : tie.Need-returns Inv-loop μ-loop
 returns c = search (walk-found, call-true)
 
+loop-less : tie.Need-loop-less Inv-loop μ-loop
+loop-less c = search from-less
+
 loop-again : tie.Need-loop-again Inv-loop μ-loop
 loop-again c = search (walk-next, call-false)
 
@@ -34,4 +36,4 @@ returns-2 c = search walk-end
 pub given-in-spec : {M : Type 1} → statement M
 given-in-spec =
     tie.close
-    (tie.spec Inv-loop μ-loop loop-holds (λ c κs. search needs) returns (λ c κs. search needs) (λ c. omega arith) loop-again returns-2)
+    (tie.spec Inv-loop μ-loop loop-holds (λ c κs. search needs) returns (λ c κs. search needs) loop-less loop-again returns-2)

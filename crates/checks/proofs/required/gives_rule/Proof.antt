@@ -1,5 +1,5 @@
 -- `checks::required::gives_rule` meets its contract: each early return is a case of the rule.
-use Rattle.text.proofs.First.{tests}
+use Rattle.refusal.proofs.First.{tests}
 use Rattle.checks.specs.Required.{givesRule}
 use borrow.Author.Needs.{needs}
 use Rattle.checks.proofs.required.gives_rule.Statement.{statement}

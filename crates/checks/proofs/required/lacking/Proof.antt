@@ -1,6 +1,6 @@
 -- `checks::required::lacking` meets its contract.
 use Rattle.checks.specs.Required.{lacks}
-use Rattle.text.proofs.First.{tests}
+use Rattle.refusal.proofs.First.{tests}
 use borrow.Author.Needs.{needs}
 use Rattle.checks.proofs.required.lacking.Statement.{statement}
 use Rattle.checks.proofs.required.lacking.Tie as tie

@@ -8,7 +8,7 @@ use lib.ListN.{length}
 use Rattle.checks.proofs.Pick.{left, pick-found, pick-next, pick-none}
 use Rattle.checks.specs.Required.{required, lacks}
 use Rattle.checks.proofs.Calls.{call-true, call-false}
-use Rattle.checks.specs.Input.{descs}
+use Rattle.reading.specs.Places.{descs}
 use Rattle.checks.specs.Judge.{says, lowest}
 use mathlib.Core.List.{[], _∷_}
 use Rattle.checks.proofs.required.lowest_missing.Statement.{statement}

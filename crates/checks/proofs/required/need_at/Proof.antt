@@ -1,21 +1,31 @@
 -- `checks::required::need_at` meets its contract: the two tables are the same lines.
 use borrow.Author.Needs.{needs}
-use Rattle.checks.proofs.Pick.{getD-any}
+use mathlib.Core.List.{map}
+use Rattle.checks.proofs.Pick.{made-at}
 use Rattle.checks.specs.Required.{required, line}
+use Rattle.checks.specs.declared.required.Need.{Need}
+use Rattle.checks.specs.declared.required.Line.{Line}
 use Rattle.checks.proofs.required.need_at.Statement.{statement}
 use Rattle.checks.proofs.required.need_at.Tie as tie
 
-mul-result : tie.Need-mul-result
-unfolding required
-mul-result c = search needs
+-- a need as a line of the table, and back
+abbrev plain : Need → Line
+plain n = record { 0 = n .profile .0; 1 = n .feature .0; 2 = n .least; 3 = n .place; 4 = n .mask }
 
-array-copy-out-result : tie.Need-array-copy-out-result
+abbrev need : Line → Need
+need l = record { profile = record { 0 = l .0 }; feature = record { 0 = l .1 }; least = l .2; place = l .3; mask = l .4 }
+
+mul-line : tie.Need-mul-line
 unfolding required
-array-copy-out-result c = search needs
+mul-line c = search needs
+
+array-copy-out-line : tie.Need-array-copy-out-line
+unfolding required
+array-copy-out-line c = search needs
 
 returns : tie.Need-returns
 unfolding required
-returns c = getD-any required (c .before .args .i) _ (line 0 0) (c .before .pre)
+returns c = made-at need (map plain required) (c .before .args .i) _ (line 0 0) (c .before .pre)
 
 pub need-at-spec : {M : Type 1} → statement M
-need-at-spec = tie.close (tie.spec mul-result array-copy-out-result returns)
+need-at-spec = tie.close (tie.spec mul-line array-copy-out-line returns)

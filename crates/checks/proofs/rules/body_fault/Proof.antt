@@ -1,5 +1,5 @@
 -- `checks::rules::body_fault` meets its contract: each early return is a case of the rule.
-use Rattle.checks.proofs.Calls.{faults}
+use Rattle.refusal.proofs.First.{faults}
 use Rattle.checks.specs.Rules.{bodyFault}
 use borrow.Author.Needs.{needs}
 use Rattle.checks.proofs.rules.body_fault.Statement.{statement}

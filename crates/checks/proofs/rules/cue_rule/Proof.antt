@@ -1,5 +1,5 @@
 -- `checks::rules::cue_rule` meets its contract: each early return is a case of the rule.
-use Rattle.text.proofs.First.{tests}
+use Rattle.refusal.proofs.First.{tests}
 use Rattle.checks.specs.Rules.{cueRule}
 use Rattle.checks.proofs.rules.cue_rule.Statement.{statement}
 use Rattle.checks.proofs.rules.cue_rule.Tie as tie

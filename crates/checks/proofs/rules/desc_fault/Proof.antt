@@ -1,5 +1,5 @@
 -- `checks::rules::desc_fault` meets its contract: each early return is a case of the rule.
-use Rattle.checks.proofs.Calls.{faults}
+use Rattle.refusal.proofs.First.{faults}
 use Rattle.checks.specs.Rules.{descFault}
 use borrow.Author.Needs.{needs}
 use Rattle.checks.proofs.rules.desc_fault.Statement.{statement}

@@ -3,16 +3,15 @@ use borrow.Author.Needs.{needs}
 use Prim.Native.Nat.{_-_}
 use mathlib.Core.Bool.{not}
 use mathlib.Core.Path.{_≡_}
-use native.Mathlib.Omega.{arith}
 use lib.Dec.{eqb}
 use lib.ListN.{length}
 use Rattle.checks.specs.Pick.{pick}
-use Rattle.checks.specs.Input.{descs}
-use Rattle.reading.specs.Places.{from}
+use Rattle.reading.specs.Places.{descs, from}
+use Rattle.reading.proofs.Places.{from-less}
 use Rattle.checks.proofs.Complete.{walk-start, walk-found, walk-next, walk-end}
 use Rattle.checks.proofs.Calls.{call-some, call-zero}
-use Rattle.text.specs.First.{accept}
-use Rattle.text.specs.Reading.{numberAt, descAt}
+use Rattle.refusal.specs.First.{accept}
+use Rattle.text.specs.Reading.{descAt}
 use Rattle.checks.specs.Rules.{descFault}
 use Rattle.checks.specs.Check.{finding, firstFault}
 use Rattle.checks.proofs.Findings.{finding-eq}
@@ -30,8 +29,11 @@ unfolding firstFault
 loop-holds c = search walk-start
 
 returns : tie.Need-returns Inv-loop μ-loop
-unfolding descAt numberAt
+unfolding descAt
 returns c = search (walk-found, call-some, finding-eq)
+
+loop-less : tie.Need-loop-less Inv-loop μ-loop
+loop-less c = search from-less
 
 loop-again : tie.Need-loop-again Inv-loop μ-loop
 loop-again c = search (walk-next, call-zero)
@@ -42,4 +44,4 @@ returns-2 c = search walk-end
 pub first-fault-spec : {M : Type 1} → statement M
 first-fault-spec =
     tie.close
-    (tie.spec Inv-loop μ-loop loop-holds (λ c κs. search needs) (λ c κs. search needs) returns (λ c κs. search needs) (λ c. omega arith) loop-again returns-2)
+    (tie.spec Inv-loop μ-loop loop-holds (λ c κs. search needs) (λ c κs. search needs) returns (λ c κs. search needs) loop-less loop-again returns-2)

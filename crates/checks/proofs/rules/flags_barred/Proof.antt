@@ -1,4 +1,5 @@
 -- `checks::rules::flags_barred` meets its contract: each early return is a case of the rule.
+use borrow.Author.Needs.{needs}
 use borrow.Author.Tests.{not-true, not-false}
 use Rattle.checks.specs.Rules.{flagsBarred}
 use Rattle.checks.proofs.rules.flags_barred.Statement.{statement}
@@ -14,7 +15,7 @@ returns-2 c = let a = c .before .before .args in rw (not-false (a .barred) (c .b
 
 returns-3 : tie.Need-returns-3
 unfolding flagsBarred
-returns-3 c = let a = c .before .before .args in rw (not-false (a .barred) (c .before .if1 .left), not-false (a .removable) (c .if2 .left), flagsBarred)
+returns-3 c = let a = c .before .before .before .args in rw (not-false (a .barred) (c .before .before .if1 .left), not-false (a .removable) (c .before .if2 .left), ← c .persistent .ensures, flagsBarred)
 
 pub flags-barred-spec : {M : Type 1} → statement M
-flags-barred-spec = tie.close (tie.spec returns returns-2 returns-3)
+flags-barred-spec = tie.close (tie.spec returns returns-2 (λ c κs. search needs) returns-3)

@@ -1,5 +1,5 @@
 -- `checks::rules::profile_at` meets its contract.
-use Rattle.text.proofs.First.{tests}
+use Rattle.refusal.proofs.First.{tests}
 use Rattle.checks.specs.Rules.{profileAt}
 use borrow.Author.Needs.{needs}
 use Rattle.checks.proofs.rules.profile_at.Statement.{statement}

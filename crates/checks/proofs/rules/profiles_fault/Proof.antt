@@ -3,9 +3,9 @@ use borrow.Author.Needs.{needs}
 use Prim.Native.Nat.{_≤_, _-_}
 use mathlib.Core.Path.{_≡_}
 use native.Mathlib.Omega.{arith}
-use Rattle.text.specs.First.{firstOf}
-use Rattle.text.proofs.First.{rest, first-start, first-stop, first-go, first-none}
-use Rattle.text.proofs.First.{tests}
+use Rattle.refusal.specs.First.{firstOf}
+use Rattle.refusal.proofs.First.{rest, first-start, first-stop, first-go, first-none}
+use Rattle.refusal.proofs.First.{tests}
 use Rattle.checks.specs.Rules.{profileAt, profilesFault}
 use Rattle.checks.proofs.rules.profiles_fault.Statement.{statement}
 use Rattle.checks.proofs.rules.profiles_fault.Tie as tie

@@ -4,8 +4,8 @@ use Prim.Native.Nat.{_≤_, _-_}
 use mathlib.Core.Path.{_≡_}
 use native.Mathlib.Omega.{arith}
 use lib.ListN.{length}
-use Rattle.text.specs.First.{firstOf}
-use Rattle.text.proofs.First.{rest, first-start, first-stop, first-go, first-none}
+use Rattle.refusal.specs.First.{firstOf}
+use Rattle.refusal.proofs.First.{rest, first-start, first-stop, first-go, first-none}
 use Rattle.checks.specs.Rules.{reservedAt}
 use Rattle.checks.proofs.rules.reserved_fault.Statement.{statement}
 use Rattle.checks.proofs.rules.reserved_fault.Tie as tie

@@ -1,5 +1,5 @@
 -- `checks::rules::reserved_rule` meets its contract: each early return is a case of the rule.
-use Rattle.text.proofs.First.{tests}
+use Rattle.refusal.proofs.First.{tests}
 use Rattle.checks.specs.Rules.{reservedRule}
 use Rattle.checks.proofs.rules.reserved_rule.Statement.{statement}
 use Rattle.checks.proofs.rules.reserved_rule.Tie as tie

@@ -1,6 +1,6 @@
 -- `checks::rules::wrong_length` meets its contract, by the cases of the length.
 use borrow.Author.Needs.{needs}
-use Rattle.text.proofs.First.{tests}
+use Rattle.refusal.proofs.First.{tests}
 use Rattle.checks.specs.Rules.{wrongLength}
 use borrow.Author.Needs.{needs}
 use Rattle.checks.proofs.rules.wrong_length.Statement.{statement}

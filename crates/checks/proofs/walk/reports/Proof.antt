@@ -2,14 +2,14 @@
 use borrow.Author.Needs.{needs}
 use Prim.Native.Nat.{_-_}
 use mathlib.Core.Path.{_≡_}
-use native.Mathlib.Omega.{arith}
 use lib.Dec.{eqb}
 use lib.ListN.{length}
-use Rattle.text.specs.Reading.{numberAt, descAt}
+use Rattle.text.specs.Reading.{descAt}
 use Rattle.checks.specs.Pick.{some}
-use Rattle.checks.specs.Input.{descs, reported}
+use Rattle.checks.specs.Reported.{reported}
 use Rattle.checks.proofs.Calls.{call-eq, call-ne}
-use Rattle.reading.specs.Places.{from}
+use Rattle.reading.specs.Places.{descs, from}
+use Rattle.reading.proofs.Places.{from-less}
 use Rattle.checks.proofs.Complete.{walk-start, walk-found, walk-next, walk-end}
 use Rattle.checks.proofs.walk.reports.Statement.{statement}
 use Rattle.checks.proofs.walk.reports.Tie as tie
@@ -25,11 +25,14 @@ unfolding reported
 loop-holds c = search walk-start
 
 returns : tie.Need-returns Inv-loop μ-loop
-unfolding descAt numberAt
+unfolding descAt
 returns c = search (walk-found, call-eq)
 
+loop-less : tie.Need-loop-less Inv-loop μ-loop
+loop-less c = search from-less
+
 loop-again : tie.Need-loop-again Inv-loop μ-loop
-unfolding descAt numberAt
+unfolding descAt
 loop-again c = search (walk-next, call-ne)
 
 returns-2 : tie.Need-returns-2 Inv-loop μ-loop
@@ -38,4 +41,4 @@ returns-2 c = search walk-end
 pub reports-spec : {M : Type 1} → statement M
 reports-spec =
     tie.close
-    (tie.spec Inv-loop μ-loop loop-holds (λ c κs. search needs) returns (λ c κs. search needs) (λ c. omega arith) loop-again returns-2)
+    (tie.spec Inv-loop μ-loop loop-holds (λ c κs. search needs) returns (λ c κs. search needs) loop-less loop-again returns-2)

@@ -1,6 +1,6 @@
 -- `sweep::Sweep::closed_rule` meets its contract: the first refusal of two rules.
-use Rattle.text.proofs.First.{tests}
-use Rattle.sweep.specs.Numbers.{closedRule}
+use Rattle.refusal.proofs.First.{tests}
+use Rattle.sweep.specs.inner.Numbers.{closedRule}
 use borrow.Author.Needs.{needs}
 use Rattle.sweep.proofs.Sweep.closed_rule.Statement.{statement}
 use Rattle.sweep.proofs.Sweep.closed_rule.Tie as tie

@@ -1,5 +1,5 @@
 -- `sweep::Sweep::open_rule` meets its contract: each early return is a case of the rule.
-use Rattle.text.proofs.First.{tests}
+use Rattle.refusal.proofs.First.{tests}
 use Rattle.sweep.specs.Sweep.{openRule}
 use Rattle.sweep.proofs.Sweep.open_rule.Statement.{statement}
 use Rattle.sweep.proofs.Sweep.open_rule.Tie as tie

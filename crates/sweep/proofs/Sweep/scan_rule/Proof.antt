@@ -1,6 +1,6 @@
 -- `sweep::Sweep::scan_rule` meets its contract: the first refusal of the reading and of two rules.
-use Rattle.text.proofs.First.{tests}
-use Rattle.sweep.specs.Numbers.{scanRule}
+use Rattle.refusal.proofs.First.{tests}
+use Rattle.sweep.specs.inner.Numbers.{scanRule}
 use borrow.Author.Needs.{needs}
 use Rattle.sweep.proofs.Sweep.scan_rule.Statement.{statement}
 use Rattle.sweep.proofs.Sweep.scan_rule.Tie as tie

@@ -1,5 +1,5 @@
 -- `text::Command::fault` meets its contract: each early return is a case of the definition.
-use Rattle.text.proofs.First.{tests}
+use Rattle.refusal.proofs.First.{tests}
 use Rattle.text.specs.Command.{commandFault, opcodeOf, rtOf}
 use borrow.Author.Needs.{needs}
 use Rattle.text.proofs.Command.fault.Statement.{statement}

@@ -1,0 +1,4 @@
+-- Laws that this crate's proofs and those above it cite.
+pub mod Loops
+pub mod Kept
+pub mod Again

@@ -1,0 +1,35 @@
+-- `profiles::current` meets its contract: the loop carries what is left of the search.
+use borrow.Author.Needs.{needs}
+use Prim.Native.Nat.{ℕ, _≤_, _-_}
+use mathlib.Core.Path.{_≡_, ap}
+use native.Mathlib.Omega.{arith}
+use Rattle.base.specs.Lists.{each}
+use Rattle.text.specs.Response.{currentProfile}
+use Rattle.profiles.specs.Profiles.{listed, profilesOf}
+use Rattle.profiles.proofs.Loops.{current-stop, current-go, current-none}
+use Rattle.profiles.proofs.current.Statement.{statement}
+use Rattle.profiles.proofs.current.Tie as tie
+
+abbrev Inv-loop : tie.InvT-loop
+Inv-loop b n i₀ i = (i ≤ n) × (currentProfile (profilesOf b) ≡ currentProfile (each (listed b) i (n - i)))
+
+abbrev μ-loop : tie.MeasureT-loop
+μ-loop b n i₀ i = n - i
+
+loop-holds : tie.Need-loop-holds Inv-loop μ-loop
+unfolding profilesOf
+loop-holds c = (omega arith, ap (λ (k : ℕ). currentProfile (each (listed (c .before .args .b .now)) 0 k)) (omega arith))
+
+returns : tie.Need-returns Inv-loop μ-loop
+returns c = search current-stop
+
+loop-again : tie.Need-loop-again Inv-loop μ-loop
+loop-again c = (omega arith, search current-go)
+
+returns-2 : tie.Need-returns-2 Inv-loop μ-loop
+returns-2 c = search current-none
+
+pub current-spec : {M : Type 1} → statement M
+current-spec =
+    tie.close
+    (tie.spec Inv-loop μ-loop loop-holds (λ c. search needs) (λ c. search needs) (λ c κs. search needs) (λ c. search needs) (λ c κs. search needs) returns (λ c. search needs) (λ c. search needs) loop-again returns-2)

@@ -1,0 +1,35 @@
+-- `profiles::fault` meets its contract: the loop carries what is left of the search.
+use borrow.Author.Needs.{needs}
+use Prim.Native.Nat.{_≤_, _-_}
+use mathlib.Core.Path.{_≡_}
+use native.Mathlib.Omega.{arith}
+use Rattle.refusal.specs.First.{firstOf}
+use Rattle.refusal.proofs.First.{rest, first-start, first-stop, first-go, first-none}
+use Rattle.profiles.specs.Profiles.{recordFault, profilesFault}
+use Rattle.profiles.proofs.fault.Statement.{statement}
+use Rattle.profiles.proofs.fault.Tie as tie
+
+abbrev Inv-loop : tie.InvT-loop
+Inv-loop b n i₀ i = (i ≤ n) × (firstOf (recordFault b) 0 n ≡ rest (recordFault b) n i)
+
+abbrev μ-loop : tie.MeasureT-loop
+μ-loop b n i₀ i = n - i
+
+loop-holds : tie.Need-loop-holds Inv-loop μ-loop
+loop-holds c = (omega arith, search first-start)
+
+returns : tie.Need-returns Inv-loop μ-loop
+unfolding profilesFault
+returns c = search first-stop
+
+loop-again : tie.Need-loop-again Inv-loop μ-loop
+loop-again c = (omega arith, search first-go)
+
+returns-2 : tie.Need-returns-2 Inv-loop μ-loop
+unfolding profilesFault
+returns-2 c = search first-none
+
+pub fault-spec : {M : Type 1} → statement M
+fault-spec =
+    tie.close
+    (tie.spec Inv-loop μ-loop loop-holds (λ c κs. search needs) returns (λ c. search needs) (λ c. search needs) loop-again returns-2)

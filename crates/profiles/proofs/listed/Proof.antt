@@ -1,0 +1,32 @@
+-- `profiles::listed` meets its contract: the loop carries what is left of the search.
+use borrow.Author.Needs.{needs}
+use Prim.Native.Nat.{_≤_, _-_}
+use mathlib.Core.Path.{_≡_, ap}
+use native.Mathlib.Omega.{arith}
+use Rattle.profiles.specs.Profiles.{lists}
+use Rattle.profiles.proofs.Loops.{lists-stop, lists-go, lists-none}
+use Rattle.profiles.proofs.listed.Statement.{statement}
+use Rattle.profiles.proofs.listed.Tie as tie
+
+abbrev Inv-loop : tie.InvT-loop
+Inv-loop b number n i₀ i = (i ≤ n) × (lists (number .0) b 0 n ≡ lists (number .0) b i (n - i))
+
+abbrev μ-loop : tie.MeasureT-loop
+μ-loop b number n i₀ i = n - i
+
+loop-holds : tie.Need-loop-holds Inv-loop μ-loop
+loop-holds c = (omega arith, ap (lists (c .before .args .number .0) (c .before .args .b .now) 0) (omega arith))
+
+returns : tie.Need-returns Inv-loop μ-loop
+returns c = search lists-stop
+
+loop-again : tie.Need-loop-again Inv-loop μ-loop
+loop-again c = (omega arith, search lists-go)
+
+returns-2 : tie.Need-returns-2 Inv-loop μ-loop
+returns-2 c = search lists-none
+
+pub listed-spec : {M : Type 1} → statement M
+listed-spec =
+    tie.close
+    (tie.spec Inv-loop μ-loop loop-holds (λ c. search needs) (λ c κs. search needs) returns (λ c. search needs) (λ c. search needs) loop-again returns-2)

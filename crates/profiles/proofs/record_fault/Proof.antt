@@ -1,0 +1,14 @@
+-- `profiles::record_fault` meets its contract: the rule at what stands in the list.
+use Rattle.profiles.specs.Profiles.{number, current, last, recordFault}
+use borrow.Author.Needs.{needs}
+use Rattle.profiles.proofs.record_fault.Statement.{statement}
+use Rattle.profiles.proofs.record_fault.Tie as tie
+
+returns : tie.Need-returns
+unfolding recordFault number current last
+returns c = cc
+
+pub record-fault-spec : {M : Type 1} → statement M
+record-fault-spec =
+    tie.close
+    (tie.spec (λ c. search needs) (λ c κs. search needs) (λ c κs. search needs) (λ c. search needs) (λ c. search needs) (λ c κs. search needs) (λ c. search needs) (λ c. search needs) (λ c κs. search needs) (λ c κs. search needs) returns)

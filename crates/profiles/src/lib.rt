@@ -1,0 +1,86 @@
+// A list of profiles as bytes, four each: a sheet's profile part and the body of feature 0 are such a list.
+ghost use mathlib.Core.Path.{_≡_};
+ghost use Prim.Native.Nat.{_/_, _≤_, _<_};
+ghost use lib.ListN.{length};
+ghost use Rattle.text.specs.Response.{currentProfile};
+ghost use Rattle.profiles.specs.Profiles.{profilesOf, lists, recordRule, recordFault, profilesFault};
+use refusal::Refusal;
+use text::Profile;
+
+// 3 of a record's fields; `before` says whether a record before it has its number.
+fn rule(number: Profile, before: bool, current: u8, last: u8) -> Refusal
+    ensures { λ r. ⌜ r ≡ recordRule (number .0) before current last ⌝ }
+{
+    if number.0 == 0 {
+        return refusal::PROFILE_BAD;
+    }
+    if before {
+        return refusal::PROFILE_BAD;
+    }
+    if current > 1 {
+        return refusal::PROFILE_BAD;
+    }
+    if last != 0 {
+        return refusal::PROFILE_BAD;
+    }
+    refusal::ACCEPTED
+}
+
+// Whether one of the first n records has this number.
+// Asks: no more records than the list has; the walk stops at its end.
+fn listed(b: &[u8], number: Profile, n: usize) -> bool
+    requires { ⌜ n ≤ length (now b) / 4 ⌝ }
+    ensures { λ r. ⌜ r ≡ lists (number .0) (now (b .entry)) 0 n ⌝ }
+{
+    let mut i = 0;
+    while i < n {
+        if fields::get2(b, 4 * i) == number.0 {
+            return true;
+        }
+        i += 1;
+    }
+    false
+}
+
+// Asks: an index inside the list; the walk stops at its end.
+fn record_fault(b: &[u8], i: usize) -> Refusal
+    requires { ⌜ i < length (now b) / 4 ⌝ }
+    ensures { λ r. ⌜ r ≡ recordFault (now (b .entry)) i ⌝ }
+{
+    let number = Profile(fields::get2(b, 4 * i));
+    let before = listed(b, number, i);
+    let current = fields::byte(b, 4 * i + 2);
+    let last = fields::byte(b, 4 * i + 3);
+    rule(number, before, current, last)
+}
+
+// The first refusal of the records, which is 3 or none.
+pub fn fault(b: &[u8]) -> Refusal
+    ensures { λ r. ⌜ r ≡ profilesFault (now (b .entry)) ⌝ }
+{
+    let n = b.len() / 4;
+    let mut i = 0;
+    while i < n {
+        let fault = record_fault(b, i);
+        if fault.number != 0 {
+            return fault;
+        }
+        i += 1;
+    }
+    refusal::ACCEPTED
+}
+
+// The first profile with CurrentP set, 0 if none.
+pub fn current(b: &[u8]) -> Profile
+    ensures { λ r. ⌜ r .0 ≡ currentProfile (profilesOf (now (b .entry))) ⌝ }
+{
+    let n = b.len() / 4;
+    let mut i = 0;
+    while i < n {
+        if fields::byte(b, 4 * i + 2) % 2 == 1 {
+            return Profile(fields::get2(b, 4 * i));
+        }
+        i += 1;
+    }
+    Profile(0)
+}

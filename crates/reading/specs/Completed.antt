@@ -1,0 +1,21 @@
+-- A response to RT 0 from 0 that has to be complete. Assumes nothing: these are definitions.
+use mathlib.Core.Bool.{not}
+use mathlib.Core.List.{List}
+use Prim.Native.Nat.{ℕ}
+use lib.Dec.{eqb}
+use lib.ListN.{length}
+use Rattle.refusal.specs.declared.Refusal.{Refusal}
+use Rattle.refusal.specs.First.{refuse, accept, _if_else_, _orElse_, unless}
+use Rattle.text.specs.declared.Reading.{Reading}
+use Rattle.text.specs.Reading.{statedEnd, readFault, refused, reading}
+
+-- why it is refused: the reading's numbers, then 29: it is cut
+unfoldable pub completeFault : List ℕ → Refusal
+completeFault s =
+    readFault 65534 0 0 s orElse
+    refuse 29 if not (eqb (length s) (statedEnd s)) else
+    accept
+
+-- its reading
+unfoldable pub completed : List ℕ → Reading
+completed s = unless (completeFault s) refused (reading 65534 0 0 s)

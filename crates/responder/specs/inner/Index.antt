@@ -1,0 +1,77 @@
+-- The response by index of the sheet's entries: what the box's inner functions find, add up and write. Assumes nothing: these are definitions.
+use mathlib.Core.Bool.{Bool, true, false, _&&_}
+use mathlib.Core.List.{List, [], _∷_, _++_}
+use Prim.Native.Nat.{ℕ, zero, suc, _+_, _-_, _*_, _%_}
+use lib.Dec.{ltb, eqb}
+use lib.ListN.{take, drop}
+use Rattle.fields.specs.Field.{spell}
+use Rattle.text.specs.Flags as text
+use Rattle.text.specs.Response.{header}
+use Rattle.layout.specs.Layout.{featureCount, profileCount, number, flags, bodyLength, offset, profilesPart}
+use Rattle.sheet.specs.Check.{endBefore}
+use Rattle.sheet.specs.Search.{firstFrom}
+use Rattle.responder.specs.declared.Plan.{Plan}
+
+-- the end of the wanted entries that start at r: all n, or with RT 2 only entry r if it has the number asked for
+unfoldable pub wantedEnd : (rt : ℕ) (s : List ℕ) (n sfn r : ℕ) → ℕ
+wantedEnd zero s n sfn r = n
+wantedEnd (suc zero) s n sfn r = n
+wantedEnd (suc (suc rt)) s n sfn r = elim (ltb r n && eqb (number s r) sfn) [ true ↦ r + 1 | false ↦ r ]
+
+-- RT 1 passes over what is not current
+unfoldable pub skips : (rt f : ℕ) → Bool
+skips rt f = eqb rt 1 && eqb (text.current f) 0
+
+-- the bytes of entry i's descriptor
+unfoldable pub entryBytes : List ℕ → ℕ → List ℕ
+entryBytes s i = spell 2 (number s i) ++ (flags s i ∷ []) ++ (bodyLength s i ∷ []) ++ take (bodyLength s i) (drop (offset s i) s)
+
+unfoldable pub piece : (rt : ℕ) (s : List ℕ) (i : ℕ) → List ℕ
+piece rt s i = elim (skips rt (flags s i)) [ true ↦ [] | false ↦ entryBytes s i ]
+
+-- those of k entries from an index on
+unfoldable pub pieces : (rt : ℕ) (s : List ℕ) (from k : ℕ) → List ℕ
+pieces rt s from zero = []
+pieces rt s from (suc k) = pieces rt s from k ++ piece rt s (from + k)
+
+-- how many bytes they are
+unfoldable pub pieceSize : (rt : ℕ) (s : List ℕ) (i : ℕ) → ℕ
+pieceSize rt s i = elim (skips rt (flags s i)) [ true ↦ 0 | false ↦ 4 + bodyLength s i ]
+
+unfoldable pub piecesSize : (rt : ℕ) (s : List ℕ) (from k : ℕ) → ℕ
+piecesSize rt s from zero = 0
+piecesSize rt s from (suc k) = piecesSize rt s from k + pieceSize rt s (from + k)
+
+-- the same from the offsets, where none is passed over
+unfoldable pub span : (s : List ℕ) (from to : ℕ) → ℕ
+span s from to = 4 * (to - from) + (endBefore s to - endBefore s from)
+
+unfoldable pub entriesSize : (rt : ℕ) (s : List ℕ) (from to : ℕ) → ℕ
+entriesSize rt s from to = elim (eqb rt 1) [ true ↦ piecesSize rt s from (to - from) | false ↦ span s from to ]
+
+-- feature 0, and how many bytes it is: it is sent where SFN is 0
+unfoldable pub zeroBytes : List ℕ → List ℕ
+zeroBytes s = spell 2 0 ++ (3 ∷ []) ++ (4 * profileCount s % 256 ∷ []) ++ profilesPart s
+
+unfoldable pub zeroPart : (s : List ℕ) (sfn : ℕ) → List ℕ
+zeroPart s sfn = elim (eqb sfn 0) [ true ↦ zeroBytes s | false ↦ [] ]
+
+unfoldable pub zeroSize : (s : List ℕ) (sfn : ℕ) → ℕ
+zeroSize s sfn = elim (eqb sfn 0) [ true ↦ 4 + 4 * profileCount s | false ↦ 0 ]
+
+-- which entries a request takes, and how many bytes stand behind the header
+unfoldable pub takenFrom : (s : List ℕ) (sfn : ℕ) → ℕ
+takenFrom s sfn = firstFrom s (featureCount s) sfn
+
+unfoldable pub takenTo : (s : List ℕ) (rt sfn : ℕ) → ℕ
+takenTo s rt sfn = wantedEnd rt s (featureCount s) sfn (takenFrom s sfn)
+
+unfoldable pub takenSize : (s : List ℕ) (rt sfn : ℕ) → ℕ
+takenSize s rt sfn = zeroSize s sfn + entriesSize rt s (takenFrom s sfn) (takenTo s rt sfn)
+
+unfoldable pub plan : (s : List ℕ) (rt sfn : ℕ) → Plan
+plan s rt sfn = record { from = takenFrom s sfn; to = takenTo s rt sfn; size = takenSize s rt sfn }
+
+-- a whole response
+unfoldable pub fullBytes : (s : List ℕ) (rt sfn from to len profile : ℕ) → List ℕ
+fullBytes s rt sfn from to len profile = header len profile ++ zeroPart s sfn ++ pieces rt s from (to - from)

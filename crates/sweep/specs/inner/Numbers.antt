@@ -1,0 +1,45 @@
+-- A step in the numbers of a scan. Assumes nothing: these are definitions.
+use mathlib.Core.Bool.{Bool, true, false}
+use Prim.Native.Nat.{ℕ, _+_, _-_}
+use lib.Dec.{ltb, eqb}
+use Rattle.refusal.specs.declared.Refusal.{Refusal}
+use Rattle.refusal.specs.First.{refuse, accept, _if_else_, _orElse_}
+use Rattle.reading.specs.declared.Scanned.{Scanned}
+use Rattle.sweep.specs.declared.Sweep.{Sweep}
+use Rattle.sweep.specs.declared.Step.{Step}
+use Rattle.sweep.specs.Sweep.{most, startRule, openRule, endedNow}
+
+-- 21, 22, 26: what a record refuses whatever the response
+unfoldable pub closedRule : Sweep → Refusal
+closedRule w = startRule (w .rt) (w .allocation) orElse openRule w
+
+-- 28, 23, 27: a cut response of so many bytes, with so many whole descriptors, the last numbered last
+unfoldable pub cutRule : (complete : Bool) (received most count last : ℕ) → Refusal
+cutRule complete received most count last =
+    accept if complete else
+    refuse 28 if ltb received most else
+    refuse 23 if eqb count 0 else
+    refuse 27 if eqb last 65535 else
+    accept
+
+-- 24: no room for size bytes behind those collected
+unfoldable pub spaceRule : (collected size room : ℕ) → Refusal
+spaceRule collected size room = refuse 24 if ltb room (collected + size) else accept
+
+-- what an open record refuses of a scan: the reading's, then 28, 23, 27, 24
+unfoldable pub scanRule : Sweep → Scanned → (received room : ℕ) → Refusal
+scanRule w x received room =
+    x .reading .refusal orElse
+    cutRule (x .reading .complete) received (most (w .allocation)) (x .reading .count) (x .last .0) orElse
+    spaceRule (w .collected) (x .reading .end - 8) room
+
+-- the record that an accepted scan gives, with so many bytes collected
+unfoldable pub moved : Sweep → Scanned → (collected : ℕ) → Sweep
+moved w x collected = record {
+  rt = w .rt;
+  allocation = w .allocation;
+  next = elim (x .reading .complete) [ true ↦ w .next | false ↦ record { 0 = x .last .0 + 1 } ];
+  commands = w .commands + 1;
+  collected = collected;
+  ended = x .reading .complete;
+}

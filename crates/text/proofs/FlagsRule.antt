@@ -1,0 +1,56 @@
+-- What flags are that the rule accepts, whatever the refusals that it gives. Assumes nothing.
+use borrow.Author.Tests.{eqb-true, eq-eqb, not-false}
+use mathlib.Core.Path.{_≡_, refl, sym, ap, _∙_}
+use mathlib.Core.Bool.{Bool, true, false, not, _&&_, true≢false}
+use Prim.Native.Nat.{ℕ}
+use Rattle.refusal.specs.declared.Refusal.{Refusal}
+use Rattle.refusal.specs.First.{accept, _if_else_}
+use Rattle.refusal.proofs.First.{orElse-none, orElse-zero}
+use Rattle.text.specs.Flags.{reserved, version, persistent, current, flagsRule}
+
+-- reserved bits and Version 0, Persistent only with Current
+pub record Flagged (f : ℕ) : Type 0 where
+  pub reserved-zero : reserved f ≡ 0
+  pub version-zero : version f ≡ 0
+  pub current-too : persistent f ≡ 1 → current f ≡ 1
+
+if-no : (r : Refusal) (b : Bool) → (r .number ≡ 0 → ⊥) → (r if b else accept) .number ≡ 0 → b ≡ false
+unfolding _if_else_
+if-no r true h e = absurd (h e)
+if-no r false h e = refl
+
+-- a rule that does not hold gives no refusal
+if-accept : (r : Refusal) (b : Bool) → b ≡ false → (r if b else accept) ≡ accept
+unfolding _if_else_
+if-accept r true e = absurd (true≢false e)
+if-accept r false e = refl
+
+none : (r : Refusal) (b : Bool) → b ≡ false → (r if b else accept) .number ≡ 0
+none r b e = ap (λ (x : Refusal). x .number) (if-accept r b e)
+
+alone-too : (p c : Bool) → (p && not c) ≡ false → p ≡ true → c ≡ true
+alone-too true c e h = not-false c e
+alone-too false c e h = absurd (true≢false (sym h))
+
+not-alone : (p c : Bool) → (p ≡ true → c ≡ true) → (p && not c) ≡ false
+not-alone true c h = rw (h refl)
+not-alone false c h = refl
+
+module _ (a b c : Refusal) (f : ℕ) where
+  pub flags-good : (a .number ≡ 0 → ⊥) → (b .number ≡ 0 → ⊥) → (c .number ≡ 0 → ⊥) → flagsRule a b c f .number ≡ 0 → Flagged f
+  unfolding flagsRule
+  flags-good h i j e =
+      let x = orElse-zero _ _ e in
+      let y = orElse-zero _ _ (x .1) in
+      record {
+        reserved-zero = eqb-true _ _ (not-false _ (if-no a _ h (x .0)));
+        version-zero = eqb-true _ _ (not-false _ (if-no b _ i (y .0)));
+        current-too = λ p. eqb-true _ _ (alone-too _ _ (if-no c _ j (y .1)) (eq-eqb _ _ p));
+      }
+
+  pub flags-accept : Flagged f → flagsRule a b c f ≡ accept
+  unfolding flagsRule
+  flags-accept g =
+      orElse-none _ _ (none a _ (ap not (eq-eqb (reserved f) 0 (g .reserved-zero))))
+      ∙ orElse-none _ _ (none b _ (ap not (eq-eqb (version f) 0 (g .version-zero))))
+      ∙ if-accept c _ (not-alone _ _ (λ p. eq-eqb (current f) 1 (g .current-too (eqb-true (persistent f) 1 p))))
