@@ -4,12 +4,13 @@ ghost use mathlib.Core.Path.{_≡_};
 ghost use mathlib.Core.List.{[], _∷_};
 ghost use Rattle.lent.specs.Wrote.{Wrote};
 ghost use Rattle.text.specs.Reading.{reading};
+ghost use Rattle.text.specs.Response.{most};
 ghost use Rattle.sheet.specs.Check.{verdict};
 ghost use Rattle.responder.specs.Answer.{answered};
 ghost use Rattle.responder.specs.Trusting.{trustingCommand};
 ghost use Rattle.reading.specs.Held.{heldOf};
 ghost use Rattle.listing.specs.Listing.{listing};
-ghost use Rattle.sweep.specs.Sweep.{most, started};
+ghost use Rattle.sweep.specs.Sweep.{started};
 ghost use Rattle.sweep.specs.Sweep as sweep;
 ghost use Rattle.bench.specs.Bench as bench;
 ghost use Rattle.checks.specs.Check.{checked};
@@ -153,7 +154,7 @@ pub extern "C" fn gcf_list(response: &[u8], text: &mut [u8]) -> usize
 pub extern "C" fn gcf_most(allocation: u16) -> usize
     ensures { λ r. ⌜ r ≡ most allocation ⌝ }
 {
-    sweep::most(allocation)
+    text::most(allocation)
 }
 
 // Starts a sweep. Numbers: the record.

@@ -9,11 +9,10 @@ use Rattle.refusal.specs.First.{accept}
 use Rattle.lent.specs.Maker.{outcome, written, making}
 use Rattle.lent.proofs.Maker.{makes-made}
 use Rattle.text.specs.Drive.{Drive}
-use Rattle.text.specs.Response.{sent}
+use Rattle.text.specs.Response.{sent, most}
 use Rattle.text.proofs.Sent.{length-sent}
 use Rattle.sheet.specs.Meaning.{meaning}
 use Rattle.responder.specs.Answer as box
-use Rattle.sweep.specs.Sweep.{most}
 use Rattle.bench.specs.Bench.{zeros, filled}
 
 -- a response has at most C bytes

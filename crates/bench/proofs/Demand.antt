@@ -14,7 +14,7 @@ use Rattle.base.proofs.Lists.{all-right}
 use Rattle.refusal.specs.declared.Refusal.{Refusal}
 use Rattle.refusal.specs.First.{refuse, accept, _if_else_, pickZero, _orElse_}
 use Rattle.text.specs.Drive.{Desc, Drive, Sound}
-use Rattle.text.specs.Response.{bytes, feature0, wants, selected}
+use Rattle.text.specs.Response.{bytes, feature0, wants, selected, most}
 use Rattle.text.specs.Packing.{total, groups, joined}
 use Rattle.refusal.proofs.First.{if-true, if-false, if-zero, orElse-zero, unless-none, unless-fault}
 use Rattle.base.proofs.Compare.{le-or-lt}
@@ -24,7 +24,7 @@ use Rattle.text.proofs.Packing.{length-flat-bytes, groups-fit, packing}
 use Rattle.sheet.specs.Check.{verdict, Accepted}
 use Rattle.sheet.specs.Meaning.{meaning}
 use Rattle.sheet.proofs.Meaning.{meaning-fine}
-use Rattle.sweep.specs.Sweep.{most, startRule, fresh}
+use Rattle.sweep.specs.Sweep.{startRule, fresh}
 use Rattle.bench.specs.Bench.{State, Ending, failing, firstFault, opened, runFrom, benched}
 use Rattle.bench.specs.Swept.{room, HasRoom, Premises, Swept, Ended, Numbers, swept, short, long, narrow, many}
 use Rattle.bench.proofs.Run.{unless-zero, unless-settled, run-settled}

@@ -14,14 +14,14 @@ use Rattle.lent.proofs.Sets.{sets-append}
 use Rattle.refusal.specs.declared.Refusal.{Refusal}
 use Rattle.refusal.specs.First.{refuse, accept}
 use Rattle.text.specs.Drive.{Desc, Drive, Sound}
-use Rattle.text.specs.Response.{bytes, selected, sent}
+use Rattle.text.specs.Response.{bytes, selected, sent, most}
 use Rattle.text.specs.Reading.{lastNumber}
 use Rattle.text.specs.Packing.{size, whole, joined}
 use Rattle.base.proofs.Compare.{le-or-lt}
 use Rattle.text.proofs.Sent.{length-sent}
 use Rattle.text.proofs.Packing.{whole-rest, rest-fits, whole-every, whole-fits, whole-none, groups-last, groups-some, flat-parts}
 use Rattle.text.proofs.Next.{selected-next}
-use Rattle.sweep.specs.Sweep.{most, takeFault, stepped}
+use Rattle.sweep.specs.Sweep.{takeFault, stepped}
 use Rattle.bench.specs.Bench.{State, state, Ending, ending, filled, failing, succeeding, rounded, rounds}
 use Rattle.bench.specs.Swept.{room, HasRoom, lastOf, nextStart}
 use Rattle.bench.proofs.Run.{length-filled, filled-filled, run-ended, run-full, run-fault, run-round}

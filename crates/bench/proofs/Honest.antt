@@ -9,11 +9,11 @@ use lib.Seq.{take-at}
 use Rattle.base.specs.Lists.{flat, All}
 use Rattle.base.proofs.Lists.{flat-append, drop-behind}
 use Rattle.text.specs.Drive.{Desc, Drive, Sound}
-use Rattle.text.specs.Response.{bytes, selected, sent}
+use Rattle.text.specs.Response.{bytes, selected, sent, most}
 use Rattle.text.proofs.Packing.{whole-rest, whole-some, rest-all, groups-last, groups-some}
 use Rattle.text.proofs.Own.{wholes-sent}
 use Rattle.text.proofs.Next.{selected-next}
-use Rattle.sweep.specs.Sweep.{most, cut}
+use Rattle.sweep.specs.Sweep.{cut}
 use Rattle.bench.specs.Swept.{room, HasRoom, another, Round, Honest}
 use Rattle.bench.proofs.Round.{fits, left, gain, later, plan, cut-none, cut-yes}
 use Rattle.bench.proofs.Rounds.{startsOf, length-startsOf, selected-count, plan-more}

@@ -13,7 +13,7 @@ use Rattle.lent.proofs.Laws.{kept}
 use Rattle.refusal.specs.declared.Refusal.{Refusal}
 use Rattle.refusal.specs.First.{refuse, accept, unless}
 use Rattle.text.specs.Drive.{Drive}
-use Rattle.text.specs.Response.{sent}
+use Rattle.text.specs.Response.{sent, most}
 use Rattle.refusal.proofs.First.{if-zero, orElse-zero, unless-none, unless-fault}
 use Rattle.sheet.specs.Check.{Accepted}
 use Rattle.sheet.specs.Meaning.{meaning}
@@ -24,11 +24,11 @@ use Rattle.responder.specs.Trusting.{trusting}
 use Rattle.responder.proofs.Trusting.{trusting-accepted}
 use Rattle.sweep.specs.declared.Sweep.{Sweep}
 use Rattle.sweep.specs.declared.Step.{Step}
-use Rattle.sweep.specs.Sweep.{most, startRule, fresh, started, advanced, endedNow, stepped, collecting}
+use Rattle.sweep.specs.Sweep.{startRule, fresh, started, advanced, endedNow, stepped, collecting}
 use Rattle.sweep.proofs.Numbers.{start-fresh}
 use Rattle.sweep.proofs.Cases.{step-cases}
 use Rattle.bench.specs.Bench.{State, state, Ending, ending, zeros, failing, succeeding, reply, filled, roundFault, rounded, rounds, runFrom, firstFault, opened, benched}
-use Rattle.bench.specs.inner.Loop.{openFault, cleared, Kept, Rounded, Ran}
+use Rattle.bench.specs.inner.Loop.{openFault, cleared, SameLengths, Rounded, Ran}
 use Rattle.bench.proofs.Asked.{sent-most, take-filled, asked}
 use Rattle.bench.proofs.Run.{length-filled, round-full, round-room}
 use Rattle.bench.proofs.Turns.{onwards, onwards-ended, onwards-fault, onwards-round, round-commands, rounded-few}
@@ -111,7 +111,7 @@ pub record Standing (m : Drive) (was w : State) : Type 0 where
   pub runs : onwards m was w ≡ runFrom m was
   pub few : w .sweep .commands ≤ 65536
   pub allocation : w .sweep .allocation ≡ was .sweep .allocation
-  pub kept : Kept was w
+  pub kept : SameLengths was w
 
 pub standing-start : {m : Drive} {was : State} → was .sweep .commands ≡ 0 → Standing m was was
 standing-start {m} {was} e = record {
@@ -125,7 +125,7 @@ standing-start {m} {was} e = record {
 pub standing-room : {m : Drive} {was w : State} → Standing m was w → most (was .sweep .allocation) ≤ length (was .response) → most (w .sweep .allocation) ≤ length (w .response)
 standing-room at h = rw (at .allocation, at .kept .response) h
 
-kept-then : {u v w : State} → Kept u v → Kept v w → Kept u w
+kept-then : {u v w : State} → SameLengths u v → SameLengths v w → SameLengths u w
 kept-then a b = record {
   response = b .response ∙ a .response;
   collected = b .collected ∙ a .collected;
@@ -140,7 +140,7 @@ module _ {m : Drive} {was w v : State} {r : Refusal} (at : Standing m was w) (te
   goes : w .sweep .ended ≡ false
   goes = not-true (w .sweep .ended) test
 
-  pub standing-kept : Kept was v
+  pub standing-kept : SameLengths was v
   standing-kept = kept-then (at .kept) (did .kept)
 
   -- a refusal ends it
@@ -182,7 +182,7 @@ standing-ended {m} {was} {w} at test = record {
 -- ---- the outcome
 
 -- a refusal, whatever the buffers hold by then
-pub refused-kept : (r : Refusal) {was w : State} → Kept was w → cleared r (w .response) (w .collected) (w .starts) ≡ failing was r
+pub refused-kept : (r : Refusal) {was w : State} → SameLengths was w → cleared r (w .response) (w .collected) (w .starts) ≡ failing was r
 unfolding cleared failing zeros
 refused-kept r k = rw (k .response, k .collected, k .starts)
 

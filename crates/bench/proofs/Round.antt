@@ -12,7 +12,7 @@ use borrow.Author.Tests.{le-leb, lt-leb, le-ltb, lt-ltb, ne-eqb}
 use Rattle.base.specs.Lists.{flat}
 use Rattle.refusal.specs.First.{refuse, accept, _if_else_, pickZero, _orElse_}
 use Rattle.text.specs.Drive.{Desc, Drive, Sound}
-use Rattle.text.specs.Response.{bytes, selected, full, sent}
+use Rattle.text.specs.Response.{bytes, selected, full, sent, most}
 use Rattle.text.specs.Reading.{Walked, lastNumber}
 use Rattle.text.specs.Packing.{whole, rest, groups}
 use Rattle.refusal.proofs.First.{if-true, if-false}
@@ -21,7 +21,7 @@ use Rattle.text.proofs.Sent.{length-sent}
 use Rattle.text.proofs.Own.{walked-sent, readFault-sent, complete-sent, complete-none, cut-some}
 use Rattle.text.proofs.Next.{next-low}
 use Rattle.sweep.specs.declared.Sweep.{Sweep}
-use Rattle.sweep.specs.Sweep.{most, startRule, openRule, roomRule, takeFault, cut, empty, wholesOf, advanced, after, stepped, collecting}
+use Rattle.sweep.specs.Sweep.{startRule, openRule, roomRule, takeFault, cut, empty, wholesOf, advanced, after, stepped, collecting}
 use Rattle.bench.specs.Bench.{State, state, filled, rounded}
 use Rattle.bench.specs.Swept.{room}
 

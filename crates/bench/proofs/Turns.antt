@@ -12,8 +12,8 @@ use Rattle.text.specs.Drive.{Drive}
 use Rattle.refusal.specs.First.{unless}
 use Rattle.refusal.proofs.First.{if-zero, orElse-zero, unless-none, unless-fault}
 use Rattle.sweep.specs.declared.Sweep.{Sweep}
-use Rattle.sweep.specs.Sweep.{fresh, openRule, takeFault, advanced, after, stepped}
-use Rattle.bench.specs.Bench.{State, Ending, failing, succeeding, reply, roundFault, rounded, rounds, opened, runFrom}
+use Rattle.sweep.specs.Sweep.{openRule, takeFault, advanced, after, stepped}
+use Rattle.bench.specs.Bench.{State, Ending, failing, succeeding, reply, roundFault, rounded, rounds}
 use Rattle.bench.proofs.Run.{run-ended, run-turn}
 
 -- ---- a response that a record takes

@@ -7,11 +7,11 @@ use lib.ListN.{length, set, drop, replicate}
 use Rattle.refusal.specs.declared.Refusal.{Refusal}
 use Rattle.refusal.specs.First.{refuse, accept, _if_else_, _orElse_, unless}
 use Rattle.text.specs.Drive.{Drive}
-use Rattle.text.specs.Response.{sent}
+use Rattle.text.specs.Response.{sent, most}
 use Rattle.sheet.specs.Check.{verdict}
 use Rattle.sheet.specs.Meaning.{meaning}
 use Rattle.sweep.specs.declared.Sweep.{Sweep}
-use Rattle.sweep.specs.Sweep.{most, startRule, fresh, stepped, collecting}
+use Rattle.sweep.specs.Sweep.{startRule, fresh, stepped, collecting}
 use Rattle.bench.specs.declared.Benched.{Benched}
 
 -- where a bench sweep stands: the sweep's record and the three lent buffers

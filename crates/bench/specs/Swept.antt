@@ -9,10 +9,10 @@ use lib.ListN.{length, take, drop}
 use Rattle.base.specs.Lists.{flat, All}
 use Rattle.refusal.specs.First.{refuse, accept}
 use Rattle.text.specs.Drive.{Desc, Drive, Asc}
-use Rattle.text.specs.Response.{bytes, selected, sent}
+use Rattle.text.specs.Response.{bytes, selected, sent, most}
 use Rattle.text.specs.Reading.{wholes, lastNumber}
 use Rattle.text.specs.Packing.{size, total, groups, joined}
-use Rattle.sweep.specs.Sweep.{most, cut}
+use Rattle.sweep.specs.Sweep.{cut}
 use Rattle.bench.specs.Bench.{Ending, filled, failing, opened}
 
 -- C - 8: the room behind the header of a response to allocation length a

@@ -3,8 +3,8 @@ ghost use mathlib.Core.Path.{_≡_};
 ghost use Prim.Native.Nat.{_≤_};
 ghost use lib.ListN.{length};
 ghost use Rattle.sheet.specs.Check.{Accepted};
+ghost use Rattle.text.specs.Response.{most};
 ghost use Rattle.sheet.specs.Meaning.{meaning};
-ghost use Rattle.sweep.specs.Sweep.{most};
 ghost use Rattle.bench.specs.Bench.{state, ending, benched};
 ghost use Rattle.bench.specs.inner.Loop.{openFault, cleared, Rounded, Ran};
 use refusal::Refusal;
@@ -31,7 +31,7 @@ fn first_fault(s: &[u8], rt: u8, a: u16, space: usize) -> Refusal
     if fault.number != 0 {
         return fault;
     }
-    if space < sweep::most(a) {
+    if space < text::most(a) {
         return refusal::BUFFER_SHORT;
     }
     refusal::ACCEPTED

@@ -6,7 +6,8 @@ use Prim.Native.Nat.{ℕ, _≤_, _<_}
 use lib.ListN.{length}
 use Rattle.text.specs.Drive.{Desc}
 use Rattle.text.specs.Reading.{descAt}
-use Rattle.reading.specs.Places.{descs, nextAt, from}
+use Rattle.reading.specs.Places.{descs, nextAt}
+use Rattle.reading.specs.inner.Between.{from}
 use Rattle.reading.proofs.At.{next-is}
 use Rattle.reading.proofs.Places.{left-here, left-next, left-end}
 use Rattle.reading.proofs.Completed.{descs-from}

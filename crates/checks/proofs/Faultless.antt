@@ -25,7 +25,7 @@ use Rattle.checks.specs.Legal.{rowOf}
 use Rattle.checks.specs.Rules.{byteOf, flagsFault, wrongLength, flagsShort, flagsBarred, rowRule, reservedRule, reservedAt, cueRule, profileAt, profilesFault, bodyFault, descFault}
 use Rattle.reading.specs.Places.{descs}
 use Rattle.checks.specs.Reported.{reported}
-use Rattle.checks.specs.Check.{finding, firstFault, checkedAll, checked}
+use Rattle.checks.specs.Check.{finding, firstFinding, checkedAll, checked}
 use Rattle.checks.specs.Faultless.{Fits, Faultless, Passes}
 use Rattle.checks.proofs.Bools.{not-yes, not-no, and-false, false-and, and-true, true-and, or-false, false-or}
 use Rattle.checks.proofs.Calls.{if-yes, if-no}
@@ -176,20 +176,20 @@ module _ (removable : Bool) where
   abbrev faulty : Desc → Bool
   faulty d = not (eqb (descFault removable d .number) 0)
 
-  all-good : (ds : List Desc) → firstFault removable ds .refusal .number ≡ 0 → All (Faultless removable) ds
-  unfolding firstFault
+  all-good : (ds : List Desc) → firstFinding removable ds .refusal .number ≡ 0 → All (Faultless removable) ds
+  unfolding firstFinding
   all-good [] e = tt
   all-good (d ∷ ds) e = go (eqb (descFault removable d .number) 0) refl (all-good ds)
     where
-      go : (t : Bool) → eqb (descFault removable d .number) 0 ≡ t → (firstFault removable ds .refusal .number ≡ 0 → All (Faultless removable) ds)
+      go : (t : Bool) → eqb (descFault removable d .number) 0 ≡ t → (firstFinding removable ds .refusal .number ≡ 0 → All (Faultless removable) ds)
           → All (Faultless removable) (d ∷ ds)
       go true f more =
           (desc-good removable d (eqb-true _ _ f), more (ap (λ (x : Finding). x .refusal .number) (sym (pick-past faulty _ _ d ds (not-no _ f))) ∙ e))
       go false f more =
           absurd (eqb-false _ _ f (ap (λ (x : Finding). x .refusal .number) (sym (pick-here faulty _ _ d ds (not-yes _ f))) ∙ e))
 
-  all-accept : (ds : List Desc) → All (Faultless removable) ds → firstFault removable ds ≡ finding accept 0
-  unfolding firstFault
+  all-accept : (ds : List Desc) → All (Faultless removable) ds → firstFinding removable ds ≡ finding accept 0
+  unfolding firstFinding
   all-accept ds g =
       pick-never faulty _ _ ds (all-map (Faultless removable) (λ d. faulty d ≡ false) (λ d h. not-no _ (eq-eqb _ _ (desc-accept removable d h))) ds g)
 

@@ -23,8 +23,8 @@ unfoldable pub _orNext_ : Finding → Finding → Finding
 a orNext b = elim (a .refusal .number) [ zero ↦ b | suc k ↦ a ]
 
 -- the first descriptor with a fault
-unfoldable pub firstFault : (removable : Bool) → List Desc → Finding
-firstFault removable ds =
+unfoldable pub firstFinding : (removable : Bool) → List Desc → Finding
+firstFinding removable ds =
     pick (λ d. not (eqb (descFault removable d .number) 0)) (λ d. finding (descFault removable d) (d .number)) (finding accept 0) ds
 
 -- 30: feature 0 or 1 missing. Then each descriptor in order
@@ -32,7 +32,7 @@ unfoldable pub checkedAll : List Desc → Finding
 checkedAll ds =
     finding (refuse 30 if not (reported 0 ds) else accept) 0 orNext
     finding (refuse 30 if not (reported 1 ds) else accept) 1 orNext
-    firstFault (reported 3 ds) ds
+    firstFinding (reported 3 ds) ds
 
 unfoldable pub checked : List ℕ → Finding
 checked s = finding (completeFault s) 0 orNext checkedAll (descs s)

@@ -9,24 +9,24 @@ use Rattle.checks.specs.declared.legal.Row.{Row}
 use Rattle.checks.specs.Pick.{pick}
 
 -- bit k of a byte; bits h to l; all and none
-abbrev pub bit : ℕ → ℕ
-bit k = 2 ^ k
+abbrev pub bitAt : ℕ → ℕ
+bitAt k = 2 ^ k
 
 abbrev pub bits : ℕ → ℕ → ℕ
 bits h l = 2 ^ suc h - 2 ^ l
 
-abbrev pub all : ℕ
-all = bits 7 0
+abbrev pub anyBits : ℕ
+anyBits = bits 7 0
 
-abbrev pub none : ℕ
-none = 0
+abbrev pub noBits : ℕ
+noBits = 0
 
 -- the masks of twelve bytes by place; of a body of four bytes; of a list of four-byte records
 abbrev pub twelve : (a b c d e f g h i j k l : ℕ) → List ℕ
 twelve a b c d e f g h i j k l = a ∷ b ∷ c ∷ d ∷ e ∷ f ∷ g ∷ h ∷ i ∷ j ∷ k ∷ l ∷ []
 
 abbrev pub four : (a b c d : ℕ) → List ℕ
-four a b c d = twelve a b c d none none none none none none none none
+four a b c d = twelve a b c d noBits noBits noBits noBits noBits noBits noBits noBits
 
 abbrev pub fours : (a b c d : ℕ) → List ℕ
 fours a b c d = twelve a b c d a b c d a b c d
@@ -44,21 +44,21 @@ row f l m b = record { feature = record { 0 = f }; length = l; masks = m; barred
 -- whether Persistent is barred where 0003h is reported
 unfoldable pub legal : List Row
 legal =
-    row 0x0000 Any (fours all all (bit 0) none) free ∷
-    row 0x0001 (Exactly 4) (four all all all all) free ∷
-    row 0x0002 (Exactly 4) (four (bit 0) none none none) free ∷
-    row 0x0003 (Exactly 4) (four (bits 7 5 + bits 3 2 + bit 0) none none none) free ∷
-    row 0x001F (Exactly 0) (four none none none none) barred ∷
-    row 0x0020 (Exactly 4) (four all all all all) barred ∷
-    row 0x0021 Counted (four none none none all) barred ∷
-    row 0x0026 (Exactly 4) (four all all all all) barred ∷
-    row 0x002D (Exactly 4) (four (bits 2 0) none none none) barred ∷
-    row 0x002E (Exactly 4) (four (bits 5 0) all all all) barred ∷
-    row 0x002F (Exactly 4) (four (bit 2) none none none) barred ∷ []
+    row 0x0000 Any (fours anyBits anyBits (bitAt 0) noBits) free ∷
+    row 0x0001 (Exactly 4) (four anyBits anyBits anyBits anyBits) free ∷
+    row 0x0002 (Exactly 4) (four (bitAt 0) noBits noBits noBits) free ∷
+    row 0x0003 (Exactly 4) (four (bits 7 5 + bits 3 2 + bitAt 0) noBits noBits noBits) free ∷
+    row 0x001F (Exactly 0) (four noBits noBits noBits noBits) barred ∷
+    row 0x0020 (Exactly 4) (four anyBits anyBits anyBits anyBits) barred ∷
+    row 0x0021 Counted (four noBits noBits noBits anyBits) barred ∷
+    row 0x0026 (Exactly 4) (four anyBits anyBits anyBits anyBits) barred ∷
+    row 0x002D (Exactly 4) (four (bits 2 0) noBits noBits noBits) barred ∷
+    row 0x002E (Exactly 4) (four (bits 5 0) anyBits anyBits anyBits) barred ∷
+    row 0x002F (Exactly 4) (four (bitAt 2) noBits noBits noBits) barred ∷ []
 
 -- any other feature: any length, any bits
 unfoldable pub other : Row
-other = row 0xFFFF Any (fours all all all all) free
+other = row 0xFFFF Any (fours anyBits anyBits anyBits anyBits) free
 
 -- the row of a feature
 unfoldable pub rowOf : ℕ → Row

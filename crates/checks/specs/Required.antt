@@ -8,7 +8,7 @@ use lib.ListN.{length, getD}
 use Rattle.text.specs.Drive.{Desc}
 use Rattle.checks.specs.declared.required.Need.{Need}
 use Rattle.checks.specs.Pick.{some}
-use Rattle.checks.specs.Legal.{bit}
+use Rattle.checks.specs.Legal.{bitAt}
 
 -- a profile needs a feature; and it needs one with a length of at least so many, and these bits set in this byte, counted from the descriptor's
 -- start
@@ -27,7 +27,7 @@ required =
     line 0x0012 0x0001 ∷
     line 0x0012 0x0002 ∷
     line 0x0012 0x0003 ∷
-    lineWith 0x0012 0x0010 8 10 (bit 0) ∷
+    lineWith 0x0012 0x0010 8 10 (bitAt 0) ∷
     line 0x0012 0x001F ∷
     line 0x0012 0x0020 ∷
     line 0x0012 0x0023 ∷

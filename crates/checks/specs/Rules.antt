@@ -8,12 +8,12 @@ use lib.ListN.{length, getD}
 use Rattle.fields.specs.Field.{field}
 use Rattle.refusal.specs.declared.Refusal.{Refusal}
 use Rattle.refusal.specs.First.{refuse, accept, _if_else_, _orElse_, firstOf}
-use Rattle.text.specs.Flags.{persistent, current, flagsRule}
+use Rattle.text.specs.Flags.{persistent, current, flagsGiving}
 use Rattle.text.specs.Drive.{Desc}
 use Rattle.checks.specs.declared.legal.Length.{Length}
 use Rattle.checks.specs.declared.legal.Length.the-variants.{Any, Exactly, Counted}
 use Rattle.checks.specs.declared.legal.Row.{Row}
-use Rattle.checks.specs.Legal.{all, none, rowOf}
+use Rattle.checks.specs.Legal.{anyBits, noBits, rowOf}
 
 -- byte k of a descriptor with this body, counted from the descriptor's start: byte 4 is the body's first
 abbrev pub byteOf : List ℕ → ℕ → ℕ
@@ -21,7 +21,7 @@ byteOf body k = getD body (k - 4) 0
 
 -- 33: reserved flags or Version not 0. 34: Persistent without Current
 unfoldable pub flagsFault : (flags : ℕ) → Refusal
-flagsFault flags = flagsRule (refuse 33) (refuse 33) (refuse 34) flags
+flagsFault flags = flagsGiving (refuse 33) (refuse 33) (refuse 34) flags
 
 -- a body of len bytes is not as long as the row says; n is byte 7
 unfoldable pub wrongLength : Length → (n len : ℕ) → Bool
@@ -47,9 +47,9 @@ rowRule row removable number flags n len =
 
 -- the bits of body byte k that may be 1; n is byte 7
 unfoldable pub maskAt : Length → (masks : List ℕ) (n k : ℕ) → ℕ
-maskAt Any masks n k = getD masks (k % 12) none
-maskAt (Exactly l) masks n k = getD masks (k % 12) none
-maskAt Counted masks n k = elim (ltb k 4) [ true ↦ getD masks k none | false ↦ elim (ltb k (4 + n)) [ true ↦ all | false ↦ none ] ]
+maskAt Any masks n k = getD masks (k % 12) noBits
+maskAt (Exactly l) masks n k = getD masks (k % 12) noBits
+maskAt Counted masks n k = elim (ltb k 4) [ true ↦ getD masks k noBits | false ↦ elim (ltb k (4 + n)) [ true ↦ anyBits | false ↦ noBits ] ]
 
 -- 36: a reserved body bit or pad byte not 0
 unfoldable pub reservedRule : (byte mask : ℕ) → Refusal

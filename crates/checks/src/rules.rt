@@ -8,7 +8,7 @@ ghost use Rattle.text.specs.Reading.{descAt};
 ghost use Rattle.checks.specs.Rules.{flagsFault, wrongLength, flagsShort, flagsBarred, rowRule, maskAt, reservedRule, reservedAt, cueRule, profileAt, profilesFault, bodyFault, descFault};
 ghost use Rattle.reading.specs.Places.{descs};
 ghost use Rattle.reading.specs.Completed.{completeFault};
-ghost use Rattle.checks.specs.Check.{firstFault};
+ghost use Rattle.checks.specs.Check.{firstFinding};
 use super::Finding;
 use super::legal;
 use super::legal::Length;
@@ -247,7 +247,7 @@ fn fault_at(removable: bool, s: &[u8], at: usize) -> Refusal
 // Asks: a response that is accepted and complete, which the reading's numbers and 29 have shown before.
 pub fn first_fault(removable: bool, s: &[u8]) -> Finding
     requires { ⌜ completeFault (now s) .number ≡ 0 ⌝ }
-    ensures { λ r. ⌜ r ≡ firstFault removable (descs (now (s .entry))) ⌝ }
+    ensures { λ r. ⌜ r ≡ firstFinding removable (descs (now (s .entry))) ⌝ }
 {
     let mut at = 8;
     while at < s.len() {

@@ -16,10 +16,10 @@ use Rattle.fields.specs.Field.{field, spell}
 use Rattle.fields.proofs.Laws.{field-here}
 use Rattle.refusal.specs.declared.Refusal.{Refusal}
 use Rattle.refusal.specs.First.{refuse, accept, _if_else_, pickZero, _orElse_, firstOf}
-use Rattle.text.specs.Flags.{flagsRule}
+use Rattle.text.specs.Flags.{flagsGiving}
 use Rattle.text.specs.Drive.{Desc, Listed, Drive, Sound, bit, profileBytes}
 use Rattle.text.specs.Response.{feature0, all, selected, full, sent}
-use Rattle.refusal.proofs.First.{orElse-none, orElse-fault, if-zero, first-accept}
+use Rattle.refusal.proofs.First.{orElse-none, orElse-fault, first-accept}
 use Rattle.text.proofs.FlagsRule.{flags-good, flags-accept}
 use Rattle.text.proofs.Profiles.{length-profiles}
 use Rattle.text.proofs.Selection.{asc-above, all-asc, from-all}
@@ -40,7 +40,7 @@ use Rattle.checks.specs.Rules.{byteOf, flagsFault, rowRule, reservedRule, reser
 use Rattle.reading.specs.Places.{descs}
 use Rattle.reading.specs.Completed.{completeFault}
 use Rattle.checks.specs.Reported.{reported}
-use Rattle.checks.specs.Check.{finding, _orNext_, firstFault, checkedAll, checked}
+use Rattle.checks.specs.Check.{finding, _orNext_, firstFinding, checkedAll, checked}
 use Rattle.checks.specs.Faultless.{Passes}
 use Rattle.checks.specs.Required.{required, lacks}
 use Rattle.checks.specs.Judge.{Said, says, judged}
@@ -126,7 +126,7 @@ module _ (removable : Bool) (d : Desc) (o : Own d) where
       (rw (o .numbered) none))))
 
 all-of : (ds : List Desc) → All Own ds → Findings (checkedAll ds .refusal .number)
-unfolding checkedAll firstFault
+unfolding checkedAll firstFinding
 all-of ds a =
     let core : (f : ℕ) → Findings ((refuse 30 if not (reported f ds) else accept) .number) = λ f. if-of _ _ _ (inr (inl refl)) none in
     next-of _ _ (core 0)
@@ -175,7 +175,7 @@ module _ (ps : List Listed) (above : All (λ (p : Listed). 0 < p .number) ps) (l
       rw (field-here (flat profileBytes ps) (4 * i) 2 (p .number) ((bit (p .on) ∷ 0 ∷ []) ++ x) e v) u
 
   zero-own : Own (feature0 ps)
-  unfolding feature0 profilesFault profileAt flagsFault flagsRule _if_else_ pickZero _orElse_
+  unfolding feature0 profilesFault profileAt flagsFault flagsGiving _if_else_ pickZero _orElse_
   zero-own = record {
     flagged = refl;
     numbered =

@@ -60,7 +60,7 @@ use Rattle.reading.proofs.scan as scan
 use Rattle.reading.proofs.read as read
 use Rattle.reading.proofs.complete as complete
 use Rattle.reading.proofs.held as held
-use Rattle.sweep.proofs.most as most
+use Rattle.text.proofs.most as most
 use Rattle.listing.proofs.list as list
 use Rattle.bench.specs.Bench as bench-specs
 use Rattle.bench.proofs.bench as bench

@@ -1,7 +1,7 @@
 -- Two calls, one after the other, over the functions' own contracts: what `respond` leaves in the buffer is read by `read`; the sheet that `import` leaves
 -- is answered from by `respond`; and `gcf_respond` leaves what `respond` leaves. Assumes nothing.
 use mathlib.Core.Path.{_≡_, refl, sym, ap, _∙_}
-use mathlib.Core.List.{List, _++_}
+use mathlib.Core.List.{List}
 use Prim.Native.Nat.{ℕ, zero, suc, _≤_}
 use native.Mathlib.Decide.{decLe}
 use native.Mathlib.Omega.{arith}
@@ -15,7 +15,6 @@ use denote.Triple.Entry.{Args}
 use Rattle.base.specs.Lists.{Bytes}
 use Rattle.base.proofs.Decided.{Call, Outcome, allowed}
 use Rattle.text.specs.declared.Reading.{Reading}
-use Rattle.refusal.specs.First.{accept}
 use Rattle.text.specs.Command.{rtOf, sfnOf, allocationOf, commandFault}
 use Rattle.refusal.proofs.First.{if-zero}
 use Rattle.sheet.specs.Check.{verdict, Accepted}

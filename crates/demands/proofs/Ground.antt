@@ -10,9 +10,9 @@ use Rattle.fields.specs.Part.{PartOf}
 use Rattle.refusal.specs.First.{accept}
 use Rattle.lent.specs.Wrote.{Wrote}
 use Rattle.text.specs.Flags as text
-use Rattle.text.specs.Command.{commandFault, commandOf, headerOf}
-use Rattle.text.specs.Response.{currentProfile}
-use Rattle.profiles.specs.Profiles.{profilesOf, profilesFault}
+use Rattle.text.specs.Command.{commandFault, commandOf}
+use Rattle.text.specs.Response.{currentProfile, headerOf}
+use Rattle.profiles.specs.Profiles.{profilesOf, recordsFault}
 use Rattle.text.specs.Reading.{numberAt, flagsAt, lengthAt, descAt}
 use Rattle.reading.specs.Places.{nextAt}
 use Rattle.reading.specs.Completed.{completed}
@@ -122,7 +122,7 @@ flags-persistent-tied x = promises (x .𝓤) (λ o e. e)
 pub flags-current-tied : Promised flags-current.ended (λ M. flags-current.clauses) (λ M. flags-current.spec) (λ x o. o .0 ≡ eqb (text.current (x .args .0 .0)) 1)
 flags-current-tied x = promises (x .𝓤) (λ o e. e)
 
-pub flags-fault-tied : Promised flags-fault.ended (λ M. flags-fault.clauses) (λ M. flags-fault.spec) (λ x o. o .0 ≡ text.flagsRule (x .args .1 .0) (x .args .1 .1 .0) (x .args .1 .1 .1 .0) (x .args .0 .0))
+pub flags-fault-tied : Promised flags-fault.ended (λ M. flags-fault.clauses) (λ M. flags-fault.spec) (λ x o. o .0 ≡ text.flagsGiving (x .args .1 .0) (x .args .1 .1 .0) (x .args .1 .1 .1 .0) (x .args .0 .0))
 flags-fault-tied x = promises (x .𝓤) (λ o e. e)
 
 pub command-fault-tied : Promised command-fault.ended (λ M. command-fault.clauses) (λ M. command-fault.spec) (λ x o. o .0 ≡ commandFault (x .args .0 .now))
@@ -136,7 +136,7 @@ header-new-tied x = promises (x .𝓤) (λ o e. e)
 
 -- ---- profiles
 
-pub profiles-fault-tied : Promised profiles-fault.ended (λ M. profiles-fault.clauses) (λ M. profiles-fault.spec) (λ x o. o .0 ≡ profilesFault (x .args .0 .now))
+pub profiles-fault-tied : Promised profiles-fault.ended (λ M. profiles-fault.clauses) (λ M. profiles-fault.spec) (λ x o. o .0 ≡ recordsFault (x .args .0 .now))
 profiles-fault-tied x = promises (x .𝓤) (λ o e. e)
 
 pub profiles-current-tied : Promised profiles-current.ended (λ M. profiles-current.clauses) (λ M. profiles-current.spec) (λ x o. o .0 .0 ≡ currentProfile (profilesOf (x .args .0 .now)))

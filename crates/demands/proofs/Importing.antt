@@ -4,7 +4,7 @@
 -- `sheetFrom r` is the sheet that it makes of the response r. Assumes nothing.
 use mathlib.Core.Path.{_≡_, refl, ap, _∙_}
 use mathlib.Core.Bool.{Bool, true, false, _||_}
-use mathlib.Core.List.{List, [], _∷_, _++_}
+use mathlib.Core.List.{List, [], _∷_}
 use Prim.Native.Nat.{ℕ, _≤_, _<_}
 use native.Mathlib.Omega.{arith}
 use lib.Dec.{eqb}
@@ -21,7 +21,7 @@ use Rattle.text.specs.Reading as text
 use Rattle.text.proofs.Sent.{sent-whole}
 use Rattle.layout.specs.Layout as layout
 use Rattle.profiles.specs.Profiles as profiles
-use Rattle.sheet.specs.Check.{flagsRule, verdict, Accepted}
+use Rattle.sheet.specs.Check.{flagsRule, Accepted}
 use Rattle.sheet.specs.Meaning.{desc, meaning, contents, sheetOf}
 use Rattle.sheet.proofs.Meaning.{meaning-fine}
 use Rattle.sheet.proofs.Build.{sheet-back}
@@ -203,17 +203,13 @@ pub each-number :
     × (number (0 ∷ 0 ∷ 0 ∷ 12 ∷ 0 ∷ 0 ∷ 0 ∷ 0 ∷ 0 ∷ 0 ∷ 3 ∷ 0 ∷ 0 ∷ 1 ∷ 2 ∷ 0 ∷ []) [] ≡ 5)
     × (number (0 ∷ 0 ∷ 0 ∷ 8 ∷ 0 ∷ 0 ∷ 0 ∷ 0 ∷ 0 ∷ 0 ∷ 3 ∷ 0 ∷ []) (0 ∷ 0 ∷ 0 ∷ []) ≡ 42)
     × (number (0 ∷ 0 ∷ 0 ∷ 8 ∷ 0 ∷ 0 ∷ 0 ∷ 0 ∷ 0 ∷ 0 ∷ 3 ∷ 0 ∷ []) (0 ∷ 0 ∷ 0 ∷ 0 ∷ []) ≡ 0)
-unfolding each flat field spell _if_else_ pickZero _orElse_ firstOf profileBytes currentProfile text.statedLength text.statedProfile text.headerRule text.headRule text.numberAt text.flagsAt text.lengthAt text.descAt text.headFault text.walk text.walked text.readFault text.wholes profiles.number profiles.current profiles.last profiles.listed profiles.profilesOf profiles.lists profiles.recordRule profiles.recordFault profiles.profilesFault flagsRule flags.flagsRule layout.entryBytes contents sheetOf import.captured import.ownRule import.flagsFault import.sheetRule completed.completeFault import.captureFault import.sheetFrom unless refusing making makes import.imported
+unfolding each flat field spell _if_else_ pickZero _orElse_ firstOf profileBytes currentProfile text.statedLength text.statedProfile text.headerRule text.headRule text.numberAt text.flagsAt text.lengthAt text.descAt text.headFault text.walk text.walked text.readFault text.wholes profiles.profileNumber profiles.profileCurrent profiles.profileLast profiles.listed profiles.profilesOf profiles.lists profiles.recordRule profiles.recordFault profiles.recordsFault flagsRule flags.flagsGiving layout.entryBytes contents sheetOf import.captured import.ownRule import.flagsFaults import.sheetRule completed.completeFault import.captureFault import.sheetFrom unless refusing making makes import.imported
 each-number = (refl, refl, refl, refl, refl, refl, refl, refl, refl, refl, refl, refl)
-
--- The sheet's check gives an imported sheet no number.
-pub verdict-imported : (r : List ℕ) → Bytes r → captureFault r .number ≡ 0 → verdict (sheetFrom r) ≡ accept
-verdict-imported r b e = ap refuse (imported-accepted r b e)
 
 -- ---- the premises can be met: the full response of sheet E, 44 bytes, and a buffer of 52
 
 fitsE : length (full 0 0 (meaning sheetE)) ≡ 44
-unfolding each flat keep field spell profileBytes bytes feature0 all wants selected currentProfile header dataLength full layout.featureCount layout.profileCount layout.number layout.flags layout.bodyLength layout.offset layout.profilesPart profiles.number profiles.current profiles.listed profiles.profilesOf desc meaning sheetE
+unfolding each flat keep field spell profileBytes bytes feature0 all wants selected currentProfile header dataLength full layout.featureCount layout.profileCount layout.number layout.flags layout.bodyLength layout.offset layout.profilesPart profiles.profileNumber profiles.profileCurrent profiles.listed profiles.profilesOf desc meaning sheetE
 fitsE = refl
 
 pub importedE : imported (full 0 0 (meaning sheetE)) (replicate 52 0) ≡ outcome (written 52) sheetE

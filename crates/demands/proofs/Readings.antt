@@ -11,7 +11,7 @@ use Rattle.text.specs.declared.Reading.{Reading}
 use Rattle.refusal.specs.First.{accept}
 use Rattle.text.specs.Drive.{Desc, Drive, Sound}
 use Rattle.text.specs.Response.{bytes, selected, currentProfile, dataLength, full, sent}
-use Rattle.text.specs.Reading.{readFault, refused, taken, reading, wholes, lastNumber}
+use Rattle.text.specs.Reading.{readFault, nothingRead, taken, reading, wholes, lastNumber}
 use Rattle.text.specs.Packing.{whole}
 use Rattle.text.proofs.Sent.{bytes-sent}
 use Rattle.text.proofs.Own.{wholes-sent, reading-sent}
@@ -45,14 +45,14 @@ pub record ReadBack (m : Drive) (limit rt sfn a : ℕ) (s : List ℕ) (r : Readi
 -- Of a reading r of the bytes s as the answer to RT rt from sfn, where more than limit bytes are refused (65,534, or C in a sweep): it is what the text
 -- makes of them, and of our own response it gives back what was sent.
 pub record Reads (limit rt sfn : ℕ) (s : List ℕ) (r : Reading) : Type 0 where
-  pub refuses : (readFault limit rt sfn s .number ≡ 0 → ⊥) → r ≡ refused (readFault limit rt sfn s)
+  pub refuses : (readFault limit rt sfn s .number ≡ 0 → ⊥) → r ≡ nothingRead (readFault limit rt sfn s)
   pub accepts : readFault limit rt sfn s .number ≡ 0 → r ≡ taken s (wholes limit rt sfn s)
   pub own : (t : List ℕ) (a : ℕ) → Bytes t → Accepted t → rt ≤ 2 → 8 ≤ a → min a 65534 ≤ limit → s ≡ sent rt sfn a (meaning t)
       → ReadBack (meaning t) limit rt sfn a s r
 
 pub reads : (limit rt sfn : ℕ) (s : List ℕ) → Reads limit rt sfn s (reading limit rt sfn s)
 reads limit rt sfn s = record {
-  refuses = reading-cases limit rt sfn s (λ r ds. (readFault limit rt sfn s .number ≡ 0 → ⊥) → r ≡ refused (readFault limit rt sfn s)) (λ k h. refl) (λ k h. absurd (h k));
+  refuses = reading-cases limit rt sfn s (λ r ds. (readFault limit rt sfn s .number ≡ 0 → ⊥) → r ≡ nothingRead (readFault limit rt sfn s)) (λ k h. refl) (λ k h. absurd (h k));
   accepts = reading-cases limit rt sfn s (λ r ds. readFault limit rt sfn s .number ≡ 0 → r ≡ taken s ds) (λ k h. absurd (k h)) (λ k h. refl);
   own = λ t a b ok two eight room e.
       let good : Sound (meaning t) = meaning-fine t b ok .sound in

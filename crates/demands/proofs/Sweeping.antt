@@ -66,11 +66,11 @@ unfolding sheetE low
 bytesE = bytes-low sheetE refl
 
 pub acceptedE : Accepted sheetE
-unfolding each field _if_else_ pickZero _orElse_ firstOf layout.featureCount layout.profileCount layout.number layout.flags layout.bodyLength layout.offset layout.profilesPart profiles.number profiles.current profiles.last profiles.lists profiles.recordRule profiles.recordFault profiles.profilesFault numberBefore endBefore flagsRule flags.flagsRule entryRule entryFault counted verdict sheetE
+unfolding each field _if_else_ pickZero _orElse_ firstOf layout.featureCount layout.profileCount layout.number layout.flags layout.bodyLength layout.offset layout.profilesPart profiles.profileNumber profiles.profileCurrent profiles.profileLast profiles.lists profiles.recordRule profiles.recordFault profiles.recordsFault numberBefore endBefore flagsRule flags.flagsGiving entryRule entryFault counted verdict sheetE
 acceptedE = refl
 
 premisesE : Premises (meaning sheetE) 0 20 (replicate 20 0) (replicate 36 0) (replicate 4 0)
-unfolding each flat keep field spell profileBytes feature0 all wants selected total whole rest groups layout.featureCount layout.profileCount layout.number layout.flags layout.bodyLength layout.offset layout.profilesPart profiles.number profiles.current profiles.listed profiles.profilesOf desc meaning sheetE
+unfolding each flat keep field spell profileBytes feature0 all wants selected total whole rest groups layout.featureCount layout.profileCount layout.number layout.flags layout.bodyLength layout.offset layout.profilesPart profiles.profileNumber profiles.profileCurrent profiles.listed profiles.profilesOf desc meaning sheetE
 premisesE = record {
   kind = omega arith;
   eight = omega arith;

@@ -14,7 +14,7 @@ use Rattle.responder.proofs.respond as respond
 use Rattle.reading.proofs.scan as scan
 use Rattle.reading.proofs.read as read
 use Rattle.reading.proofs.held as held
-use Rattle.sweep.proofs.most as most
+use Rattle.text.proofs.most as most
 use Rattle.sweep.proofs.Sweep.start as sweep-start
 use Rattle.sweep.proofs.Sweep.take as sweep-take
 use Rattle.sweep.proofs.take_response as take-response

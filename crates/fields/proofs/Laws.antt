@@ -17,12 +17,6 @@ pow-pos (suc w) = rw pow-suc (omega (arith, pow-pos w))
 
 -- ---- a field of a slice
 
--- behind the end every field is 0
-pub field-behind : (w : ℕ) (s : List ℕ) (at : ℕ) → length s ≤ at → field w s at ≡ 0
-unfolding field
-field-behind zero s at h = refl
-field-behind (suc w) s at h = omega (arith, field-behind w s at h, List·getD-eq-default s 0 {n = at + w} (omega arith))
-
 pub field-one : (s : List ℕ) (at : ℕ) → field 1 s at ≡ getD s at 0
 unfolding field
 field-one s at = rw add-zero (omega arith)

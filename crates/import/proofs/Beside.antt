@@ -13,12 +13,13 @@ use Rattle.lent.proofs.Sets.{sets-append}
 use Rattle.lent.proofs.Laws.{then, kept}
 use Rattle.text.specs.Drive.{Desc}
 use Rattle.text.specs.Reading.{descAt}
-use Rattle.reading.specs.Places.{nextAt, from}
+use Rattle.reading.specs.Places.{nextAt}
+use Rattle.reading.specs.inner.Between.{from}
 use Rattle.reading.proofs.Places.{from-step, from-end}
 use Rattle.sheet.specs.Meaning.{contents}
 use Rattle.sheet.specs.Meaning as sheet
 use Rattle.sheet.proofs.Pieces.{length-entry, length-contents}
-use Rattle.import.specs.Pieces.{behind, bodies, Fits, Filled, sheetBytes, Whole}
+use Rattle.import.specs.inner.Pieces.{behind, bodies, HasSpace, Filled, sheetBytes, Whole}
 
 -- ---- stores that do not meet
 
@@ -52,11 +53,11 @@ contents-step at d ds = refl
 -- ---- the loop: what the buffer holds in the end, told by what it holds now
 
 pub record Passed (s : List ℕ) (r : ℕ) (f : List ℕ) (entry next place : ℕ) (d : List ℕ) : Type 0 where
-  pub fits : Fits s entry next place d
+  pub fits : HasSpace s entry next place d
   pub filled : Filled s entry next place d r f
 
 module _ {s : List ℕ} {entry next place : ℕ} {d : List ℕ} where
-  pub passed-start : Fits s entry next place d
+  pub passed-start : HasSpace s entry next place d
       → Passed s (next + length (bodies (from s place))) (sets (sets d entry (contents next (from s place))) next (bodies (from s place))) entry next place d
   passed-start h = record { fits = h; filled = record { next = refl; holds = refl } }
 
@@ -118,7 +119,7 @@ module _ {s : List ℕ} {n : ℕ} {d : List ℕ} (w : Whole s n d) where
     body-at : body ≡ 4 + 8 * n + length b
     body-at = omega (arith, v₃ .next, kept v₁, kept v₂, sizes, w .room)
 
-    pub whole-fits : {first : ℕ} → first ≡ nextAt s 8 → Fits s entries body first d₃
+    pub whole-fits : {first : ℕ} → first ≡ nextAt s 8 → HasSpace s entries body first d₃
     whole-fits {first} f = record {
       apart = rw f (omega (arith, entries-at, body-at, w .count));
       room = rw f (omega (arith, body-at, sizes, w .room, kept v₁, kept v₂, kept v₃));

@@ -1,8 +1,7 @@
 -- What an accepted capture gives: the drive that it describes, and its own bytes again. Assumes nothing.
 use mathlib.Core.Path.{_≡_, refl, sym, ap, ap₂, _∙_}
 use mathlib.Core.List.{List, [], _∷_}
-use Prim.Native.Nat.{ℕ, zero, suc, _+_, _*_, _/_, _%_, _≤_, _<_}
-use native.Mathlib.Nat.{zero-add, add-assoc, div-add-mod}
+use Prim.Native.Nat.{ℕ, _+_, _≤_}
 use native.Mathlib.Omega.{arith}
 use lib.ListN.{length, take, drop, length-drop, take-append-drop}
 use lib.Seq.{take-all}
@@ -13,22 +12,22 @@ use Rattle.fields.specs.Field.{field, spell}
 use Rattle.fields.proofs.Laws.{spell-field}
 use Rattle.text.specs.Drive.{Desc, Good, Asc, profileBytes}
 use Rattle.text.specs.Response.{bytes, feature0, selected, currentProfile, header, dataLength, full}
-use Rattle.text.specs.Reading.{statedLength, statedProfile, statedEnd, walked, readFault, wholes}
-use Rattle.refusal.proofs.First.{if-zero, orElse-zero, first-all}
+use Rattle.text.specs.Reading.{statedLength, statedProfile, statedEnd, walked, readFault}
+use Rattle.refusal.proofs.First.{if-zero, orElse-zero}
 use Rattle.text.proofs.Selection.{asc-above, asc-down, from-all, selected-zero}
 use Rattle.text.proofs.Walk.{readFault-header, wholes-accepted}
 use Rattle.text.proofs.Again.{walked-again, walked-good, walked-asc}
 use Rattle.reading.specs.Places.{descs}
 use Rattle.reading.specs.Completed.{completeFault}
 use Rattle.reading.proofs.Places.{wholes-end}
-use Rattle.profiles.specs.Profiles.{profilesOf, profilesFault}
+use Rattle.profiles.specs.Profiles.{profilesOf, recordsFault}
 use Rattle.profiles.proofs.Kept.{fault-kept, length-profilesOf, low-of, kept-distinct}
 use Rattle.profiles.proofs.Again.{profiles-back}
 use Rattle.sheet.specs.Check.{flagsRule, Accepted}
 use Rattle.sheet.specs.Meaning.{meaning, Fine}
 use Rattle.reading.proofs.Completed.{complete-zero}
 use Rattle.sheet.proofs.Build.{sheet-accepted, sheet-means, sheet-bytes}
-use Rattle.import.specs.Import.{captured, ownRule, flagsFault, sheetRule, captureFault, sheetFrom}
+use Rattle.import.specs.Import.{captured, ownRule, flagsFaults, sheetRule, captureFault, sheetFrom}
 
 -- ---- an accepted capture
 
@@ -41,8 +40,8 @@ pub record Capture (r : List ℕ) (first : Desc) (others : List Desc) : Type 0 w
   pub flags : first .flags ≡ 3
   pub spare : field 2 r 4 ≡ 0
   pub current : statedProfile r ≡ currentProfile (profilesOf (first .body))
-  pub profiles : profilesFault (first .body) .number ≡ 0
-  pub legal : flagsFault others .number ≡ 0
+  pub profiles : recordsFault (first .body) .number ≡ 0
+  pub legal : flagsFaults others .number ≡ 0
 
 pub record Captures (r : List ℕ) : Type 0 where
   pub first : Desc
@@ -89,11 +88,11 @@ pub spell-nought : 0 ∷ 0 ∷ [] ≡ spell 2 0
 unfolding spell
 spell-nought = refl
 
-flags-legal : (ds : List Desc) → flagsFault ds .number ≡ 0 → All (λ (d : Desc). flagsRule (d .flags) .number ≡ 0) ds
-unfolding flagsFault
+flags-legal : (ds : List Desc) → flagsFaults ds .number ≡ 0 → All (λ (d : Desc). flagsRule (d .flags) .number ≡ 0) ds
+unfolding flagsFaults
 flags-legal [] e = tt
 flags-legal (d ∷ ds) e =
-    let x = orElse-zero (flagsRule (d .flags)) (flagsFault ds) e in
+    let x = orElse-zero (flagsRule (d .flags)) (flagsFaults ds) e in
     (x .0, flags-legal ds (x .1))
 
 module _ {r : List ℕ} (bs : Bytes r) {z : Desc} {ds : List Desc} (c : Capture r z ds) where

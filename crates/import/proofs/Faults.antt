@@ -16,15 +16,16 @@ use Rattle.text.specs.Response.{currentProfile}
 use Rattle.text.specs.Reading.{statedProfile, numberAt, flagsAt, descAt}
 use Rattle.refusal.proofs.First.{orElse-none, orElse-fault}
 use Rattle.base.proofs.Compare.{le-or-lt}
-use Rattle.reading.specs.Places.{nextAt, from}
+use Rattle.reading.specs.Places.{nextAt}
+use Rattle.reading.specs.inner.Between.{from}
 use Rattle.reading.proofs.At.{next-is}
-use Rattle.reading.proofs.Places.{from-step, from-end, left-here, left-next, left-end, wholes-from}
-use Rattle.profiles.specs.Profiles.{profilesOf, profilesFault}
+use Rattle.reading.proofs.Places.{from-step, from-end, left-here, left-next, left-end}
+use Rattle.profiles.specs.Profiles.{profilesOf, recordsFault}
 use Rattle.reading.specs.Completed.{completeFault, completed}
 use Rattle.reading.proofs.Completed.{descs-from, complete-fault, complete-none}
 use Rattle.sheet.specs.Check.{flagsRule}
-use Rattle.import.specs.Import.{ownRule, flagsFault, sheetRule, captureFault}
-use Rattle.import.specs.Pieces.{behind}
+use Rattle.import.specs.Import.{ownRule, flagsFaults, sheetRule, captureFault}
+use Rattle.import.specs.inner.Pieces.{behind}
 
 number-is : {r a : Refusal} → r ≡ a → r .number ≡ a .number
 number-is e = ap (λ (x : Refusal). x .number) e
@@ -46,40 +47,40 @@ module _ (s : List ℕ) where
     unfolding ownRule descAt statedProfile
     own-some = ap (ownRule s) (from-step s 8 h)
 
-    sheet-some : sheetRule (from s 8) ≡ profilesFault (descAt s 8 .body) orElse flagsFault (behind s)
+    sheet-some : sheetRule (from s 8) ≡ recordsFault (descAt s 8 .body) orElse flagsFaults (behind s)
     unfolding sheetRule
     sheet-some = ap sheetRule (from-step s 8 h)
 
-    module _ (b : List ℕ) (q : b ≡ descAt s 8 .body) (r : Refusal) (e : r ≡ profilesFault b) where
-      profiles-are : r ≡ profilesFault (descAt s 8 .body)
-      profiles-are = e ∙ ap profilesFault q
+    module _ (b : List ℕ) (q : b ≡ descAt s 8 .body) (r : Refusal) (e : r ≡ recordsFault b) where
+      profiles-are : r ≡ recordsFault (descAt s 8 .body)
+      profiles-are = e ∙ ap recordsFault q
 
       pub sheet-profiles : (r .number ≡ 0 → ⊥) → r ≡ sheetRule (from s 8)
       sheet-profiles k = profiles-are ∙ sym (sheet-some ∙ orElse-fault _ _ (λ z. k (number-is profiles-are ∙ z)))
 
-      pub sheet-flags : r .number ≡ 0 → (f : Refusal) (first : ℕ) → first ≡ nextAt s 8 → f ≡ flagsFault (from s first) → f ≡ sheetRule (from s 8)
+      pub sheet-flags : r .number ≡ 0 → (f : Refusal) (first : ℕ) → first ≡ nextAt s 8 → f ≡ flagsFaults (from s first) → f ≡ sheetRule (from s 8)
       sheet-flags k f first n g =
-          g ∙ ap (λ (x : ℕ). flagsFault (from s x)) n ∙ sym (sheet-some ∙ orElse-none _ _ (sym (number-is profiles-are) ∙ k))
+          g ∙ ap (λ (x : ℕ). flagsFaults (from s x)) n ∙ sym (sheet-some ∙ orElse-none _ _ (sym (number-is profiles-are) ∙ k))
 
 -- ---- the loop over the flags: a return, a further turn, the end
 
-module _ (w : Refusal) (s : List ℕ) (at : ℕ) (e : w ≡ flagsFault (from s at)) where
+module _ (w : Refusal) (s : List ℕ) (at : ℕ) (e : w ≡ flagsFaults (from s at)) where
   module _ (f : ℕ) (p : f ≡ flagsAt s at) (r : Refusal) (q : r ≡ flagsRule f) where
     rule-is : r ≡ flagsRule (descAt s at .flags)
     unfolding descAt
     rule-is = q ∙ ap flagsRule p
 
     pub flags-stop : at < length s → (r .number ≡ 0 → ⊥) → r ≡ w
-    unfolding flagsFault
-    flags-stop h k = left-here flagsFault w s at (length s) e r h (λ ds. orElse-fault _ _ (λ z. k (number-is rule-is ∙ z)) ∙ sym rule-is)
+    unfolding flagsFaults
+    flags-stop h k = left-here flagsFaults w s at (length s) e r h (λ ds. orElse-fault _ _ (λ z. k (number-is rule-is ∙ z)) ∙ sym rule-is)
 
-    pub flags-go : (next : ℕ) → at < length s → r .number ≡ 0 → next ≡ nextAt s at → w ≡ flagsFault (from s next)
-    unfolding flagsFault
-    flags-go next h k n = left-next flagsFault w s at (length s) e next h (next-is s at next h n) (λ ds. orElse-none _ _ (sym (number-is rule-is) ∙ k))
+    pub flags-go : (next : ℕ) → at < length s → r .number ≡ 0 → next ≡ nextAt s at → w ≡ flagsFaults (from s next)
+    unfolding flagsFaults
+    flags-go next h k n = left-next flagsFaults w s at (length s) e next h (next-is s at next h n) (λ ds. orElse-none _ _ (sym (number-is rule-is) ∙ k))
 
   pub flags-none : length s ≤ at → accept ≡ w
-  unfolding flagsFault
-  flags-none h = left-end flagsFault w s at (length s) e h
+  unfolding flagsFaults
+  flags-none h = left-end flagsFaults w s at (length s) e h
 
 -- ---- the reading's numbers, 29, and these
 

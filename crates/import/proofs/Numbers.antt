@@ -13,9 +13,9 @@ use Rattle.text.specs.Drive.{Desc}
 use Rattle.text.specs.Reading.{statedEnd, headerRule, headRule, numberAt, lengthAt, headFault, walk, walked, readFault}
 use Rattle.base.proofs.Compare.{le-or-lt}
 use Rattle.text.proofs.Walk.{walk-few, walk-bad, walk-short, walk-step}
-use Rattle.profiles.specs.Profiles.{recordRule, recordFault, profilesFault}
+use Rattle.profiles.specs.Profiles.{recordRule, recordFault, recordsFault}
 use Rattle.sheet.specs.Check.{flagsRule}
-use Rattle.import.specs.Import.{ownRule, flagsFault, sheetRule, captureFault, sheetFrom, imported}
+use Rattle.import.specs.Import.{ownRule, flagsFaults, sheetRule, captureFault, sheetFrom, imported}
 use Rattle.reading.specs.Places.{descs}
 use Rattle.reading.specs.Completed.{completeFault}
 use Rattle.lent.proofs.Maker.{makes-number}
@@ -82,8 +82,8 @@ module _ (P : ℕ → Type 0) (p0 : P 0) where
   own-is p41 r [] = p41
   own-is p41 r (z ∷ ds) = if-is P 41 _ _ p41 (if-is P 41 _ _ p41 (if-is P 41 _ _ p41 (if-is P 41 _ _ p41 p0)))
 
-  flags-is : P 5 → (ds : List Desc) → P (flagsFault ds .number)
-  unfolding flagsFault flagsRule text.flagsRule
+  flags-is : P 5 → (ds : List Desc) → P (flagsFaults ds .number)
+  unfolding flagsFaults flagsRule text.flagsGiving
   flags-is p5 [] = p0
   flags-is p5 (d ∷ ds) = orElse-is P _ _ (orElse-is P _ _ (if-is P 5 _ _ p5 p0) (orElse-is P _ _ (if-is P 5 _ _ p5 p0) (if-is P 5 _ _ p5 p0))) (flags-is p5 ds)
 
@@ -92,7 +92,7 @@ module _ (P : ℕ → Type 0) (p0 : P 0) where
   record-is p3 b i = if-is P 3 _ _ p3 (if-is P 3 _ _ p3 (if-is P 3 _ _ p3 (if-is P 3 _ _ p3 p0)))
 
   sheet-is : P 3 → P 5 → (ds : List Desc) → P (sheetRule ds .number)
-  unfolding sheetRule profilesFault
+  unfolding sheetRule recordsFault
   sheet-is p3 p5 [] = p0
   sheet-is p3 p5 (z ∷ ds) = orElse-is P _ _ (first-is P _ 0 _ p0 (record-is p3 (z .body))) (flags-is p5 ds)
 

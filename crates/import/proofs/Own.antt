@@ -13,10 +13,9 @@ use Rattle.refusal.specs.declared.Refusal.{Refusal}
 use Rattle.refusal.specs.First.{refuse, accept}
 use Rattle.text.specs.Drive.{Desc, Listed, Drive}
 use Rattle.text.specs.Response.{bytes, feature0, selected, currentProfile, header, dataLength, full, sent}
-use Rattle.text.specs.Reading.{statedProfile, statedEnd, readFault, wholes}
+use Rattle.text.specs.Reading.{statedProfile, statedEnd, readFault}
 use Rattle.reading.specs.Places.{descs}
-use Rattle.refusal.proofs.First.{if-false, orElse-none, first-accept}
-use Rattle.text.proofs.Profiles.{length-profiles}
+use Rattle.refusal.proofs.First.{if-false, orElse-none}
 use Rattle.text.proofs.Selection.{asc-above, asc-down, from-all, selected-zero}
 use Rattle.text.proofs.Sizes.{length-full}
 use Rattle.text.proofs.Sent.{sent-whole}
@@ -26,16 +25,16 @@ use Rattle.profiles.specs.Profiles.{profilesOf}
 use Rattle.profiles.proofs.Again.{profiles-written, written-accept}
 use Rattle.sheet.specs.Check.{flagsRule}
 use Rattle.sheet.specs.Meaning.{Fine, sheetOf}
-use Rattle.import.specs.Import.{captured, ownRule, flagsFault, sheetRule, captureFault, sheetFrom}
+use Rattle.import.specs.Import.{captured, ownRule, flagsFaults, sheetRule, captureFault, sheetFrom}
 use Rattle.import.proofs.Capture.{Capture, spell-nought}
 use Rattle.reading.proofs.Completed.{complete-accept}
 
 -- ---- what is not refused
 
-flags-accept : (ds : List Desc) → All (λ (d : Desc). flagsRule (d .flags) .number ≡ 0) ds → flagsFault ds ≡ accept
-unfolding flagsFault
+flags-accept : (ds : List Desc) → All (λ (d : Desc). flagsRule (d .flags) .number ≡ 0) ds → flagsFaults ds ≡ accept
+unfolding flagsFaults
 flags-accept [] a = refl
-flags-accept (d ∷ ds) a = orElse-none (flagsRule (d .flags)) (flagsFault ds) (a .0) ∙ flags-accept ds (a .1)
+flags-accept (d ∷ ds) a = orElse-none (flagsRule (d .flags)) (flagsFaults ds) (a .0) ∙ flags-accept ds (a .1)
 
 pub capture-accept : {r : List ℕ} {z : Desc} {ds : List Desc} → Capture r z ds → captureFault r ≡ accept
 unfolding captureFault ownRule sheetRule

@@ -15,7 +15,7 @@ use Rattle.text.specs.Response.{bytes}
 use Rattle.text.specs.Reading.{descAt}
 use Rattle.text.proofs.Sizes.{length-bytes}
 use Rattle.text.proofs.Received.{reading-count}
-use Rattle.reading.proofs.Places.{from-step, wholes-end, wholes-from}
+use Rattle.reading.proofs.Places.{from-step, wholes-end}
 use Rattle.profiles.specs.Profiles.{profilesOf}
 use Rattle.profiles.proofs.Kept.{fault-kept, length-profilesOf}
 use Rattle.profiles.proofs.Again.{profiles-back}
@@ -26,7 +26,7 @@ use Rattle.import.specs.Import.{captured, captureFault, sheetFrom, impor
 use Rattle.lent.specs.declared.Made.{Made}
 use Rattle.lent.specs.Maker.{outcome, refused, written, refusing}
 use Rattle.lent.proofs.Maker.{written-making}
-use Rattle.import.specs.Pieces.{behind, bodies, sheetBytes, Whole}
+use Rattle.import.specs.inner.Pieces.{behind, bodies, sheetBytes, Whole}
 use Rattle.import.proofs.Capture.{Capture, captures, all-good, captured-short, capture-complete}
 use Rattle.import.proofs.Answers.{imported-fault, imported-short, imported-written}
 use Rattle.import.proofs.Beside.{length-sheetBytes}

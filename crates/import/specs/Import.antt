@@ -3,15 +3,14 @@ use mathlib.Core.Bool.{not}
 use mathlib.Core.List.{List, [], _∷_}
 use Prim.Native.Nat.{ℕ}
 use lib.Dec.{eqb}
-use lib.ListN.{length}
 use Rattle.fields.specs.Field.{field}
 use Rattle.refusal.specs.declared.Refusal.{Refusal}
 use Rattle.refusal.specs.First.{refuse, accept, _if_else_, _orElse_}
 use Rattle.lent.specs.Maker.{Outcome, makes}
 use Rattle.text.specs.Drive.{Desc, Drive}
 use Rattle.text.specs.Response.{currentProfile}
-use Rattle.text.specs.Reading.{statedEnd, statedProfile, readFault, wholes}
-use Rattle.profiles.specs.Profiles.{profilesOf, profilesFault}
+use Rattle.text.specs.Reading.{statedProfile}
+use Rattle.profiles.specs.Profiles.{profilesOf, recordsFault}
 use Rattle.sheet.specs.Check.{flagsRule}
 use Rattle.reading.specs.Places.{descs}
 use Rattle.reading.specs.Completed.{completeFault}
@@ -33,14 +32,14 @@ ownRule r (z ∷ ds) =
     accept
 
 -- 5, by the sheet's rule, at each descriptor in turn
-unfoldable pub flagsFault : List Desc → Refusal
-flagsFault [] = accept
-flagsFault (d ∷ ds) = flagsRule (d .flags) orElse flagsFault ds
+unfoldable pub flagsFaults : List Desc → Refusal
+flagsFaults [] = accept
+flagsFaults (d ∷ ds) = flagsRule (d .flags) orElse flagsFaults ds
 
 -- the sheet's own numbers in the sheet's order: all profiles, then all entries
 unfoldable pub sheetRule : List Desc → Refusal
 sheetRule [] = accept
-sheetRule (z ∷ ds) = profilesFault (z .body) orElse flagsFault ds
+sheetRule (z ∷ ds) = recordsFault (z .body) orElse flagsFaults ds
 
 -- what is refused of a response, whatever the sheet buffer: the reading's numbers, 29 if it is cut, 41, then the sheet's
 unfoldable pub captureFault : List ℕ → Refusal

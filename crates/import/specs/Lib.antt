@@ -1,2 +1,2 @@
 pub mod Import
-pub mod Pieces
+pub mod inner

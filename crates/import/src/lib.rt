@@ -4,15 +4,14 @@ ghost use Prim.Native.Nat.{_<_};
 ghost use lib.ListN.{length};
 ghost use Rattle.lent.specs.Wrote.{Wrote};
 ghost use Rattle.text.specs.Reading.{descAt};
-ghost use Rattle.reading.specs.Places.{from};
+ghost use Rattle.reading.specs.inner.Between.{from};
 ghost use Rattle.sheet.specs.Meaning.{entry};
-ghost use Rattle.import.specs.Import.{ownRule, flagsFault, sheetRule, captureFault, imported};
+ghost use Rattle.import.specs.Import.{ownRule, flagsFaults, sheetRule, captureFault, imported};
 ghost use Rattle.reading.specs.Completed.{completed};
 ghost use Rattle.lent.specs.Maker.{outcome};
-ghost use Rattle.import.specs.Pieces.{behind, Fits, Filled, sheetBytes, Whole};
+ghost use Rattle.import.specs.inner.Pieces.{behind, HasSpace, Filled, sheetBytes, Whole};
 use lent::Made;
 use refusal::Refusal;
-use text::Feature;
 use text::Flags;
 use text::Profile;
 use text::Reading;
@@ -46,7 +45,7 @@ fn own_fault(s: &[u8]) -> Refusal
 
 // 5 at each descriptor from a place on.
 fn flags_fault(s: &[u8], first: usize) -> Refusal
-    ensures { λ r. ⌜ r ≡ flagsFault (from (now (s .entry)) first) ⌝ }
+    ensures { λ r. ⌜ r ≡ flagsFaults (from (now (s .entry)) first) ⌝ }
 {
     let mut at = first;
     while at < s.len() {
@@ -105,7 +104,7 @@ fn put_entry(sheet: &mut [u8], at: usize, s: &[u8], place: usize, offset: u32) -
 // The entries of the descriptors from a place on, and their bodies: both in one pass.
 // Asks: room for entries and bodies, which 42 has shown before.
 fn put_features(sheet: &mut [u8], entries: usize, body: usize, s: &[u8], first: usize) -> usize
-    requires { ⌜ Fits (now s) entries body first (now sheet) ⌝ }
+    requires { ⌜ HasSpace (now s) entries body first (now sheet) ⌝ }
     ensures { λ r. ⌜ Filled (now (s .entry)) entries body first (now (sheet .entry)) r (now (sheet .exit)) ⌝ }
 {
     let mut entry = entries;

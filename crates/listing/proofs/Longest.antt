@@ -19,7 +19,7 @@ use Rattle.text.proofs.Sizes.{length-bytes}
 use Rattle.text.proofs.Walk.{HeaderFine, readFault-header}
 use Rattle.text.proofs.Again.{walked-good, walked-inside}
 use Rattle.listing.specs.Digits.{hex4}
-use Rattle.listing.specs.Listing.{words, marks, firstLine, lineOf, line, lastLine, refusedLine, accepted, listing}
+use Rattle.listing.specs.Listing.{words, marks, firstLine, lineOf, descLine, lastLine, refusedLine, accepted, listing}
 use Rattle.listing.proofs.Decimal.{length-decimal}
 use Rattle.listing.proofs.Numbers.{readFault-most}
 use Rattle.listing.proofs.Outcome.{listing-fault, listing-none}
@@ -59,10 +59,10 @@ refused-most : (number : ℕ) → number ≤ 20 → length (refusedLine number) 
 unfolding refusedLine
 refused-most number h = simp (length-word, length-last) (omega (arith, length-decimal 1 number (omega arith)))
 
-lines-most : (ds : List Desc) → All Good ds → length (flat line ds) ≤ 15 * length ds
-unfolding line
+lines-most : (ds : List Desc) → All Good ds → length (flat descLine ds) ≤ 15 * length ds
+unfolding descLine
 lines-most ds g =
-    length-flat-le line 15 ds (all-map Good (λ (d : Desc). length (line d) ≤ 15) (λ d h. line-most (d .number) (d .flags) (length (d .body)) (omega (arith, h .short))) ds g)
+    length-flat-le descLine 15 ds (all-map Good (λ (d : Desc). length (descLine d) ≤ 15) (λ d h. line-most (d .number) (d .flags) (length (d .body)) (omega (arith, h .short))) ds g)
 
 count-four : (ds : List Desc) → 4 * length ds ≤ length (flat bytes ds)
 unfolding flat

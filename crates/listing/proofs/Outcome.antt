@@ -5,10 +5,10 @@ use Prim.Native.Nat.{ℕ, zero, suc}
 use lib.ListN.{length}
 use Rattle.base.specs.Lists.{flat}
 use Rattle.text.specs.declared.Reading.{Reading}
-use Rattle.text.specs.Reading.{readFault, walked, refused, taken, reading}
+use Rattle.text.specs.Reading.{readFault, walked, nothingRead, taken, reading}
 use Rattle.reading.specs.Places.{descs}
 use Rattle.text.proofs.Received.{reading-cases}
-use Rattle.listing.specs.Listing.{firstLine, line, lastLine, refusedLine, accepted, listing}
+use Rattle.listing.specs.Listing.{firstLine, descLine, lastLine, refusedLine, accepted, listing}
 
 module _ (s : List ℕ) where
   pub listing-fault : (readFault 65534 0 0 s .number ≡ 0 → ⊥) → listing s ≡ refusedLine (readFault 65534 0 0 s .number)
@@ -25,7 +25,7 @@ module _ (s : List ℕ) where
 
   module _ (r : Reading) (q : r ≡ reading 65534 0 0 s) where
     pub listing-refused : (r .refusal .number ≡ 0 → ⊥) → listing s ≡ refusedLine (r .refusal .number)
-    unfolding refused taken
+    unfolding nothingRead taken
     listing-refused =
         rw q
         (reading-cases 65534 0 0 s (λ x ds. (x .refusal .number ≡ 0 → ⊥) → listing s ≡ refusedLine (x .refusal .number))
@@ -33,10 +33,10 @@ module _ (s : List ℕ) where
         (λ k h. absurd (h refl)))
 
     pub listing-accepted : r .refusal .number ≡ 0
-        → listing s ≡ firstLine (r .profile .0) (length s) (r .count) ++ flat line (descs s) ++ lastLine (r .complete)
-    unfolding refused taken accepted
+        → listing s ≡ firstLine (r .profile .0) (length s) (r .count) ++ flat descLine (descs s) ++ lastLine (r .complete)
+    unfolding nothingRead taken accepted
     listing-accepted =
         rw q
-        (reading-cases 65534 0 0 s (λ x ds. x .refusal .number ≡ 0 → listing s ≡ firstLine (x .profile .0) (length s) (x .count) ++ flat line ds ++ lastLine (x .complete))
+        (reading-cases 65534 0 0 s (λ x ds. x .refusal .number ≡ 0 → listing s ≡ firstLine (x .profile .0) (length s) (x .count) ++ flat descLine ds ++ lastLine (x .complete))
         (λ k h. absurd (k h))
         (λ k h. listing-none k))

@@ -33,8 +33,8 @@ firstLine profile received count = words (hex4 profile ∷ decimal received ∷ 
 unfoldable pub lineOf : (number flags len : ℕ) → List ℕ
 lineOf number flags len = words (hex4 number ∷ marks flags ∷ decimal (version flags) ∷ decimal len ∷ [])
 
-unfoldable pub line : Desc → List ℕ
-line d = lineOf (d .number) (d .flags) (length (d .body))
+unfoldable pub descLine : Desc → List ℕ
+descLine d = lineOf (d .number) (d .flags) (length (d .body))
 
 -- the last line, `cut`, where the response is not complete
 unfoldable pub lastLine : (complete : Bool) → List ℕ
@@ -47,7 +47,7 @@ refusedLine number = words ((114 ∷ 101 ∷ 102 ∷ 117 ∷ 115 ∷ 101 ∷ 100
 
 -- an accepted response s, of which the descriptors ds are whole
 unfoldable pub accepted : (s : List ℕ) (ds : List Desc) → List ℕ
-accepted s ds = firstLine (statedProfile s) (length s) (length ds) ++ flat line ds ++ lastLine (eqb (length s) (statedEnd s))
+accepted s ds = firstLine (statedProfile s) (length s) (length ds) ++ flat descLine ds ++ lastLine (eqb (length s) (statedEnd s))
 
 -- the listing of any bytes
 unfoldable pub listing : List ℕ → List ℕ

@@ -8,7 +8,7 @@ ghost use Rattle.text.specs.Reading.{numberAt, flagsAt, lengthAt, reading};
 ghost use Rattle.reading.specs.Places.{descs};
 ghost use Rattle.listing.specs.Digits.{hex4, decimal};
 ghost use Rattle.listing.specs.Digits.{digit as Digits·digit};
-ghost use Rattle.listing.specs.Listing.{marks, firstLine, lineOf, line, lastLine, refusedLine, listing};
+ghost use Rattle.listing.specs.Listing.{marks, firstLine, lineOf, descLine, lastLine, refusedLine, listing};
 ghost use Rattle.listing.specs.Listing.{mark as Listing·mark};
 use refusal::Refusal;
 use text::Feature;
@@ -114,7 +114,7 @@ fn put_line_at(out: &mut [u8], at: usize, s: &[u8], place: usize) -> usize
 // Asks: the end that the reading of this response gave.
 fn put_lines(out: &mut [u8], at: usize, s: &[u8], end: usize) -> usize
     requires { ⌜ end ≡ reading 65534 0 0 (now s) .end ⌝ }
-    ensures { λ r. ⌜ Wrote (now (out .entry)) at (flat line (descs (now (s .entry)))) r (now (out .exit)) ⌝ }
+    ensures { λ r. ⌜ Wrote (now (out .entry)) at (flat descLine (descs (now (s .entry)))) r (now (out .exit)) ⌝ }
 {
     let mut next = at;
     let mut place: usize = 8;

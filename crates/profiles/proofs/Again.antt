@@ -15,7 +15,7 @@ use Rattle.fields.proofs.Laws.{length-spell, spell-field, field-here, byte-here
 use Rattle.refusal.specs.First.{accept}
 use Rattle.text.specs.Drive.{Listed, bit, profileBytes}
 use Rattle.text.proofs.Profiles.{length-profiles}
-use Rattle.profiles.specs.Profiles.{number, current, last, listed, profilesOf, profilesFault, Kept, Distinct}
+use Rattle.profiles.specs.Profiles.{profileNumber, profileCurrent, profileLast, listed, profilesOf, recordsFault, Kept, Distinct}
 use Rattle.profiles.proofs.Kept.{kept-accept, distinct-above, distinct-differs}
 
 -- ---- a list that is not refused
@@ -27,13 +27,13 @@ bit-back (suc (suc c)) l = absurd (omega arith)
 
 module _ {b : List ℕ} (bs : Bytes b) where
   record-back : (i : ℕ) → 4 * i + 4 ≤ length b → Kept b i → profileBytes (listed b i) ≡ take 4 (drop (4 * i) b)
-  unfolding profileBytes listed number current last
+  unfolding profileBytes listed profileNumber profileCurrent profileLast
   record-back i l f =
-      let x : spell 2 (number b i) ≡ take 2 (drop (4 * i) b) = spell-field 2 b (4 * i) bs (omega arith) in
-      let y : bit (eqb (current b i % 2) 1) ∷ 0 ∷ [] ≡ take 2 (drop (4 * i + 2) b) =
-      ap (λ (k : ℕ). k ∷ 0 ∷ []) (bit-back (current b i) (f .one))
-      ∙ ap (λ (k : ℕ). current b i ∷ k ∷ []) (sym (f .nought))
-      ∙ ap (λ (k : ℕ). current b i ∷ getD b k 0 ∷ []) (sym (add-assoc (4 * i) 2 1))
+      let x : spell 2 (profileNumber b i) ≡ take 2 (drop (4 * i) b) = spell-field 2 b (4 * i) bs (omega arith) in
+      let y : bit (eqb (profileCurrent b i % 2) 1) ∷ 0 ∷ [] ≡ take 2 (drop (4 * i + 2) b) =
+      ap (λ (k : ℕ). k ∷ 0 ∷ []) (bit-back (profileCurrent b i) (f .one))
+      ∙ ap (λ (k : ℕ). profileCurrent b i ∷ k ∷ []) (sym (f .nought))
+      ∙ ap (λ (k : ℕ). profileCurrent b i ∷ getD b k 0 ∷ []) (sym (add-assoc (4 * i) 2 1))
       ∙ take-two b (4 * i + 2) (omega arith) in
       rw (x, y, take-more b (4 * i) 2 2)
 
@@ -97,16 +97,16 @@ module _ (ps : List Listed) (low : All (λ (p : Listed). p .number < 65536) ps) 
 
   -- they list the profiles
   pub profiles-written : profilesOf written ≡ ps
-  unfolding profilesOf listed number current
+  unfolding profilesOf listed profileNumber profileCurrent
   profiles-written = each-getD (listed written) ps noListed (length written / 4) (sym count-is) (λ i l.
       let h : i < length ps = omega (arith, count-is) in
-      let n : number written i ≡ getD ps i noListed .number = reads i h .number-is in
-      let o : eqb (current written i % 2) 1 ≡ getD ps i noListed .on = ap (λ (k : ℕ). eqb (k % 2) 1) (reads i h .current-is) ∙ on-back (getD ps i noListed .on) in
+      let n : profileNumber written i ≡ getD ps i noListed .number = reads i h .number-is in
+      let o : eqb (profileCurrent written i % 2) 1 ≡ getD ps i noListed .on = ap (λ (k : ℕ). eqb (k % 2) 1) (reads i h .current-is) ∙ on-back (getD ps i noListed .on) in
       λ k. record { number = n k; on = o k })
 
   -- and are not refused where the numbers are not 0 and differ
   pub kept-written : Distinct ps → (i : ℕ) → i < length written / 4 → Kept written i
-  unfolding number current last
+  unfolding profileNumber profileCurrent profileLast
   kept-written d i l =
       let h : i < length ps = omega (arith, count-is) in
       record {
@@ -116,5 +116,5 @@ module _ (ps : List Listed) (low : All (λ (p : Listed). p .number < 65536) ps) 
         nought = reads i h .last-is;
       }
 
-  pub written-accept : Distinct ps → profilesFault written ≡ accept
+  pub written-accept : Distinct ps → recordsFault written ≡ accept
   written-accept d = kept-accept written (kept-written d)

@@ -13,20 +13,20 @@ use Rattle.refusal.specs.declared.Refusal.{Refusal}
 use Rattle.refusal.specs.First.{accept}
 use Rattle.refusal.proofs.First.{if-false, if-zero, first-all, first-accept}
 use Rattle.text.specs.Drive.{Listed}
-use Rattle.profiles.specs.Profiles.{number, current, last, listed, profilesOf, lists, recordRule, recordFault, profilesFault, Kept, Distinct}
+use Rattle.profiles.specs.Profiles.{profileNumber, profileCurrent, profileLast, listed, profilesOf, lists, recordRule, recordFault, recordsFault, Kept, Distinct}
 use Rattle.profiles.proofs.Loops.{lists-yes, lists-no}
 
 -- ---- the numbers before a record
 
 -- none of k records from record i on has the number m
-lists-differs : (m : ℕ) (b : List ℕ) (i k : ℕ) → lists m b i k ≡ false → (j : ℕ) → j < k → number b (i + j) ≡ m → ⊥
+lists-differs : (m : ℕ) (b : List ℕ) (i k : ℕ) → lists m b i k ≡ false → (j : ℕ) → j < k → profileNumber b (i + j) ≡ m → ⊥
 lists-differs m b i zero e j l q = absurd (omega arith)
-lists-differs m b i (suc k) e zero l q = true≢false (sym (lists-yes m b i k (ap (number b) (omega arith) ∙ q)) ∙ e)
+lists-differs m b i (suc k) e zero l q = true≢false (sym (lists-yes m b i k (ap (profileNumber b) (omega arith) ∙ q)) ∙ e)
 lists-differs m b i (suc k) e (suc j) l q =
-    let h : number b i ≡ m → ⊥ = λ z. true≢false (sym (lists-yes m b i k z) ∙ e) in
-    lists-differs m b (suc i) k (sym (lists-no m b i k h) ∙ e) j (omega arith) (ap (number b) (omega arith) ∙ q)
+    let h : profileNumber b i ≡ m → ⊥ = λ z. true≢false (sym (lists-yes m b i k z) ∙ e) in
+    lists-differs m b (suc i) k (sym (lists-no m b i k h) ∙ e) j (omega arith) (ap (profileNumber b) (omega arith) ∙ q)
 
-differs-lists : (m : ℕ) (b : List ℕ) (i k : ℕ) → ((j : ℕ) → i ≤ j → j < i + k → number b j ≡ m → ⊥) → lists m b i k ≡ false
+differs-lists : (m : ℕ) (b : List ℕ) (i k : ℕ) → ((j : ℕ) → i ≤ j → j < i + k → profileNumber b j ≡ m → ⊥) → lists m b i k ≡ false
 unfolding lists
 differs-lists m b i zero h = refl
 differs-lists m b i (suc k) h =
@@ -40,10 +40,10 @@ kept b i e =
     let x = if-zero _ _ _ e in
     let y = if-zero _ _ _ (x .1) in
     let z = if-zero _ _ _ (y .1) in
-    let n : number b i ≡ 0 → ⊥ = eqb-false _ _ (x .0) in
+    let n : profileNumber b i ≡ 0 → ⊥ = eqb-false _ _ (x .0) in
     record {
       above = omega arith;
-      new = λ j l q. lists-differs (number b i) b 0 i (y .0) j l (ap (number b) (omega arith) ∙ q);
+      new = λ j l q. lists-differs (profileNumber b i) b 0 i (y .0) j l (ap (profileNumber b) (omega arith) ∙ q);
       one = ltb-false _ _ (z .0);
       nought = eqb-true _ _ (not-false _ (if-zero _ _ _ (z .1) .0));
     }
@@ -52,25 +52,25 @@ record-accept : (b : List ℕ) (i : ℕ) → Kept b i → recordFault b i ≡ ac
 unfolding recordFault recordRule
 record-accept b i f =
     rw (
-      ne-eqb (number b i) 0 (λ z. omega (arith, f .above)),
+      ne-eqb (profileNumber b i) 0 (λ z. omega (arith, f .above)),
       if-false,
-      differs-lists (number b i) b 0 i (λ j l n. f .new j (omega arith)),
+      differs-lists (profileNumber b i) b 0 i (λ j l n. f .new j (omega arith)),
       if-false,
-      le-ltb 1 (current b i) (f .one),
+      le-ltb 1 (profileCurrent b i) (f .one),
       if-false,
-      eq-eqb (last b i) 0 (f .nought),
+      eq-eqb (profileLast b i) 0 (f .nought),
       if-false,
     )
 
 -- ---- the list
 
 module _ (b : List ℕ) where
-  pub fault-kept : profilesFault b .number ≡ 0 → (i : ℕ) → i < length b / 4 → Kept b i
-  unfolding profilesFault
+  pub fault-kept : recordsFault b .number ≡ 0 → (i : ℕ) → i < length b / 4 → Kept b i
+  unfolding recordsFault
   fault-kept e i l = kept b i (first-all (recordFault b) (length b / 4) e i l)
 
-  pub kept-accept : ((i : ℕ) → i < length b / 4 → Kept b i) → profilesFault b ≡ accept
-  unfolding profilesFault
+  pub kept-accept : ((i : ℕ) → i < length b / 4 → Kept b i) → recordsFault b ≡ accept
+  unfolding recordsFault
   kept-accept h =
       first-accept (recordFault b) 0 (length b / 4) (λ j l m. ap (λ (r : Refusal). r .number) (record-accept b j (h j (omega arith))))
 
@@ -80,7 +80,7 @@ module _ (b : List ℕ) where
 
   -- the numbers take two bytes
   pub low-of : Bytes b → All (λ (p : Listed). p .number < 65536) (profilesOf b)
-  unfolding profilesOf listed number
+  unfolding profilesOf listed profileNumber
   low-of bs = each-all (λ (p : Listed). p .number < 65536) (listed b) 0 (length b / 4) (λ j l m. field-lt 2 b (4 * j) bs)
 
   distinct-from : (i k : ℕ) → ((j : ℕ) → j < i + k → Kept b j) → Distinct (each (listed b) i k)
@@ -88,7 +88,7 @@ module _ (b : List ℕ) where
   distinct-from i zero f = tt
   distinct-from i (suc k) f = (
     f i (omega arith) .above,
-    each-all (λ (q : Listed). q .number ≡ number b i → ⊥) (listed b) (suc i) k (λ j l m e. f j (omega arith) .new i l (sym e)),
+    each-all (λ (q : Listed). q .number ≡ profileNumber b i → ⊥) (listed b) (suc i) k (λ j l m e. f j (omega arith) .new i l (sym e)),
     distinct-from (suc i) k (λ j l. f j (omega arith)),
   )
 

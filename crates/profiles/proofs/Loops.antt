@@ -11,28 +11,28 @@ use Rattle.base.specs.Lists.{each}
 use Rattle.fields.specs.Field.{field}
 use Rattle.text.specs.Response.{currentProfile}
 use Rattle.text.proofs.Profiles.{current-on, current-off}
-use Rattle.profiles.specs.Profiles.{number, current, listed, lists}
+use Rattle.profiles.specs.Profiles.{profileNumber, profileCurrent, listed, lists}
 
 -- ---- a number among the records
 
-pub lists-yes : (m : ℕ) (b : List ℕ) (i k : ℕ) → number b i ≡ m → lists m b i (suc k) ≡ true
+pub lists-yes : (m : ℕ) (b : List ℕ) (i k : ℕ) → profileNumber b i ≡ m → lists m b i (suc k) ≡ true
 unfolding lists
-lists-yes m b i k e = rw (eq-eqb (number b i) m e, lists)
+lists-yes m b i k e = rw (eq-eqb (profileNumber b i) m e, lists)
 
-pub lists-no : (m : ℕ) (b : List ℕ) (i k : ℕ) → (number b i ≡ m → ⊥) → lists m b i (suc k) ≡ lists m b (suc i) k
+pub lists-no : (m : ℕ) (b : List ℕ) (i k : ℕ) → (profileNumber b i ≡ m → ⊥) → lists m b i (suc k) ≡ lists m b (suc i) k
 unfolding lists
-lists-no m b i k h = rw (ne-eqb (number b i) m h, lists)
+lists-no m b i k h = rw (ne-eqb (profileNumber b i) m h, lists)
 
 module _ (w : Bool) (m : ℕ) (b : List ℕ) (n i : ℕ) (e : w ≡ lists m b i (n - i)) where
   lists-step : i < n → w ≡ lists m b i (suc (n - suc i))
   lists-step h = e ∙ ap (lists m b i) (omega arith)
 
   pub lists-stop : (x : ℕ) → i < n → x ≡ field 2 b (4 * i) → x ≡ m → true ≡ w
-  unfolding number
+  unfolding profileNumber
   lists-stop x h p q = sym (lists-step h ∙ lists-yes m b i (n - suc i) (sym p ∙ q))
 
   pub lists-go : (x : ℕ) → i < n → x ≡ field 2 b (4 * i) → (x ≡ m → ⊥) → w ≡ lists m b (i + 1) (n - (i + 1))
-  unfolding number
+  unfolding profileNumber
   lists-go x h p q = rw add-one (lists-step h ∙ lists-no m b i (n - suc i) (λ z. q (p ∙ z)))
 
   pub lists-none : n ≤ i → false ≡ w
@@ -47,12 +47,12 @@ module _ (w : ℕ) (b : List ℕ) (n i : ℕ) (e : w ≡ currentProfile (each (l
   current-step h = e ∙ ap (λ (k : ℕ). currentProfile (each (listed b) i k)) {x = n - i} {y = suc (n - suc i)} (omega arith) ∙ rw add-one
 
   pub current-stop : (x r : ℕ) → i < n → x ≡ getD b (4 * i + 2) 0 → x % 2 ≡ 1 → r ≡ field 2 b (4 * i) → r ≡ w
-  unfolding listed number current
+  unfolding listed profileNumber profileCurrent
   current-stop x r h p k q =
       q ∙ sym (current-step h ∙ current-on (listed b i) (each (listed b) (i + 1) (n - (i + 1))) (eq-eqb _ _ (ap (λ (y : ℕ). y % 2) (sym p) ∙ k)))
 
   pub current-go : (x : ℕ) → i < n → x ≡ getD b (4 * i + 2) 0 → (x % 2 ≡ 1 → ⊥) → w ≡ currentProfile (each (listed b) (i + 1) (n - (i + 1)))
-  unfolding listed current
+  unfolding listed profileCurrent
   current-go x h p k =
       current-step h ∙ current-off (listed b i) (each (listed b) (i + 1) (n - (i + 1))) (ne-eqb _ _ (λ z. k (ap (λ (y : ℕ). y % 2) p ∙ z)))
 

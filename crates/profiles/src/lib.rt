@@ -3,7 +3,7 @@ ghost use mathlib.Core.Path.{_≡_};
 ghost use Prim.Native.Nat.{_/_, _≤_, _<_};
 ghost use lib.ListN.{length};
 ghost use Rattle.text.specs.Response.{currentProfile};
-ghost use Rattle.profiles.specs.Profiles.{profilesOf, lists, recordRule, recordFault, profilesFault};
+ghost use Rattle.profiles.specs.Profiles.{profilesOf, lists, recordRule, recordFault, recordsFault};
 use refusal::Refusal;
 use text::Profile;
 
@@ -56,7 +56,7 @@ fn record_fault(b: &[u8], i: usize) -> Refusal
 
 // The first refusal of the records, which is 3 or none.
 pub fn fault(b: &[u8]) -> Refusal
-    ensures { λ r. ⌜ r ≡ profilesFault (now (b .entry)) ⌝ }
+    ensures { λ r. ⌜ r ≡ recordsFault (now (b .entry)) ⌝ }
 {
     let n = b.len() / 4;
     let mut i = 0;

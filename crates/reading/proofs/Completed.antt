@@ -11,11 +11,12 @@ use Rattle.refusal.specs.declared.Refusal.{Refusal}
 use Rattle.refusal.specs.First.{refuse, accept, _if_else_}
 use Rattle.refusal.proofs.First.{if-true, if-false, if-zero, orElse-none, orElse-fault, orElse-zero, unless-none, unless-fault}
 use Rattle.text.specs.declared.Reading.{Reading}
-use Rattle.text.specs.Reading.{statedEnd, readFault, refused, taken, reading}
+use Rattle.text.specs.Reading.{statedEnd, readFault, nothingRead, taken, reading}
 use Rattle.text.proofs.Received.{reading-fault, reading-none, reading-cases}
 use Rattle.reading.specs.declared.Scanned.{Scanned}
-use Rattle.reading.specs.Scan.{refusal}
-use Rattle.reading.specs.Places.{descs, from}
+use Rattle.reading.specs.inner.Tally.{refusal}
+use Rattle.reading.specs.Places.{descs}
+use Rattle.reading.specs.inner.Between.{from}
 use Rattle.reading.specs.Completed.{completeFault, completed}
 use Rattle.reading.proofs.Places.{wholes-from}
 
@@ -43,18 +44,18 @@ module _ (s : List ℕ) where
   descs-from e = let c = complete-zero e in wholes-from s (c .read) (c .ends)
 
   reading-refusal : reading 65534 0 0 s .refusal ≡ readFault 65534 0 0 s
-  unfolding refused taken
+  unfolding nothingRead taken
   reading-refusal = reading-cases 65534 0 0 s (λ r ds. r .refusal ≡ readFault 65534 0 0 s) (λ k. refl) (λ k. ap refuse (sym k))
 
   complete-refusal : completed s .refusal ≡ completeFault s
-  unfolding completed refused
+  unfolding completed nothingRead
   complete-refusal = go (completeFault s .number) refl
     where
       go : (n : ℕ) → completeFault s .number ≡ n → completed s .refusal ≡ completeFault s
       go zero e =
-          ap (λ (r : Reading). r .refusal) (unless-none (completeFault s) refused (reading 65534 0 0 s) e)
+          ap (λ (r : Reading). r .refusal) (unless-none (completeFault s) nothingRead (reading 65534 0 0 s) e)
           ∙ reading-refusal ∙ ap refuse (complete-zero e .read ∙ sym e)
-      go (suc n) e = ap (λ (r : Reading). r .refusal) (unless-fault (completeFault s) refused (reading 65534 0 0 s) (λ z. omega arith))
+      go (suc n) e = ap (λ (r : Reading). r .refusal) (unless-fault (completeFault s) nothingRead (reading 65534 0 0 s) (λ z. omega arith))
 
   -- by such a reading r: its refusal, and what it is where it has none
   module _ (r : Reading) (e : r ≡ completed s) where
@@ -66,7 +67,7 @@ module _ (s : List ℕ) where
 
     pub complete-read : completeFault s .number ≡ 0 → r ≡ reading 65534 0 0 s
     unfolding completed
-    complete-read k = e ∙ unless-none (completeFault s) refused (reading 65534 0 0 s) k
+    complete-read k = e ∙ unless-none (completeFault s) nothingRead (reading 65534 0 0 s) k
 
   -- with the reading r at hand: refused, cut, complete
   module _ (r : Reading) (e : r ≡ reading 65534 0 0 s) where
@@ -78,8 +79,8 @@ module _ (s : List ℕ) where
     complete-refused k =
         let f : readFault 65534 0 0 s .number ≡ 0 → ⊥ = λ z. k (number-is refusal-is ∙ z) in
         let g : completeFault s ≡ readFault 65534 0 0 s = orElse-fault _ _ f in
-        e ∙ reading-fault 65534 0 0 s f ∙ ap refused (sym g)
-        ∙ sym (unless-fault (completeFault s) refused (reading 65534 0 0 s) (λ z. f (sym (number-is g) ∙ z)))
+        e ∙ reading-fault 65534 0 0 s f ∙ ap nothingRead (sym g)
+        ∙ sym (unless-fault (completeFault s) nothingRead (reading 65534 0 0 s) (λ z. f (sym (number-is g) ∙ z)))
 
     module _ (k : r .refusal .number ≡ 0) where
       fine : readFault 65534 0 0 s .number ≡ 0
@@ -97,11 +98,11 @@ module _ (s : List ℕ) where
       unfolding completed refusal
       complete-cut c h q =
           let g : completeFault s ≡ refuse 29 = fault-is ∙ rw h (if-true _ _) in
-          ap (λ (x : Scanned). x .reading) q ∙ ap refused (sym g)
-          ∙ sym (unless-fault (completeFault s) refused (reading 65534 0 0 s) (λ z. omega (arith, number-is g, z)))
+          ap (λ (x : Scanned). x .reading) q ∙ ap nothingRead (sym g)
+          ∙ sym (unless-fault (completeFault s) nothingRead (reading 65534 0 0 s) (λ z. omega (arith, number-is g, z)))
 
       pub complete-whole : not (r .complete) ≡ false → r ≡ completed s
       unfolding completed
       complete-whole h =
           let g : completeFault s ≡ accept = fault-is ∙ rw h (if-false _ _) in
-          e ∙ sym (unless-none (completeFault s) refused (reading 65534 0 0 s) (number-is g))
+          e ∙ sym (unless-none (completeFault s) nothingRead (reading 65534 0 0 s) (number-is g))

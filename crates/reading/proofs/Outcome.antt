@@ -13,7 +13,8 @@ use Rattle.refusal.proofs.First.{orElse-none, orElse-fault, orElse-zero}
 use Rattle.text.proofs.Walk.{headerRule-zero, wholes-refused, wholes-accepted}
 use Rattle.text.proofs.Received.{reading-fault, reading-none}
 use Rattle.reading.specs.declared.Walk.{Walk}
-use Rattle.reading.specs.Scan.{scanned, refusal, tally}
+use Rattle.reading.specs.Scan.{scanned}
+use Rattle.reading.specs.inner.Tally.{refusal, tally}
 use Rattle.reading.proofs.Tally.{last-start, tally-fault, tally-none}
 
 -- an accepted header leaves room for the walk

@@ -16,7 +16,8 @@ use Rattle.text.specs.Reading.{Walked, statedLength, statedEnd, numberAt, flags
 use Rattle.base.proofs.Compare.{le-or-lt}
 use Rattle.text.proofs.Walk.{walk-few, walk-bad, walk-step, HeadFine, headRule-zero, readFault-header, readFault-walk, wholes-accepted}
 use Rattle.text.proofs.Received.{Stand, length-descAt, wholes-stand, reading-end}
-use Rattle.reading.specs.Places.{descs, nextAt, run, between, from}
+use Rattle.reading.specs.Places.{descs, nextAt}
+use Rattle.reading.specs.inner.Between.{run, between, from}
 use Rattle.reading.proofs.At.{next-is}
 
 module _ (s : List ℕ) (end : ℕ) where

@@ -17,7 +17,8 @@ use Rattle.text.specs.Response.{bytes}
 use Rattle.text.specs.Reading.{numberAt, lengthAt, descAt, reading}
 use Rattle.text.proofs.Again.{bytes-descAt}
 use Rattle.text.proofs.Received.{Stand, length-descAt, wholes-stand, wholes-asc, reading-within}
-use Rattle.reading.specs.Places.{nextAt, between}
+use Rattle.reading.specs.Places.{nextAt}
+use Rattle.reading.specs.inner.Between.{between}
 use Rattle.reading.proofs.At.{next-is}
 use Rattle.reading.proofs.Places.{left-more, left-none, wholes-between}
 use Rattle.reading.specs.Held.{isOf, isBelow, heldIn, placeIn, HeldIn}

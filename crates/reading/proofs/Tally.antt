@@ -16,7 +16,7 @@ use Rattle.text.proofs.Walk.{walk-few, walk-bad, walk-short, walk-step}
 use Rattle.text.proofs.Received.{length-descAt}
 use Rattle.reading.specs.declared.Head.{Head}
 use Rattle.reading.specs.declared.Walk.{Walk}
-use Rattle.reading.specs.Scan.{headAt, lastFrom, tally}
+use Rattle.reading.specs.inner.Tally.{headAt, lastFrom, tally}
 
 -- ---- the number of the last descriptor
 

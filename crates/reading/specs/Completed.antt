@@ -7,7 +7,7 @@ use lib.ListN.{length}
 use Rattle.refusal.specs.declared.Refusal.{Refusal}
 use Rattle.refusal.specs.First.{refuse, accept, _if_else_, _orElse_, unless}
 use Rattle.text.specs.declared.Reading.{Reading}
-use Rattle.text.specs.Reading.{statedEnd, readFault, refused, reading}
+use Rattle.text.specs.Reading.{statedEnd, readFault, nothingRead, reading}
 
 -- why it is refused: the reading's numbers, then 29: it is cut
 unfoldable pub completeFault : List ℕ → Refusal
@@ -18,4 +18,4 @@ completeFault s =
 
 -- its reading
 unfoldable pub completed : List ℕ → Reading
-completed s = unless (completeFault s) refused (reading 65534 0 0 s)
+completed s = unless (completeFault s) nothingRead (reading 65534 0 0 s)

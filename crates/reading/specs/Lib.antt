@@ -2,3 +2,4 @@ pub mod Scan
 pub mod Places
 pub mod Completed
 pub mod Held
+pub mod inner

@@ -10,14 +10,14 @@ use Rattle.layout.specs.Layout.{featureCount, bodyLength, offset}
 use Rattle.sheet.specs.Facts.{Facts}
 use Rattle.sheet.specs.Meaning.{desc}
 use Rattle.sheet.proofs.Meaning.{body-length}
-use Rattle.responder.specs.inner.Index.{entryBytes}
+use Rattle.responder.specs.inner.Index.{descBytes}
 
 module _ {s : List ℕ} (f : Facts s) where
-  pub entry-bytes : (i : ℕ) → i < featureCount s → entryBytes s i ≡ bytes (desc s i)
-  unfolding entryBytes bytes desc
+  pub entry-bytes : (i : ℕ) → i < featureCount s → descBytes s i ≡ bytes (desc s i)
+  unfolding descBytes bytes desc
   entry-bytes i l =
       let e : length (take (bodyLength s i) (drop (offset s i) s)) ≡ bodyLength s i = body-length f i l in
       rw e (simp append-assoc)
 
-  pub length-entryBytes : (i : ℕ) → i < featureCount s → length (entryBytes s i) ≡ 4 + bodyLength s i
+  pub length-entryBytes : (i : ℕ) → i < featureCount s → length (descBytes s i) ≡ 4 + bodyLength s i
   length-entryBytes i l = omega (arith, ap length (entry-bytes i l), length-bytes (desc s i), body-length f i l)

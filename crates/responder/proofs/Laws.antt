@@ -13,7 +13,7 @@ use Rattle.lent.specs.Wrote.{Wrote}
 use Rattle.lent.proofs.Laws.{nowhere, then}
 use Rattle.layout.specs.Layout.{featureCount, profileCount, entryAt, number, flags, bodyLength, offset}
 use Rattle.sheet.specs.Check.{endBefore}
-use Rattle.responder.specs.inner.Index.{wantedEnd, skips, entryBytes, piece, pieces, pieceSize, piecesSize, span, entriesSize, zeroBytes, zeroPart, zeroSize}
+use Rattle.responder.specs.inner.Index.{wantedEnd, skips, descBytes, piece, pieces, pieceSize, piecesSize, span, entriesSize, zeroBytes, zeroPart, zeroSize}
 
 -- ---- one entry
 
@@ -22,7 +22,7 @@ module _ (rt : ℕ) (s : List ℕ) (i : ℕ) where
   unfolding piece
   piece-none e = rw (e, piece)
 
-  pub piece-some : skips rt (flags s i) ≡ false → piece rt s i ≡ entryBytes s i
+  pub piece-some : skips rt (flags s i) ≡ false → piece rt s i ≡ descBytes s i
   unfolding piece
   piece-some e = rw (e, piece)
 

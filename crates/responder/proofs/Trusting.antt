@@ -16,9 +16,9 @@ use Rattle.lent.proofs.Laws.{cut}
 use Rattle.lent.proofs.Maker.{written-making, refused-unless, makes-after}
 use Rattle.text.specs.declared.Header.{Header}
 use Rattle.refusal.specs.declared.Refusal.{Refusal}
-use Rattle.refusal.specs.First.{refuse, accept, _if_else_, _orElse_, unless}
-use Rattle.text.specs.Command.{commandFault, rtOf, sfnOf, allocationOf, headerOf}
-use Rattle.text.specs.Response.{currentProfile, full, sent}
+use Rattle.refusal.specs.First.{refuse, accept, _if_else_, unless}
+use Rattle.text.specs.Command.{commandFault, rtOf, sfnOf, allocationOf}
+use Rattle.text.specs.Response.{currentProfile, full, sent, headerOf}
 use Rattle.refusal.proofs.First.{if-true, if-false, orElse-none, orElse-accept, unless-none}
 use Rattle.text.proofs.Sent.{length-sent}
 use Rattle.profiles.specs.Profiles.{profilesOf}

@@ -1,13 +1,12 @@
 // The box: a sheet, a command and a lent buffer in; the refusal or the count of bytes sent out.
 ghost use mathlib.Core.Path.{_≡_};
-ghost use mathlib.Core.List.{_++_};
 ghost use Prim.Native.Nat.{_+_, _-_, _*_, _%_, _^_, _≤_, _<_, min};
 ghost use Rattle.lent.specs.Wrote.{Wrote};
 ghost use Rattle.text.specs.Response.{header};
 ghost use Rattle.lent.specs.Maker.{outcome};
 ghost use Rattle.responder.specs.Answer.{answered};
 ghost use Rattle.responder.specs.Trusting.{trusting, trustingCommand};
-ghost use Rattle.responder.specs.inner.Index.{wantedEnd, skips, entryBytes, piece, pieces, pieceSize, piecesSize, span, entriesSize, zeroBytes, zeroPart, zeroSize, plan, fullBytes};
+ghost use Rattle.responder.specs.inner.Index.{wantedEnd, skips, descBytes, piece, pieces, pieceSize, piecesSize, span, entriesSize, zeroBytes, zeroPart, zeroSize, plan, fullBytes};
 use lent::Made;
 use text::Command;
 use text::Feature;
@@ -128,7 +127,7 @@ fn planned(s: &[u8], rt: u8, sfn: Feature) -> Plan
 // ---- the bytes, as far as the buffer has room
 
 fn put_entry(out: &mut [u8], at: usize, s: &[u8], i: u16) -> usize
-    ensures { λ r. ⌜ Wrote (now (out .entry)) at (entryBytes (now (s .entry)) i) r (now (out .exit)) ⌝ }
+    ensures { λ r. ⌜ Wrote (now (out .entry)) at (descBytes (now (s .entry)) i) r (now (out .exit)) ⌝ }
 {
     let feature = layout::feature_at(s, i);
     let length = layout::length_at(s, i);

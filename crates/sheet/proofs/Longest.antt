@@ -88,7 +88,7 @@ plain-good w i l e h = record {
 }
 
 plain-legal : (w i : ℕ) → flagsRule (plainDesc w i .flags) .number ≡ 0
-unfolding plainDesc flagsRule text.flagsRule _if_else_ pickZero _orElse_
+unfolding plainDesc flagsRule text.flagsGiving _if_else_ pickZero _orElse_
 plain-legal w i = refl
 
 plain-low : (i : ℕ) → i < 65536 → plainListed i .number < 65536

@@ -6,7 +6,7 @@ use native.Mathlib.Omega.{arith}
 use lib.ListN.{length, drop, length-drop}
 use lib.Seq.{length-take-le}
 use Rattle.base.specs.Lists.{each, Bytes}
-use Rattle.base.proofs.Lists.{bytes-drop, bytes-take, length-each, each-all}
+use Rattle.base.proofs.Lists.{bytes-drop, bytes-take, each-all}
 use Rattle.text.specs.Drive.{Desc, Good, Asc}
 use Rattle.profiles.proofs.Kept.{length-profilesOf, low-of, kept-distinct}
 use Rattle.layout.specs.Layout.{featureCount, profileCount, number, flags, bodyLength, offset, profilesPart}
@@ -14,10 +14,6 @@ use Rattle.sheet.specs.Check.{numberBefore, flagsRule, Accepted}
 use Rattle.sheet.specs.Facts.{Facts}
 use Rattle.sheet.specs.Meaning.{desc, meaning, Fine}
 use Rattle.sheet.proofs.Accepted.{facts, number-lt, flags-lt, length-profilesPart, bytes-profilesPart}
-
-pub features-count : (s : List ℕ) → length (meaning s .features) ≡ featureCount s
-unfolding meaning
-features-count s = length-each (desc s) 0 (featureCount s)
 
 pub profiles-count : (s : List ℕ) → Facts s → length (meaning s .profiles) ≡ profileCount s
 unfolding meaning

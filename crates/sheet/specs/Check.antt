@@ -1,12 +1,12 @@
 -- The number that the check of a drive sheet gives, in the paper's order. Assumes nothing: these are definitions.
-use mathlib.Core.Bool.{not, _&&_}
+use mathlib.Core.Bool.{not}
 use mathlib.Core.List.{List}
 use Prim.Native.Nat.{ℕ, zero, suc, _+_, _%_}
 use lib.Dec.{ltb, leb, eqb}
 use lib.ListN.{length}
 use Rattle.refusal.specs.declared.Refusal.{Refusal}
 use Rattle.refusal.specs.First.{refuse, accept, _if_else_, _orElse_, firstOf}
-use Rattle.profiles.specs.Profiles.{profilesFault}
+use Rattle.profiles.specs.Profiles.{recordsFault}
 use Rattle.text.specs.Flags as text
 use Rattle.layout.specs.Layout.{featureCount, profileCount, bodiesAt, number, flags, bodyLength, offset, profilesPart}
 
@@ -21,7 +21,7 @@ endBefore s (suc i) = offset s i + bodyLength s i
 
 -- 5: reserved flag bits or Version not 0; Persistent without Current
 unfoldable pub flagsRule : ℕ → Refusal
-flagsRule f = text.flagsRule (refuse 5) (refuse 5) (refuse 5) f
+flagsRule f = text.flagsGiving (refuse 5) (refuse 5) (refuse 5) f
 
 -- 4: feature number 0, or not above the one before. 5: flags. 6: body length no multiple of 4. 7: offset not the end of the body before
 unfoldable pub entryRule : (number before flags len offset end : ℕ) → Refusal
@@ -40,7 +40,7 @@ entryFault s i = entryRule (number s i) (numberBefore s i) (flags s i) (bodyLeng
 unfoldable pub counted : (s : List ℕ) (n p : ℕ) → Refusal
 counted s n p =
     refuse 2 if ltb 63 p else
-    profilesFault (profilesPart s) orElse
+    recordsFault (profilesPart s) orElse
     firstOf (entryFault s) 0 n orElse
     refuse 8 if not (eqb (length s) (endBefore s n)) else
     accept

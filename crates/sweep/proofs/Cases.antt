@@ -10,11 +10,11 @@ use borrow.Author.Tests.{ltb-false, eqb-false}
 use Rattle.base.specs.Lists.{flat}
 use Rattle.refusal.specs.declared.Refusal.{Refusal}
 use Rattle.refusal.specs.First.{_orElse_}
-use Rattle.text.specs.Response.{bytes}
+use Rattle.text.specs.Response.{bytes, most}
 use Rattle.text.specs.Reading.{readFault, lastNumber}
 use Rattle.refusal.proofs.First.{if-zero, orElse-assoc, orElse-zero}
 use Rattle.sweep.specs.declared.Sweep.{Sweep}
-use Rattle.sweep.specs.Sweep.{most, startRule, notStarted, fresh, started, cut, empty, wholesOf, openRule, roomRule, takeFault, advanced, endedNow, after, stepped, collecting, refusedStep}
+use Rattle.sweep.specs.Sweep.{startRule, notStarted, fresh, started, cut, empty, wholesOf, openRule, roomRule, takeFault, advanced, endedNow, after, stepped, collecting, refusedStep}
 use Rattle.sweep.specs.inner.Numbers.{closedRule}
 
 -- ---- starting

@@ -13,8 +13,8 @@ use Rattle.lent.proofs.Laws.{placed}
 use Rattle.refusal.specs.declared.Refusal.{Refusal}
 use Rattle.refusal.specs.First.{refuse, accept, _if_else_, _orElse_}
 use Rattle.text.specs.Drive.{Desc}
-use Rattle.text.specs.Response.{bytes}
-use Rattle.text.specs.Reading.{statedEnd, refused, taken, readFault, lastNumber}
+use Rattle.text.specs.Response.{bytes, most}
+use Rattle.text.specs.Reading.{statedEnd, nothingRead, taken, readFault, lastNumber}
 use Rattle.refusal.proofs.First.{orElse-none, orElse-fault}
 use Rattle.text.proofs.Walk.{wholes-accepted}
 use Rattle.text.proofs.Again.{walked-again}
@@ -23,7 +23,7 @@ use Rattle.reading.specs.declared.Scanned.{Scanned}
 use Rattle.reading.specs.Scan.{scanned}
 use Rattle.sweep.specs.declared.Sweep.{Sweep}
 use Rattle.sweep.specs.declared.Step.{Step}
-use Rattle.sweep.specs.Sweep.{most, cut, empty, wholesOf, roomRule, takeFault, advanced, stepped, collecting, refusedStep}
+use Rattle.sweep.specs.Sweep.{cut, empty, wholesOf, roomRule, takeFault, advanced, stepped, collecting, refusedStep}
 use Rattle.sweep.specs.inner.Numbers.{closedRule, cutRule, spaceRule, scanRule, moved}
 use Rattle.sweep.proofs.Cases.{stepped-fault, collecting-fault, stepped-none, collecting-none, Taken, taken-facts, closed-first}
 
@@ -54,7 +54,7 @@ module _ (w : Sweep) (s : List ℕ) (room : ℕ) where
   -- the reading's refusal, then those of the room
   scan-room : scanRule w (scanned (most (w .allocation)) (w .rt) (w .next .0) s) (length s) room
       ≡ (readFault (most (w .allocation)) (w .rt) (w .next .0) s orElse roomRule w s (wholesOf w s) room)
-  unfolding scanRule scanned refused taken wholesOf
+  unfolding scanRule scanned nothingRead taken wholesOf
   scan-room =
       reading-cases (most (w .allocation)) (w .rt) (w .next .0) s
       (λ r ds.

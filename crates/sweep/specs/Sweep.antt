@@ -1,21 +1,17 @@
 -- The sweep: starting one, and what it makes of a response. Assumes nothing: these are definitions.
 use mathlib.Core.Bool.{Bool, true, false, not, _&&_}
 use mathlib.Core.List.{List, [], _∷_, _++_}
-use Prim.Native.Nat.{ℕ, zero, suc, _+_, min}
+use Prim.Native.Nat.{ℕ, zero, suc, _+_}
 use lib.Dec.{ltb, eqb}
 use lib.ListN.{length, take, drop}
 use Rattle.base.specs.Lists.{flat}
 use Rattle.refusal.specs.declared.Refusal.{Refusal}
 use Rattle.refusal.specs.First.{refuse, accept, _if_else_, _orElse_}
 use Rattle.text.specs.Drive.{Desc}
-use Rattle.text.specs.Response.{bytes}
+use Rattle.text.specs.Response.{bytes, most}
 use Rattle.text.specs.Reading.{statedEnd, walked, readFault, lastNumber}
 use Rattle.sweep.specs.declared.Sweep.{Sweep}
 use Rattle.sweep.specs.declared.Step.{Step}
-
--- C: the most bytes that a response to allocation length a has
-abbrev pub most : ℕ → ℕ
-most a = min a 65534
 
 -- 21: RT over 1. 22: allocation length under 8
 unfoldable pub startRule : (rt a : ℕ) → Refusal

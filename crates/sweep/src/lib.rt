@@ -2,8 +2,9 @@
 ghost use mathlib.Core.Path.{_≡_};
 ghost use mathlib.Core.Bool.{false};
 ghost use Prim.Native.Nat.{_-_, _<_};
-ghost use Rattle.sweep.specs.Sweep.{most, startRule, openRule, started, stepped, collecting, refusedStep};
+ghost use Rattle.sweep.specs.Sweep.{startRule, openRule, started, stepped, collecting, refusedStep};
 ghost use Rattle.sweep.specs.inner.Numbers.{closedRule, cutRule, spaceRule, scanRule, moved};
+ghost use Rattle.text.specs.Response.{most};
 use reading::Scanned;
 use refusal::Refusal;
 use text::Feature;
@@ -74,16 +75,6 @@ fn space_rule(collected: usize, size: usize, room: usize) -> Refusal
     refusal::ACCEPTED
 }
 
-// C: the most bytes that a response to an allocation length has.
-pub fn most(allocation: u16) -> usize
-    ensures { λ r. ⌜ r ≡ most allocation ⌝ }
-{
-    if (allocation as usize) < Header::RETURN_LIMIT {
-        return allocation as usize;
-    }
-    Header::RETURN_LIMIT
-}
-
 // How many bytes stand behind the header, up to end.
 fn behind_header(end: usize) -> usize
     ensures { λ r. ⌜ r ≡ end - 8 ⌝ }
@@ -134,7 +125,7 @@ impl Sweep {
         let fault = cut_rule(
             reading.complete,
             received,
-            most(self.allocation),
+            text::most(self.allocation),
             reading.count,
             last,
         );
@@ -222,7 +213,7 @@ impl Sweep {
         if fault.number != 0 {
             return self.refused(fault);
         }
-        let scan = reading::scan(most(self.allocation), self.rt, self.next, response);
+        let scan = reading::scan(text::most(self.allocation), self.rt, self.next, response);
         let fault = self.scan_rule(scan, response.len(), out.len());
         if fault.number != 0 {
             return self.refused(fault);

@@ -6,7 +6,7 @@ use Prim.Native.Nat.{ℕ}
 use Rattle.refusal.specs.declared.Refusal.{Refusal}
 use Rattle.refusal.specs.First.{accept, _if_else_}
 use Rattle.refusal.proofs.First.{orElse-none, orElse-zero}
-use Rattle.text.specs.Flags.{reserved, version, persistent, current, flagsRule}
+use Rattle.text.specs.Flags.{reserved, version, persistent, current, flagsGiving}
 
 -- reserved bits and Version 0, Persistent only with Current
 pub record Flagged (f : ℕ) : Type 0 where
@@ -37,8 +37,8 @@ not-alone true c h = rw (h refl)
 not-alone false c h = refl
 
 module _ (a b c : Refusal) (f : ℕ) where
-  pub flags-good : (a .number ≡ 0 → ⊥) → (b .number ≡ 0 → ⊥) → (c .number ≡ 0 → ⊥) → flagsRule a b c f .number ≡ 0 → Flagged f
-  unfolding flagsRule
+  pub flags-good : (a .number ≡ 0 → ⊥) → (b .number ≡ 0 → ⊥) → (c .number ≡ 0 → ⊥) → flagsGiving a b c f .number ≡ 0 → Flagged f
+  unfolding flagsGiving
   flags-good h i j e =
       let x = orElse-zero _ _ e in
       let y = orElse-zero _ _ (x .1) in
@@ -48,8 +48,8 @@ module _ (a b c : Refusal) (f : ℕ) where
         current-too = λ p. eqb-true _ _ (alone-too _ _ (if-no c _ j (y .1)) (eq-eqb _ _ p));
       }
 
-  pub flags-accept : Flagged f → flagsRule a b c f ≡ accept
-  unfolding flagsRule
+  pub flags-accept : Flagged f → flagsGiving a b c f ≡ accept
+  unfolding flagsGiving
   flags-accept g =
       orElse-none _ _ (none a _ (ap not (eq-eqb (reserved f) 0 (g .reserved-zero))))
       ∙ orElse-none _ _ (none b _ (ap not (eq-eqb (version f) 0 (g .version-zero))))

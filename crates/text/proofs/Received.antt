@@ -1,20 +1,18 @@
 -- A response as it was received: where its whole descriptors stand, and what a reading says of them. Assumes nothing.
 use mathlib.Core.Path.{_≡_, refl, ap, _∙_}
 use mathlib.Core.List.{List, [], _∷_, _++_}
-use Prim.Native.Nat.{ℕ, zero, suc, _+_, _-_, _≤_, _<_}
+use Prim.Native.Nat.{ℕ, zero, suc, _+_, _-_, _≤_}
 use native.Mathlib.Nat.{add-assoc}
 use native.Mathlib.Omega.{arith}
 use lib.ListN.{length, take, drop, length-append, length-drop}
 use lib.Seq.{length-take-le}
 use Rattle.base.specs.Lists.{flat, Bytes}
 use Rattle.base.proofs.Lists.{take-more}
-use Rattle.refusal.specs.declared.Refusal.{Refusal}
 use Rattle.text.specs.declared.Reading.{Reading}
-use Rattle.refusal.specs.First.{refuse}
 use Rattle.refusal.proofs.First.{unless-none, unless-fault}
 use Rattle.text.specs.Drive.{Desc, Asc}
 use Rattle.text.specs.Response.{bytes}
-use Rattle.text.specs.Reading.{lengthAt, descAt, walk, statedLength, statedEnd, walked, readFault, refused, taken, reading, wholes}
+use Rattle.text.specs.Reading.{lengthAt, descAt, walk, statedEnd, walked, readFault, nothingRead, taken, reading, wholes}
 use Rattle.text.proofs.Sizes.{length-bytes}
 use Rattle.text.proofs.Walk.{walk-induct, readFault-header, wholes-accepted, wholes-refused}
 use Rattle.text.proofs.Again.{bytes-descAt, walk-asc}
@@ -69,18 +67,18 @@ stand-ends s at (d ∷ ds) l h =
 
 module _ (limit rt sfn : ℕ) (s : List ℕ) where
   module _ (k : readFault limit rt sfn s .number ≡ 0 → ⊥) where
-    pub reading-fault : reading limit rt sfn s ≡ refused (readFault limit rt sfn s)
+    pub reading-fault : reading limit rt sfn s ≡ nothingRead (readFault limit rt sfn s)
     unfolding reading
-    reading-fault = unless-fault (readFault limit rt sfn s) refused (taken s (walked rt sfn s .found)) k
+    reading-fault = unless-fault (readFault limit rt sfn s) nothingRead (taken s (walked rt sfn s .found)) k
 
   module _ (k : readFault limit rt sfn s .number ≡ 0) where
     pub reading-none : reading limit rt sfn s ≡ taken s (walked rt sfn s .found)
     unfolding reading
-    reading-none = unless-none (readFault limit rt sfn s) refused (taken s (walked rt sfn s .found)) k
+    reading-none = unless-none (readFault limit rt sfn s) nothingRead (taken s (walked rt sfn s .found)) k
 
   -- what holds of a refused reading, and of an accepted one, holds of every reading and its whole descriptors
   pub reading-cases : (P : Reading → List Desc → Type 0)
-      → ((readFault limit rt sfn s .number ≡ 0 → ⊥) → P (refused (readFault limit rt sfn s)) [])
+      → ((readFault limit rt sfn s .number ≡ 0 → ⊥) → P (nothingRead (readFault limit rt sfn s)) [])
       → (readFault limit rt sfn s .number ≡ 0 → P (taken s (walked rt sfn s .found)) (walked rt sfn s .found))
       → P (reading limit rt sfn s) (wholes limit rt sfn s)
   reading-cases P bad fine = go (readFault limit rt sfn s .number) refl
@@ -101,16 +99,16 @@ module _ (limit rt sfn : ℕ) (s : List ℕ) where
 
   -- count and end are theirs
   pub reading-count : reading limit rt sfn s .count ≡ length (wholes limit rt sfn s)
-  unfolding refused taken
+  unfolding nothingRead taken
   reading-count = reading-cases (λ r ds. r .count ≡ length ds) (λ k. refl) (λ k. refl)
 
   pub reading-end : reading limit rt sfn s .end - 8 ≡ length (flat bytes (wholes limit rt sfn s))
-  unfolding refused taken flat
+  unfolding nothingRead taken flat
   reading-end = reading-cases (λ r ds. r .end - 8 ≡ length (flat bytes ds)) (λ k. refl) (λ k. omega arith)
 
   -- the end of a reading lies in what was received
   pub reading-within : reading limit rt sfn s .end ≤ length s
-  unfolding refused taken readFault walked
+  unfolding nothingRead taken readFault walked
   reading-within =
       reading-cases (λ r ds. r .end ≤ length s) (λ k. omega arith)
       (λ k.

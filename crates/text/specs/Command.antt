@@ -8,7 +8,6 @@ use lib.ListN.{length, getD}
 use Rattle.fields.specs.Field.{field}
 use Rattle.refusal.specs.declared.Refusal.{Refusal}
 use Rattle.text.specs.declared.Command.{Command}
-use Rattle.text.specs.declared.Header.{Header}
 use Rattle.refusal.specs.First.{refuse, accept, _if_else_}
 
 unfoldable pub opcodeOf : List ℕ → ℕ
@@ -33,7 +32,3 @@ commandFault c =
 
 unfoldable pub commandOf : List ℕ → Command
 commandOf c = record { rt = rtOf c; sfn = record { 0 = sfnOf c }; allocation = allocationOf c }
-
--- the header type's constructor
-unfoldable pub headerOf : (dataLength profile : ℕ) → Header
-headerOf dataLength profile = record { data_length = dataLength; profile = record { 0 = profile } }

@@ -23,8 +23,8 @@ alone f = eqb (persistent f) 1 && not (eqb (current f) 1)
 
 -- the first refusal of a flags byte, where whoever asks gives a refusal for each rule, `accept` for a rule that is not looked at: reserved bits
 -- not 0; Version not 0; Persistent without Current
-unfoldable pub flagsRule : (bits newer lone : Refusal) (flags : ℕ) → Refusal
-flagsRule bits newer lone f =
+unfoldable pub flagsGiving : (bits newer lone : Refusal) (flags : ℕ) → Refusal
+flagsGiving bits newer lone f =
     (bits if not (eqb (reserved f) 0) else accept) orElse
     (newer if not (eqb (version f) 0) else accept) orElse
     (lone if alone f else accept)

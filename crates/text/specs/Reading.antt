@@ -1,5 +1,5 @@
 -- What a received byte string means to the driver. Assumes nothing: these are definitions.
-use mathlib.Core.Bool.{Bool, true, false, not, _&&_}
+use mathlib.Core.Bool.{true, false, not, _&&_}
 use mathlib.Core.List.{List, [], _∷_}
 use Prim.Native.Nat.{ℕ, zero, suc, _+_, _%_}
 use lib.Dec.{ltb, leb, eqb}
@@ -11,7 +11,7 @@ use Rattle.text.specs.declared.Reading.{Reading}
 use Rattle.refusal.specs.First.{refuse, accept, _if_else_, _orElse_, unless}
 use Rattle.text.specs.Flags.{current}
 use Rattle.text.specs.Drive.{Desc}
-use Rattle.text.specs.Response.{bytes}
+use Rattle.text.specs.Response.{bytes, headerLength, returnLimit}
 
 -- the header's fields
 unfoldable pub statedLength : List ℕ → ℕ
@@ -29,8 +29,8 @@ statedEnd s = statedLength s + 4
 unfoldable pub headerRule : (limit rt received stated : ℕ) → Refusal
 headerRule limit rt received stated =
     refuse 13 if ltb 2 rt else
-    refuse 14 if ltb received 8 else
-    refuse 14 if ltb 65534 received else
+    refuse 14 if ltb received headerLength else
+    refuse 14 if ltb returnLimit received else
     refuse 15 if ltb stated 4 else
     refuse 15 if not (eqb (stated % 4) 0) else
     refuse 16 if ltb (stated + 4) received else
@@ -93,7 +93,7 @@ walk (suc k) rt sfn end s lo at =
 
 -- the walk over a whole response: each step takes 4 bytes or more, so as many steps as bytes are enough
 unfoldable pub walked : (rt sfn : ℕ) (s : List ℕ) → Walked
-walked rt sfn s = walk (length s) rt sfn (statedEnd s) s sfn 8
+walked rt sfn s = walk (length s) rt sfn (statedEnd s) s sfn headerLength
 
 -- the first refusal of a reading
 unfoldable pub readFault : (limit rt sfn : ℕ) (s : List ℕ) → Refusal
@@ -101,8 +101,8 @@ readFault limit rt sfn s = headerRule limit rt (length s) (statedLength s) orEls
 
 -- a refusal, every other field 0; and what an accepted reading gives: profile, Data Length, count of whole descriptors, the place behind the
 -- last (8 if none), complete or cut
-unfoldable pub refused : Refusal → Reading
-refused r = record { refusal = r; profile = record { 0 = 0 }; data_length = 0; count = 0; end = 0; complete = false }
+unfoldable pub nothingRead : Refusal → Reading
+nothingRead r = record { refusal = r; profile = record { 0 = 0 }; data_length = 0; count = 0; end = 0; complete = false }
 
 unfoldable pub taken : List ℕ → List Desc → Reading
 taken s ds = record {
@@ -110,13 +110,13 @@ taken s ds = record {
   profile = record { 0 = statedProfile s };
   data_length = statedLength s;
   count = length ds;
-  end = 8 + length (flat bytes ds);
+  end = headerLength + length (flat bytes ds);
   complete = eqb (length s) (statedEnd s);
 }
 
 -- the reading of a response to RT rt from sfn
 unfoldable pub reading : (limit rt sfn : ℕ) (s : List ℕ) → Reading
-reading limit rt sfn s = unless (readFault limit rt sfn s) refused (taken s (walked rt sfn s .found))
+reading limit rt sfn s = unless (readFault limit rt sfn s) nothingRead (taken s (walked rt sfn s .found))
 
 -- the whole descriptors of a response, none where it is refused
 unfoldable pub wholes : (limit rt sfn : ℕ) (s : List ℕ) → List Desc

@@ -6,6 +6,7 @@ use lib.Dec.{leb, eqb}
 use lib.ListN.{length, take}
 use Rattle.base.specs.Lists.{flat, keep}
 use Rattle.fields.specs.Field.{spell}
+use Rattle.text.specs.declared.Header.{Header}
 use Rattle.text.specs.Flags.{current}
 use Rattle.text.specs.Drive.{Desc, Listed, Drive, profileBytes}
 
@@ -36,9 +37,17 @@ unfoldable pub currentProfile : List Listed → ℕ
 currentProfile [] = 0
 currentProfile (p ∷ ps) = elim (p .on) [ true ↦ p .number | false ↦ currentProfile ps ]
 
+-- the header's length
+abbrev pub headerLength : ℕ
+headerLength = 8
+
 -- the header: Data Length (4), two zero bytes, Current Profile (2)
 unfoldable pub header : (dataLength profile : ℕ) → List ℕ
 header dataLength profile = spell 4 dataLength ++ (0 ∷ 0 ∷ []) ++ spell 2 profile
+
+-- the header type's constructor
+unfoldable pub headerOf : (dataLength profile : ℕ) → Header
+headerOf dataLength profile = record { data_length = dataLength; profile = record { 0 = profile } }
 
 -- Data Length: the length of the full response less 4, whatever the allocation length
 unfoldable pub dataLength : List Desc → ℕ
@@ -48,6 +57,14 @@ dataLength ds = 4 + length (flat bytes ds)
 unfoldable pub full : (rt sfn : ℕ) → Drive → List ℕ
 full rt sfn m = header (dataLength (selected rt sfn m)) (currentProfile (m .profiles)) ++ flat bytes (selected rt sfn m)
 
+-- the most bytes that are sent, whatever the allocation length
+abbrev pub returnLimit : ℕ
+returnLimit = 65534
+
+-- C: the most bytes that a response to allocation length a has
+abbrev pub most : ℕ → ℕ
+most a = min a returnLimit
+
 -- what is sent: the first bytes of the full response, as many as the allocation length a and the return limit let through
 unfoldable pub sent : (rt sfn a : ℕ) → Drive → List ℕ
-sent rt sfn a m = take (min a 65534) (full rt sfn m)
+sent rt sfn a m = take (most a) (full rt sfn m)

@@ -3,8 +3,9 @@ ghost use mathlib.Core.Path.{_≡_};
 ghost use mathlib.Core.Bool.{not};
 ghost use lib.Dec.{eqb};
 ghost use Rattle.refusal.specs.First.{accept, _if_else_};
-ghost use Rattle.text.specs.Flags.{reserved, version, persistent, current, alone, flagsRule};
-ghost use Rattle.text.specs.Command.{commandFault, commandOf, headerOf};
+ghost use Rattle.text.specs.Flags.{reserved, version, persistent, current, alone, flagsGiving};
+ghost use Rattle.text.specs.Command.{commandFault, commandOf};
+ghost use Rattle.text.specs.Response.{headerOf, most};
 use refusal::Refusal;
 
 // A feature number. C takes it as a struct of one number (include/gcf.h).
@@ -84,7 +85,7 @@ impl Flags {
 
     // The first refusal of the flags; a rule whose refusal is `refusal::ACCEPTED` is not looked at.
     pub fn fault(self, bits: Refusal, newer: Refusal, lone: Refusal) -> Refusal
-        ensures { λ r. ⌜ r ≡ flagsRule bits newer lone (self .0) ⌝ }
+        ensures { λ r. ⌜ r ≡ flagsGiving bits newer lone (self .0) ⌝ }
     {
         let fault = self.reserved_fault(bits);
         if fault.number != 0 {
@@ -167,4 +168,14 @@ impl Header {
             profile: profile,
         }
     }
+}
+
+// C: the most bytes that a response to an allocation length has.
+pub fn most(allocation: u16) -> usize
+    ensures { λ r. ⌜ r ≡ most allocation ⌝ }
+{
+    if (allocation as usize) < Header::RETURN_LIMIT {
+        return allocation as usize;
+    }
+    Header::RETURN_LIMIT
 }

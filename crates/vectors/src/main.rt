@@ -591,7 +591,7 @@ fn run_bench(rt: u8, a: u16, sheet: &[u8], out: &mut [u8]) -> [u64; 8] {
 // The operations of a sweep.
 fn run_sweep(operation: u8, n: [u64; 8], a: &[u8], out: &mut [u8]) -> [u64; 8] {
     match operation {
-        10 => return one(sweep::most(low16(n[0])) as u64),
+        10 => return one(text::most(low16(n[0])) as u64),
         11 => return after(Sweep::start(low8(n[0]), low16(n[1]))),
         12 => return after(record(n).take(a, out)),
         13 => return after(lent_step(record(n), a, out)),

@@ -3,15 +3,15 @@ use borrow.Author.Needs.{needs}
 use Prim.Native.Nat.{_-_}
 use mathlib.Core.Path.{_≡_, refl}
 use lib.ListN.{length}
-use Rattle.import.specs.Import.{flagsFault}
-use Rattle.reading.specs.Places.{from}
+use Rattle.import.specs.Import.{flagsFaults}
+use Rattle.reading.specs.inner.Between.{from}
 use Rattle.reading.proofs.Places.{from-less}
 use Rattle.import.proofs.Faults.{flags-stop, flags-go, flags-none}
 use Rattle.import.proofs.flags_fault.Statement.{statement}
 use Rattle.import.proofs.flags_fault.Tie as tie
 
 abbrev Inv-loop : tie.InvT-loop
-Inv-loop s first at₀ at = flagsFault (from s first) ≡ flagsFault (from s at)
+Inv-loop s first at₀ at = flagsFaults (from s first) ≡ flagsFaults (from s at)
 
 abbrev μ-loop : tie.MeasureT-loop
 μ-loop s first at₀ at = length s - at

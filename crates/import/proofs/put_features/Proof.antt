@@ -7,9 +7,9 @@ use lib.ListN.{length}
 use lib.Seq.{sets}
 use Rattle.lent.proofs.Laws.{kept}
 use Rattle.sheet.specs.Meaning.{contents}
-use Rattle.reading.specs.Places.{from}
+use Rattle.reading.specs.inner.Between.{from}
 use Rattle.reading.proofs.Places.{from-less}
-use Rattle.import.specs.Pieces.{bodies}
+use Rattle.import.specs.inner.Pieces.{bodies}
 use Rattle.import.proofs.Beside.{Passed, passed-start, passed-more, passed-end}
 use Rattle.import.proofs.put_features.Statement.{statement}
 use Rattle.import.proofs.put_features.Tie as tie

@@ -2,7 +2,7 @@
 use Prim.Native.Nat.{_-_, _≤_}
 use lib.ListN.{length}
 use Rattle.lent.proofs.Laws.{kept}
-use Rattle.reading.specs.Places.{between}
+use Rattle.reading.specs.inner.Between.{between}
 use Rattle.reading.proofs.Places.{left-less}
 use Rattle.listing.proofs.Passed.{Passed, passed-start, passed-within, passed-more, passed-end}
 use borrow.Author.Needs.{needs}

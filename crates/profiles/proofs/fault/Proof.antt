@@ -5,7 +5,7 @@ use mathlib.Core.Path.{_≡_}
 use native.Mathlib.Omega.{arith}
 use Rattle.refusal.specs.First.{firstOf}
 use Rattle.refusal.proofs.First.{rest, first-start, first-stop, first-go, first-none}
-use Rattle.profiles.specs.Profiles.{recordFault, profilesFault}
+use Rattle.profiles.specs.Profiles.{recordFault, recordsFault}
 use Rattle.profiles.proofs.fault.Statement.{statement}
 use Rattle.profiles.proofs.fault.Tie as tie
 
@@ -19,14 +19,14 @@ loop-holds : tie.Need-loop-holds Inv-loop μ-loop
 loop-holds c = (omega arith, search first-start)
 
 returns : tie.Need-returns Inv-loop μ-loop
-unfolding profilesFault
+unfolding recordsFault
 returns c = search first-stop
 
 loop-again : tie.Need-loop-again Inv-loop μ-loop
 loop-again c = (omega arith, search first-go)
 
 returns-2 : tie.Need-returns-2 Inv-loop μ-loop
-unfolding profilesFault
+unfolding recordsFault
 returns-2 c = search first-none
 
 pub fault-spec : {M : Type 1} → statement M

@@ -1,11 +1,11 @@
 -- `profiles::record_fault` meets its contract: the rule at what stands in the list.
-use Rattle.profiles.specs.Profiles.{number, current, last, recordFault}
+use Rattle.profiles.specs.Profiles.{profileNumber, profileCurrent, profileLast, recordFault}
 use borrow.Author.Needs.{needs}
 use Rattle.profiles.proofs.record_fault.Statement.{statement}
 use Rattle.profiles.proofs.record_fault.Tie as tie
 
 returns : tie.Need-returns
-unfolding recordFault number current last
+unfolding recordFault profileNumber profileCurrent profileLast
 returns c = cc
 
 pub record-fault-spec : {M : Type 1} → statement M

@@ -1,6 +1,6 @@
 -- `reading::head_at` meets its contract: the rule at what is read.
 use Rattle.text.specs.Reading.{headFault}
-use Rattle.reading.specs.Scan.{headAt}
+use Rattle.reading.specs.inner.Tally.{headAt}
 use borrow.Author.Needs.{needs}
 use Rattle.reading.proofs.head_at.Statement.{statement}
 use Rattle.reading.proofs.head_at.Tie as tie

@@ -2,7 +2,7 @@
 use borrow.Author.Needs.{needs}
 use Prim.Native.Nat.{_-_, _≤_}
 use lib.ListN.{length}
-use Rattle.reading.specs.Places.{between}
+use Rattle.reading.specs.inner.Between.{between}
 use Rattle.reading.proofs.Places.{left-less}
 use Rattle.reading.proofs.Rest.{Rest, rest-start, rest-within, rest-here, rest-above, rest-next, rest-end}
 use Rattle.reading.proofs.held_in.Statement.{statement}

@@ -5,7 +5,7 @@ use mathlib.Core.Path.{_≡_}
 use native.Mathlib.Omega.{arith}
 use lib.ListN.{length}
 use Rattle.text.specs.Reading.{walk}
-use Rattle.reading.specs.Scan.{tally}
+use Rattle.reading.specs.inner.Tally.{tally}
 use Rattle.reading.proofs.Tally.{left, loop-start, loop-end, loop-fault, loop-cut, loop-more}
 use Rattle.reading.proofs.walk_over.Statement.{statement}
 use Rattle.reading.proofs.walk_over.Tie as tie

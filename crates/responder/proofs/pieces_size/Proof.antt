@@ -1,7 +1,7 @@
 -- `responder::pieces_size` meets its contract: the loop adds up the entries passed.
 use borrow.Author.Needs.{needs}
-use Prim.Native.Nat.{_+_, _-_, _*_, _≤_}
-use mathlib.Core.Path.{_≡_, sym, ap, _∙_}
+use Prim.Native.Nat.{_-_, _*_, _≤_}
+use mathlib.Core.Path.{_≡_, ap, _∙_}
 use native.Mathlib.Omega.{arith}
 use Rattle.responder.specs.inner.Index.{piecesSize}
 use Rattle.responder.proofs.Laws.{sizes-start, sizes-more}

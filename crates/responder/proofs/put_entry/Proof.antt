@@ -1,12 +1,12 @@
 -- `responder::put_entry` meets its contract: four writings one after the other.
 use Rattle.lent.proofs.Laws.{then}
-use Rattle.responder.specs.inner.Index.{entryBytes}
+use Rattle.responder.specs.inner.Index.{descBytes}
 use borrow.Author.Needs.{needs}
 use Rattle.responder.proofs.put_entry.Statement.{statement}
 use Rattle.responder.proofs.put_entry.Tie as tie
 
 returns : tie.Need-returns
-unfolding entryBytes
+unfolding descBytes
 returns c =
     rw (← c .before .before .before .before .before .before .before .before .before .before .before .before .before .before .before .before .before .before .before .before .feature-at .ensures, ← c .before .before .before .before .before .before .before .before .before .before .before .flags-at .ensures, ← c .before .before .before .before .before .before .before .before .before .before .before .before .before .before .before .before .before .before .before .length-at .ensures, ← c .before .before .before .before .before .before .before .before .before .before .before .before .before .before .before .before .before .before .offset-at .ensures, ← c .before .before .before .before .before .before .before .before .before .before .before .before .before .before .before .before .before .part .ensures .holds)
     (then (then (then (c .before .before .before .before .before .before .before .before .before .before .before .before .before .before .before .put2 .ensures) (c .before .before .before .before .before .before .before .before .before .before .put .ensures)) (c .before .before .before .before .before .before .put3 .ensures)) (c .before .before .copy .ensures))

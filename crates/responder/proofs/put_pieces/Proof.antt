@@ -1,7 +1,7 @@
 -- `responder::put_pieces` meets its contract: the loop has written the entries passed; a full buffer takes no more.
 use mathlib.Core.Path.{_≡_}
 use borrow.Author.Needs.{needs}
-use Prim.Native.Nat.{_+_, _-_, _≤_}
+use Prim.Native.Nat.{_-_, _≤_}
 use native.Mathlib.Omega.{arith}
 use Rattle.lent.specs.Wrote.{Wrote}
 use Rattle.lent.proofs.Laws.{nothing, then, kept}

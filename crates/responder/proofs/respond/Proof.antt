@@ -1,5 +1,5 @@
 -- `responder::respond` meets its contract: the sheet's refusal, or what the command is answered from a sheet that is accepted.
-use mathlib.Core.Path.{_≡_, sym, ap, _∙_}
+use mathlib.Core.Path.{sym, ap, _∙_}
 use native.Mathlib.Omega.{arith}
 use Rattle.refusal.proofs.First.{unless-none}
 use Rattle.lent.specs.Maker.{refusing}

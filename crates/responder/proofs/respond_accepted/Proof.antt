@@ -1,5 +1,5 @@
 -- `responder::respond_accepted` meets its contract: the command's refusal, or what is sent.
-use mathlib.Core.Path.{_≡_, sym, ap, _∙_}
+use mathlib.Core.Path.{sym, ap, _∙_}
 use Rattle.text.specs.declared.Command.{Command}
 use Rattle.text.specs.Command.{commandOf, commandFault}
 use Rattle.responder.specs.Trusting.{trusting, trustingCommand}

@@ -3,8 +3,7 @@ use mathlib.Core.Path.{sym, ap, _∙_}
 use mathlib.Core.List.{List}
 use Prim.Native.Nat.{ℕ, _+_, min}
 use lib.Seq.{length-take-le}
-use Rattle.text.specs.Command.{headerOf}
-use Rattle.text.specs.Response.{currentProfile}
+use Rattle.text.specs.Response.{currentProfile, headerOf}
 use Rattle.profiles.specs.Profiles.{profilesOf}
 use Rattle.responder.proofs.Trusting.{send-short, send-sent}
 use borrow.Author.Needs.{needs}

@@ -1,7 +1,5 @@
 -- `responder::wanted_end` meets its contract, by the cases of RT and of the entry.
-use mathlib.Core.Path.{_≡_, sym, _∙_}
-use native.Mathlib.Omega.{arith}
-use Rattle.layout.specs.Layout.{number}
+use mathlib.Core.Path.{sym, _∙_}
 use Rattle.responder.proofs.Laws.{end-all, end-none, end-one, end-other}
 use borrow.Author.Needs.{needs}
 use Rattle.responder.proofs.wanted_end.Statement.{statement}

@@ -23,11 +23,11 @@ unfoldable pub skips : (rt f : ℕ) → Bool
 skips rt f = eqb rt 1 && eqb (text.current f) 0
 
 -- the bytes of entry i's descriptor
-unfoldable pub entryBytes : List ℕ → ℕ → List ℕ
-entryBytes s i = spell 2 (number s i) ++ (flags s i ∷ []) ++ (bodyLength s i ∷ []) ++ take (bodyLength s i) (drop (offset s i) s)
+unfoldable pub descBytes : List ℕ → ℕ → List ℕ
+descBytes s i = spell 2 (number s i) ++ (flags s i ∷ []) ++ (bodyLength s i ∷ []) ++ take (bodyLength s i) (drop (offset s i) s)
 
 unfoldable pub piece : (rt : ℕ) (s : List ℕ) (i : ℕ) → List ℕ
-piece rt s i = elim (skips rt (flags s i)) [ true ↦ [] | false ↦ entryBytes s i ]
+piece rt s i = elim (skips rt (flags s i)) [ true ↦ [] | false ↦ descBytes s i ]
 
 -- those of k entries from an index on
 unfoldable pub pieces : (rt : ℕ) (s : List ℕ) (from k : ℕ) → List ℕ

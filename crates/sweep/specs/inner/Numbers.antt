@@ -3,11 +3,11 @@ use mathlib.Core.Bool.{Bool, true, false}
 use Prim.Native.Nat.{ℕ, _+_, _-_}
 use lib.Dec.{ltb, eqb}
 use Rattle.refusal.specs.declared.Refusal.{Refusal}
+use Rattle.text.specs.Response.{most}
 use Rattle.refusal.specs.First.{refuse, accept, _if_else_, _orElse_}
 use Rattle.reading.specs.declared.Scanned.{Scanned}
 use Rattle.sweep.specs.declared.Sweep.{Sweep}
-use Rattle.sweep.specs.declared.Step.{Step}
-use Rattle.sweep.specs.Sweep.{most, startRule, openRule, endedNow}
+use Rattle.sweep.specs.Sweep.{startRule, openRule}
 
 -- 21, 22, 26: what a record refuses whatever the response
 unfoldable pub closedRule : Sweep → Refusal

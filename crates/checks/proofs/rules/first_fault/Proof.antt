@@ -6,26 +6,27 @@ use mathlib.Core.Path.{_≡_}
 use lib.Dec.{eqb}
 use lib.ListN.{length}
 use Rattle.checks.specs.Pick.{pick}
-use Rattle.reading.specs.Places.{descs, from}
+use Rattle.reading.specs.Places.{descs}
+use Rattle.reading.specs.inner.Between.{from}
 use Rattle.reading.proofs.Places.{from-less}
 use Rattle.checks.proofs.Complete.{walk-start, walk-found, walk-next, walk-end}
 use Rattle.checks.proofs.Calls.{call-some, call-zero}
 use Rattle.refusal.specs.First.{accept}
 use Rattle.text.specs.Reading.{descAt}
 use Rattle.checks.specs.Rules.{descFault}
-use Rattle.checks.specs.Check.{finding, firstFault}
+use Rattle.checks.specs.Check.{finding, firstFinding}
 use Rattle.checks.proofs.Findings.{finding-eq}
 use Rattle.checks.proofs.rules.first_fault.Statement.{statement}
 use Rattle.checks.proofs.rules.first_fault.Tie as tie
 
 abbrev Inv-loop : tie.InvT-loop
-Inv-loop removable s at₀ at = firstFault removable (descs s) ≡ pick (λ d. not (eqb (descFault removable d .number) 0)) (λ d. finding (descFault removable d) (d .number)) (finding accept 0) (from s at)
+Inv-loop removable s at₀ at = firstFinding removable (descs s) ≡ pick (λ d. not (eqb (descFault removable d .number) 0)) (λ d. finding (descFault removable d) (d .number)) (finding accept 0) (from s at)
 
 abbrev μ-loop : tie.MeasureT-loop
 μ-loop removable s at₀ at = length s - at
 
 loop-holds : tie.Need-loop-holds Inv-loop μ-loop
-unfolding firstFault
+unfolding firstFinding
 loop-holds c = search walk-start
 
 returns : tie.Need-returns Inv-loop μ-loop

@@ -8,7 +8,8 @@ use Rattle.text.specs.Reading.{descAt}
 use Rattle.checks.specs.Pick.{some}
 use Rattle.checks.specs.Reported.{reported}
 use Rattle.checks.proofs.Calls.{call-eq, call-ne}
-use Rattle.reading.specs.Places.{descs, from}
+use Rattle.reading.specs.Places.{descs}
+use Rattle.reading.specs.inner.Between.{from}
 use Rattle.reading.proofs.Places.{from-less}
 use Rattle.checks.proofs.Complete.{walk-start, walk-found, walk-next, walk-end}
 use Rattle.checks.proofs.walk.reports.Statement.{statement}

@@ -1,7 +1,7 @@
 -- `text::Header::new` meets its contract.
 use borrow.Author.Needs.{needs}
-use Rattle.text.specs.Command.{headerOf}
 use Rattle.text.proofs.Header.new.Statement.{statement}
+use Rattle.text.specs.Response.{headerOf}
 use Rattle.text.proofs.Header.new.Tie as tie
 
 returns : tie.Need-returns

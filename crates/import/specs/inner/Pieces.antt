@@ -9,7 +9,8 @@ use Rattle.base.specs.Lists.{flat}
 use Rattle.fields.specs.Field.{spell}
 use Rattle.text.specs.Drive.{Desc}
 use Rattle.text.specs.Reading.{descAt}
-use Rattle.reading.specs.Places.{nextAt, from}
+use Rattle.reading.specs.Places.{nextAt}
+use Rattle.reading.specs.inner.Between.{from}
 use Rattle.sheet.specs.Meaning.{contents}
 
 -- the descriptors behind the first, which starts at byte 8
@@ -21,7 +22,7 @@ abbrev pub bodies : List Desc → List ℕ
 bodies ds = flat (λ (d : Desc). d .body) ds
 
 -- the buffer d has room for the entries of the descriptors from `first` on at `entries`, and for their bodies at `body`, which is behind all entries
-pub record Fits (s : List ℕ) (entries body first : ℕ) (d : List ℕ) : Type 0 where
+pub record HasSpace (s : List ℕ) (entries body first : ℕ) (d : List ℕ) : Type 0 where
   pub apart : entries + 8 * length (from s first) ≤ body
   pub room : body + length (bodies (from s first)) ≤ length d
   pub low : body + length (bodies (from s first)) < 4294967296
