@@ -1,4 +1,4 @@
--- A reading with the number of its last descriptor, and the walk behind it in numbers. Assumes nothing: these are definitions.
+-- A reading with the number of its last descriptor. Assumes nothing: these are definitions.
 use mathlib.Core.List.{List}
 use Prim.Native.Nat.{ℕ}
 use Rattle.text.specs.Reading.{reading, wholes, lastNumber}

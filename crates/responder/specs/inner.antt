@@ -1,2 +1,2 @@
--- What this crate's inner functions answer: no contract that another crate can use and no theorem of `demands` rests on these.
+-- The response by index of the entries, in whose words Trusting.antt says what comes of a sheet that was not checked: the contracts of `send` and `respond_accepted` rest on it there. From an accepted sheet `trusting-commanded` ties it to Answer.antt.
 pub mod Index
