@@ -21,8 +21,31 @@ pub struct Row {
     pub barred: bool,
 }
 
-// A line of the table: a row's feature as a plain number, length, masks and barred.
-struct Line(u16, Length, [u8; 12], bool);
+// A line of the table: a row's feature, length, masks and barred.
+struct Line(Feature, Length, [u8; 12], bool);
+
+// The features that the table names; a row keeps one line.
+const LIST: Feature = Feature(0x0000);
+
+const CORE: Feature = Feature(0x0001);
+
+const MORPH: Feature = Feature(0x0002);
+
+const MEDIUM: Feature = Feature(0x0003);
+
+const DVD: Feature = Feature(0x001F);
+
+const RANDOM: Feature = Feature(0x0020);
+
+const STREAM: Feature = Feature(0x0021);
+
+const OVER: Feature = Feature(0x0026);
+
+const TRACK: Feature = Feature(0x002D);
+
+const MASTER: Feature = Feature(0x002E);
+
+const DVD_R: Feature = Feature(0x002F);
 
 const ANY: Length = Length::Any;
 
@@ -36,21 +59,21 @@ const COUNTED: Length = Length::Counted;
 const F: u8 = 0xFF;
 
 const LEGAL: [Line; 11] = [
-    Line(0x0000, ANY, [F, F, 1, 0, F, F, 1, 0, F, F, 1, 0], false),
-    Line(0x0001, FOUR, [F, F, F, F, 0, 0, 0, 0, 0, 0, 0, 0], false),
-    Line(0x0002, FOUR, [1, 0, 0, 0, 0, 0, 0, 0, 0, 0, 0, 0], false),
-    Line(0x0003, FOUR, [0xED, 0, 0, 0, 0, 0, 0, 0, 0, 0, 0, 0], false),
-    Line(0x001F, NONE, [0, 0, 0, 0, 0, 0, 0, 0, 0, 0, 0, 0], true),
-    Line(0x0020, FOUR, [F, F, F, F, 0, 0, 0, 0, 0, 0, 0, 0], true),
-    Line(0x0021, COUNTED, [0, 0, 0, F, 0, 0, 0, 0, 0, 0, 0, 0], true),
-    Line(0x0026, FOUR, [F, F, F, F, 0, 0, 0, 0, 0, 0, 0, 0], true),
-    Line(0x002D, FOUR, [7, 0, 0, 0, 0, 0, 0, 0, 0, 0, 0, 0], true),
-    Line(0x002E, FOUR, [0x3F, F, F, F, 0, 0, 0, 0, 0, 0, 0, 0], true),
-    Line(0x002F, FOUR, [4, 0, 0, 0, 0, 0, 0, 0, 0, 0, 0, 0], true),
+    Line(LIST, ANY, [F, F, 1, 0, F, F, 1, 0, F, F, 1, 0], false),
+    Line(CORE, FOUR, [F, F, F, F, 0, 0, 0, 0, 0, 0, 0, 0], false),
+    Line(MORPH, FOUR, [1, 0, 0, 0, 0, 0, 0, 0, 0, 0, 0, 0], false),
+    Line(MEDIUM, FOUR, [0xED, 0, 0, 0, 0, 0, 0, 0, 0, 0, 0, 0], false),
+    Line(DVD, NONE, [0, 0, 0, 0, 0, 0, 0, 0, 0, 0, 0, 0], true),
+    Line(RANDOM, FOUR, [F, F, F, F, 0, 0, 0, 0, 0, 0, 0, 0], true),
+    Line(STREAM, COUNTED, [0, 0, 0, F, 0, 0, 0, 0, 0, 0, 0, 0], true),
+    Line(OVER, FOUR, [F, F, F, F, 0, 0, 0, 0, 0, 0, 0, 0], true),
+    Line(TRACK, FOUR, [7, 0, 0, 0, 0, 0, 0, 0, 0, 0, 0, 0], true),
+    Line(MASTER, FOUR, [0x3F, F, F, F, 0, 0, 0, 0, 0, 0, 0, 0], true),
+    Line(DVD_R, FOUR, [4, 0, 0, 0, 0, 0, 0, 0, 0, 0, 0, 0], true),
 ];
 
 // The highest feature that the table names: most features of a drive are above it and need no look at the table.
-const LAST_LISTED: Feature = Feature(0x002F);
+const LAST_LISTED: Feature = DVD_R;
 
 // A feature that the table does not name.
 const OTHER: Row = Row {
@@ -67,10 +90,11 @@ fn row_at(i: usize) -> Row
     ensures { λ r. ⌜ r ≡ getD legal i other ⌝ }
 {
     let line = LEGAL[i];
+    let feature = line.0;
     let length = line.1;
     let masks = line.2;
     Row {
-        feature: Feature(line.0),
+        feature: feature,
         length: length,
         masks: masks,
         barred: line.3,

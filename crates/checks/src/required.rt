@@ -22,31 +22,31 @@ pub struct Need {
     pub mask: u8,
 }
 
-// A line of the table: a need's profile, feature, least, place and mask as plain numbers.
-struct Line(u16, u16, u8, u8, u8);
+// A line of the table: a need's profile, feature, least, place and mask.
+struct Line(Profile, Feature, u8, u8, u8);
 
 // Logical units not conforming to a standard profile.
-const NON_STANDARD: u16 = 0xFFFF;
+const NON_STANDARD: Profile = Profile(0xFFFF);
 
-const DVD_RAM: u16 = 0x0012;
+const DVD_RAM: Profile = Profile(0x0012);
 
 // The lines of a profile ascend. Of 0010h the Page Present bit, bit 0 of byte 10, is asked for.
 const REQUIRED: [Line; 15] = [
-    Line(NON_STANDARD, 0x0000, 0, 0, 0),
-    Line(NON_STANDARD, 0x0001, 0, 0, 0),
-    Line(DVD_RAM, 0x0000, 0, 0, 0),
-    Line(DVD_RAM, 0x0001, 0, 0, 0),
-    Line(DVD_RAM, 0x0002, 0, 0, 0),
-    Line(DVD_RAM, 0x0003, 0, 0, 0),
-    Line(DVD_RAM, 0x0010, 8, 6, 0x01),
-    Line(DVD_RAM, 0x001F, 0, 0, 0),
-    Line(DVD_RAM, 0x0020, 0, 0, 0),
-    Line(DVD_RAM, 0x0023, 0, 0, 0),
-    Line(DVD_RAM, 0x0024, 0, 0, 0),
-    Line(DVD_RAM, 0x0100, 0, 0, 0),
-    Line(DVD_RAM, 0x0101, 0, 0, 0),
-    Line(DVD_RAM, 0x0105, 0, 0, 0),
-    Line(DVD_RAM, 0x0107, 0, 0, 0),
+    Line(NON_STANDARD, Feature(0x0000), 0, 0, 0),
+    Line(NON_STANDARD, Feature(0x0001), 0, 0, 0),
+    Line(DVD_RAM, Feature(0x0000), 0, 0, 0),
+    Line(DVD_RAM, Feature(0x0001), 0, 0, 0),
+    Line(DVD_RAM, Feature(0x0002), 0, 0, 0),
+    Line(DVD_RAM, Feature(0x0003), 0, 0, 0),
+    Line(DVD_RAM, Feature(0x0010), 8, 6, 0x01),
+    Line(DVD_RAM, Feature(0x001F), 0, 0, 0),
+    Line(DVD_RAM, Feature(0x0020), 0, 0, 0),
+    Line(DVD_RAM, Feature(0x0023), 0, 0, 0),
+    Line(DVD_RAM, Feature(0x0024), 0, 0, 0),
+    Line(DVD_RAM, Feature(0x0100), 0, 0, 0),
+    Line(DVD_RAM, Feature(0x0101), 0, 0, 0),
+    Line(DVD_RAM, Feature(0x0105), 0, 0, 0),
+    Line(DVD_RAM, Feature(0x0107), 0, 0, 0),
 ];
 
 // Line i.
@@ -56,9 +56,11 @@ fn need_at(i: usize) -> Need
     ensures { λ r. ⌜ r ≡ getD required i (line 0 0) ⌝ }
 {
     let line = REQUIRED[i];
+    let profile = line.0;
+    let feature = line.1;
     Need {
-        profile: Profile(line.0),
-        feature: Feature(line.1),
+        profile: profile,
+        feature: feature,
         least: line.2,
         place: line.3,
         mask: line.4,

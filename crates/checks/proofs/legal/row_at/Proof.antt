@@ -10,10 +10,10 @@ use Rattle.checks.proofs.legal.row_at.Tie as tie
 
 -- a row as a line of the table, and back
 abbrev plain : Row → Line
-plain r = record { 0 = r .feature .0; 1 = r .length; 2 = r .masks; 3 = r .barred }
+plain r = record { 0 = r .feature; 1 = r .length; 2 = r .masks; 3 = r .barred }
 
 abbrev row : Line → Row
-row l = record { feature = record { 0 = l .0 }; length = l .1; masks = l .2; barred = l .3 }
+row l = record { feature = l .0; length = l .1; masks = l .2; barred = l .3 }
 
 mul-line : tie.Need-mul-line
 unfolding legal
@@ -25,7 +25,7 @@ array-copy-out-line c = search needs
 
 returns : tie.Need-returns
 unfolding legal
-returns c = made-at row (map plain legal) (c .before .before .args .i) _ other (c .before .before .pre)
+returns c = made-at row (map plain legal) (c .before .before .before .args .i) _ other (c .before .before .before .pre)
 
 pub row-at-spec : {M : Type 1} → statement M
 row-at-spec = tie.close (tie.spec mul-line array-copy-out-line returns)
