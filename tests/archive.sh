@@ -22,6 +22,15 @@ archive_cross_tools() {
     } >target/cross.log 2>&1
 }
 
+# the kit's compiler for this processor
+archive_clang=("$archive_tools/bin/clang" --target="$archive_machine-unknown-linux-gnu" --no-default-config -Wno-override-module)
+
+# The same code without the processor that each function names: a compiler for another one would take it for one that can do nothing special.
+archive_unnamed() { # FILE OUT
+    "${archive_clang[@]}" -S -emit-llvm -Xclang -disable-llvm-passes -x ir "$1" -o "$2" &&
+        sed -i -E '/^attributes /s/ "(target-cpu|target-features|tune-cpu)"="[^"]*"//g' "$2"
+}
+
 # A kit like the one that is there, but for a compiler that also keeps the code it is handed; rt over it, and that code compiled for this processor.
 archive_own() {
     local kit=$PWD/target/own/kit here=$PWD/target/own part
@@ -37,8 +46,8 @@ exec "$archive_tools/bin/clang" "\$@"
 END
     chmod +x "$kit/on/$archive_machine/toolchain/bin/clang"
     RATTLE_HOME=$kit rt staticlib abi >"$here/log" 2>&1 || return 1
-    "$archive_tools/bin/clang" --target="$archive_machine-unknown-linux-gnu" --no-default-config -O3 -fPIC -ffunction-sections -fdata-sections \
-        -Wno-override-module -c -x ir "$here/abi.bc" -o "$here/abi.o" >>"$here/log" 2>&1 || return 1
+    archive_unnamed "$here/abi.bc" "$here/abi.ll" >>"$here/log" 2>&1 || return 1
+    "${archive_clang[@]}" -O3 -fPIC -ffunction-sections -fdata-sections -c -x ir "$here/abi.ll" -o "$here/abi.o" >>"$here/log" 2>&1 || return 1
     rm -f "$here/libabi.a"
     "$archive_tools/bin/llvm-ar" crs "$here/libabi.a" "$here/abi.o"
 }
