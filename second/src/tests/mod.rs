@@ -1,6 +1,7 @@
 //! Tests, and what they share.
 
 mod cross;
+mod fast;
 mod import;
 mod refusals;
 mod sheets;

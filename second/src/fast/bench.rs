@@ -1,0 +1,128 @@
+//! The bench sweep: the box answers and the driver reads, round by round, but where the box has got to is kept.
+
+use super::command::Wanted;
+use super::reading::read_each;
+use super::sheet::{accept, Parts};
+use super::wire::first16;
+use crate::bench::Outcome;
+use crate::command::most_bytes;
+use crate::numbers::*;
+use crate::wire::Feature;
+
+/// Sweeps the sheet; on a refusal all three buffers are set to zero.
+pub fn bench(
+    sheet: &[u8],
+    rt: u8,
+    allocation: u16,
+    response: &mut [u8],
+    collected: &mut [u8],
+    starts: &mut [u16],
+) -> Outcome {
+    let swept = begin(sheet, rt, allocation, response.len())
+        .and_then(|parts| Sweep::new(parts, rt, allocation, response).run(response, collected, starts));
+    match swept {
+        Ok(outcome) => outcome,
+        Err(number) => {
+            response.fill(0);
+            collected.fill(0);
+            starts.fill(0);
+            Outcome { number, commands: 0, collected: 0 }
+        }
+    }
+}
+
+/// Checks what a sweep is given.
+fn begin(sheet: &[u8], rt: u8, allocation: u16, room: usize) -> Result<Parts<'_>, u8> {
+    let parts = accept(sheet)?;
+    if rt > 1 {
+        return Err(SWEEP_RT);
+    }
+    if usize::from(allocation) < HEADER_BYTES {
+        return Err(SWEEP_ALLOCATION);
+    }
+    if room < most_bytes(allocation) {
+        return Err(BUFFER_SHORT);
+    }
+    Ok(parts)
+}
+
+/// Where a sweep stands.
+struct Sweep<'a> {
+    parts: Parts<'a>,
+    /// The most bytes of a response.
+    most: usize,
+    /// What is still to come, and the length of the response with all of it.
+    wanted: Wanted<'a>,
+    full: usize,
+    next: u16,
+    commands: usize,
+    collected: usize,
+    /// Behind so many bytes the response buffer is zero.
+    dirty: usize,
+}
+
+impl<'a> Sweep<'a> {
+    /// A sweep at its start.
+    fn new(parts: Parts<'a>, rt: u8, allocation: u16, response: &[u8]) -> Sweep<'a> {
+        let wanted = Wanted::new(parts, rt, 0);
+        Sweep {
+            parts,
+            most: most_bytes(allocation),
+            wanted,
+            full: wanted.full_length(parts),
+            next: 0,
+            commands: 0,
+            collected: 0,
+            dirty: response.len(),
+        }
+    }
+
+    /// Runs the rounds to the end.
+    fn run(mut self, response: &mut [u8], collected: &mut [u8], starts: &mut [u16]) -> Result<Outcome, u8> {
+        loop {
+            *starts.get_mut(self.commands).ok_or(STARTS_FULL)? = self.next;
+            self.commands += 1;
+            let sent = self.send(response);
+            if self.take(sent, collected)? {
+                return Ok(Outcome { number: ACCEPTED, commands: self.commands, collected: self.collected });
+            }
+        }
+    }
+
+    /// The box's half of a round: gives the bytes sent.
+    fn send<'b>(&mut self, response: &'b mut [u8]) -> &'b [u8] {
+        let count = self.full.min(self.most);
+        self.wanted.send(self.parts, self.full, &mut response[..count]);
+        if self.dirty > count {
+            response[count..self.dirty].fill(0);
+        }
+        self.dirty = count;
+        &response[..count]
+    }
+
+    /// The driver's half of a round: gives whether it was the last.
+    fn take(&mut self, sent: &[u8], collected: &mut [u8]) -> Result<bool, u8> {
+        let mut last = None;
+        let reading = read_each(self.wanted.rt, Feature(self.next), sent, self.most, |header, _| {
+            last = Some(header.feature());
+        })?;
+        if !reading.complete {
+            let last = last.ok_or(NOTHING_WHOLE)?;
+            self.go_on_from(last.checked_add(1).ok_or(CUT_AFTER_LAST)?);
+        }
+        let descriptors = &sent[HEADER_BYTES..reading.end];
+        let room = collected.get_mut(self.collected..self.collected + descriptors.len());
+        room.ok_or(COLLECTED_FULL)?.copy_from_slice(descriptors);
+        self.collected += descriptors.len();
+        self.full -= descriptors.len();
+        Ok(reading.complete)
+    }
+
+    /// Passes the entries below the next start.
+    fn go_on_from(&mut self, next: u16) {
+        let passed = self.wanted.contents.chunks_exact(ENTRY_BYTES).take_while(|entry| first16(entry) < next);
+        self.wanted.contents = &self.wanted.contents[ENTRY_BYTES * passed.count()..];
+        self.wanted.with_list = false;
+        self.next = next;
+    }
+}

@@ -1,0 +1,13 @@
+//! The same functions once more, written for speed with the ordinary means of safe Rust: what the proved functions are
+//! timed against. Their answers are those of the modules beside this one, and a test holds them to that.
+//!
+//! A command bisects once, a profile is checked on the walk of the reading, a sweep keeps where it has got to, and what
+//! has a fixed width is moved in one go.
+
+pub mod bench;
+pub mod checks;
+pub mod command;
+pub mod import;
+pub mod reading;
+pub mod sheet;
+mod wire;

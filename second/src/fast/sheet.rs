@@ -1,0 +1,128 @@
+//! A sheet's parts and its check.
+
+use super::wire::{first16, first32, Header};
+use crate::numbers::*;
+
+/// The header of an entry of eight bytes, as a response has it.
+pub(super) fn header_of(entry: &[u8]) -> Header<'_> {
+    Header(entry[..4].try_into().unwrap_or(&[0; 4]))
+}
+
+/// Where the body of an entry of eight bytes stands.
+pub(super) fn offset_of(entry: &[u8]) -> usize {
+    first32(&entry[4..]) as usize
+}
+
+/// A sheet's bytes and the two parts that its counts give.
+#[derive(Clone, Copy)]
+pub(super) struct Parts<'a> {
+    pub bytes: &'a [u8],
+    pub contents: &'a [u8],
+    pub profiles: &'a [u8],
+}
+
+impl<'a> Parts<'a> {
+    /// The parts; none where there are fewer bytes than the counts say.
+    pub fn of(bytes: &'a [u8]) -> Option<Parts<'a>> {
+        let (counts, behind) = Header::split(bytes)?;
+        let profiles_at = ENTRY_BYTES * usize::from(first16(counts.0));
+        let bodies_at = profiles_at + PROFILE_BYTES * usize::from(first16(&counts.0[2..]));
+        let (contents, profiles) = behind.get(..bodies_at)?.split_at(profiles_at);
+        Some(Parts { bytes, contents, profiles })
+    }
+
+    /// Where the bodies start.
+    fn bodies_at(self) -> usize {
+        SHEET_HEADER_BYTES + self.contents.len() + self.profiles.len()
+    }
+
+    /// The contents from the first entry on whose number is the wanted one or higher.
+    pub fn from(self, wanted: u16) -> &'a [u8] {
+        // No entry has number 0, so the first is the one for it.
+        if wanted == 0 {
+            return self.contents;
+        }
+        // A bisection without a branch that the wanted number decides.
+        let number = |index: usize| first16(&self.contents[ENTRY_BYTES * index..]);
+        let (mut low, mut size) = (0, self.contents.len() / ENTRY_BYTES);
+        while size > 1 {
+            let half = size / 2;
+            low = if number(low + half) < wanted { low + half } else { low };
+            size -= half;
+        }
+        let passed = size == 1 && number(low) < wanted;
+        &self.contents[ENTRY_BYTES * (low + usize::from(passed))..]
+    }
+
+    /// The number of the first current profile; 0 if none is.
+    pub fn current_profile(self) -> u16 {
+        self.profiles.chunks_exact(PROFILE_BYTES).find(|profile| profile[2] != 0).map_or(0, first16)
+    }
+}
+
+/// Checks a sheet; gives 0, or the first of 1 to 8 that refuses it.
+pub fn check(bytes: &[u8]) -> u8 {
+    match accept(bytes) {
+        Ok(_) => ACCEPTED,
+        Err(number) => number,
+    }
+}
+
+/// Checks a sheet; gives its parts.
+pub(super) fn accept(bytes: &[u8]) -> Result<Parts<'_>, u8> {
+    let parts = Parts::of(bytes).ok_or(SHEET_SHORT)?;
+    if parts.profiles.len() > PROFILE_BYTES * PROFILES_MOST {
+        return Err(PROFILE_COUNT);
+    }
+    if !profiles_are_legal(parts.profiles) {
+        return Err(PROFILE_BAD);
+    }
+    if check_entries(parts)? != bytes.len() {
+        return Err(SHEET_END);
+    }
+    Ok(parts)
+}
+
+/// Whether each of at most 63 profiles has a new number that isn't 0, a current byte of 0 or 1, and a zero byte.
+pub(super) fn profiles_are_legal(profiles: &[u8]) -> bool {
+    let mut numbers = [0; PROFILES_MOST];
+    for (index, profile) in profiles.chunks_exact(PROFILE_BYTES).enumerate() {
+        let number = first16(profile);
+        if number == 0 || profile[2] > 1 || profile[3] != 0 || numbers[..index].contains(&number) {
+            return false;
+        }
+        numbers[index] = number;
+    }
+    true
+}
+
+/// Whether the reserved bits and Version are 0, and Persistent isn't set without Current.
+pub(super) fn flags_are_legal(flags: u8) -> bool {
+    flags < 2 || flags == PERSISTENT | CURRENT
+}
+
+/// Checks the entries in order; gives where the last body ends.
+fn check_entries(parts: Parts) -> Result<usize, u8> {
+    let mut before = 0;
+    let mut end = parts.bodies_at();
+    for entry in parts.contents.chunks_exact(ENTRY_BYTES) {
+        // The eight bytes in one go.
+        let word = entry.try_into().map_or(0, u64::from_be_bytes);
+        let (feature, flags, length) = ((word >> 48) as u16, (word >> 40) as u8, (word >> 32) as u8);
+        if feature <= before {
+            return Err(FEATURE_ORDER);
+        }
+        if !flags_are_legal(flags) {
+            return Err(FLAGS_BAD);
+        }
+        if length % 4 != 0 {
+            return Err(BODY_LENGTH);
+        }
+        if word as u32 as usize != end {
+            return Err(BODY_OFFSET);
+        }
+        before = feature;
+        end += usize::from(length);
+    }
+    Ok(end)
+}
