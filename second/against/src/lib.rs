@@ -8,3 +8,4 @@ pub mod lent;
 pub mod made;
 pub mod random;
 pub mod run;
+pub mod timing;
