@@ -37,11 +37,13 @@ use Rattle.profiles.proofs.fault as profiles-fault
 use Rattle.profiles.proofs.current as profiles-current
 use Rattle.layout.proofs.feature_count as feature-count
 use Rattle.layout.proofs.profile_count as profile-count
+use Rattle.layout.proofs.profiles_behind as profiles-behind
 use Rattle.layout.proofs.bodies_at as bodies-at
 use Rattle.layout.proofs.feature_at as feature-at
 use Rattle.layout.proofs.flags_at as flags-at
 use Rattle.layout.proofs.length_at as length-at
 use Rattle.layout.proofs.offset_at as offset-at
+use Rattle.layout.proofs.put_counts as put-counts
 use Rattle.layout.proofs.put_entry as put-entry
 use Rattle.layout.proofs.profiles_part as profiles-part
 use Rattle.sheet.proofs.end_before as end-before
@@ -70,6 +72,7 @@ use Rattle.checks.proofs.Judgements.{said-injective}
 use Rattle.sweep.proofs.Sweep.start as sweep-start
 use Rattle.sweep.proofs.Sweep.take as sweep-take
 use Rattle.sweep.proofs.take_response as take-response
+use Rattle.capture.proofs.check as capture-check
 use Rattle.import.proofs.import as import
 use Rattle.abi.specs.Left.{Left}
 use Rattle.abi.proofs.gcf_check_sheet as gcf-check-sheet
@@ -174,6 +177,9 @@ feature-count-decided x = decides (x .𝓤) (λ o o′ p q. (joined p q, refl))
 pub profile-count-decided : Decided profile-count.ended (λ M. profile-count.clauses) (λ M. profile-count.spec)
 profile-count-decided x = decides (x .𝓤) (λ o o′ p q. (joined p q, refl))
 
+pub profiles-behind-decided : Decided profiles-behind.ended (λ M. profiles-behind.clauses) (λ M. profiles-behind.spec)
+profiles-behind-decided x = decides (x .𝓤) (λ o o′ p q. (joined p q, refl))
+
 pub bodies-at-decided : Decided bodies-at.ended (λ M. bodies-at.clauses) (λ M. bodies-at.spec)
 bodies-at-decided x = decides (x .𝓤) (λ o o′ p q. (joined p q, refl))
 
@@ -188,6 +194,9 @@ offset-at-decided x = decides (x .𝓤) (λ o o′ p q. (joined p q, refl))
 
 pub feature-at-decided : Decided feature-at.ended (λ M. feature-at.clauses) (λ M. feature-at.spec)
 feature-at-decided x = decides (x .𝓤) (λ o o′ p q. ((λ i. record { 0 = joined p q i }), refl))
+
+pub put-counts-decided : Decided put-counts.ended (λ M. put-counts.clauses) (λ M. put-counts.spec)
+put-counts-decided x = decides (x .𝓤) (λ o o′ p q. (same p q .0, same p q .1 & refl))
 
 pub put-entry-decided : Decided put-entry.ended (λ M. put-entry.clauses) (λ M. put-entry.spec)
 put-entry-decided x = decides (x .𝓤) (λ o o′ p q. (same p q .0, same p q .1 & refl))
@@ -284,7 +293,10 @@ check-descriptors-decided x = decides (x .𝓤) (λ o o′ p q. (joined p q, ref
 pub check-profile-decided : Decided check-profile.ended (λ M. check-profile.clauses) (λ M. check-profile.spec)
 check-profile-decided x = decides (x .𝓤) (λ o o′ p q. (said-injective (o .0) (o′ .0) (joined p q), refl))
 
--- ---- import
+-- ---- capture and import
+
+pub capture-check-decided : Decided capture-check.ended (λ M. capture-check.clauses) (λ M. capture-check.spec)
+capture-check-decided x = decides (x .𝓤) (λ o o′ p q. (joined p q, refl))
 
 pub import-decided : Decided import.ended (λ M. import.clauses) (λ M. import.spec)
 import-decided x = decides (x .𝓤) (λ o o′ p q. (ap (λ (z : Outcome). z .made) (joined p q), refl & ap (λ (z : Outcome). z .buffer) (joined p q) & refl))

@@ -45,11 +45,13 @@ use Rattle.profiles.proofs.fault as profiles-fault
 use Rattle.profiles.proofs.current as profiles-current
 use Rattle.layout.proofs.feature_count as feature-count
 use Rattle.layout.proofs.profile_count as profile-count
+use Rattle.layout.proofs.profiles_behind as profiles-behind
 use Rattle.layout.proofs.bodies_at as bodies-at
 use Rattle.layout.proofs.feature_at as feature-at
 use Rattle.layout.proofs.flags_at as flags-at
 use Rattle.layout.proofs.length_at as length-at
 use Rattle.layout.proofs.offset_at as offset-at
+use Rattle.layout.proofs.put_counts as put-counts
 use Rattle.layout.proofs.put_entry as put-entry
 use Rattle.layout.proofs.profiles_part as profiles-part
 use Rattle.sheet.proofs.end_before as end-before
@@ -150,6 +152,9 @@ feature-count-tied x = promises (x .𝓤) (λ o e. e)
 pub profile-count-tied : Promised profile-count.ended (λ M. profile-count.clauses) (λ M. profile-count.spec) (λ x o. o .0 ≡ layout.profileCount (x .args .0 .now))
 profile-count-tied x = promises (x .𝓤) (λ o e. e)
 
+pub profiles-behind-tied : Promised profiles-behind.ended (λ M. profiles-behind.clauses) (λ M. profiles-behind.spec) (λ x o. o .0 ≡ layout.profilesBehind (x .args .0))
+profiles-behind-tied x = promises (x .𝓤) (λ o e. e)
+
 pub bodies-at-tied : Promised bodies-at.ended (λ M. bodies-at.clauses) (λ M. bodies-at.spec) (λ x o. o .0 ≡ layout.bodiesAt (x .args .0 .now))
 bodies-at-tied x = promises (x .𝓤) (λ o e. e)
 
@@ -164,6 +169,10 @@ length-at-tied x = promises (x .𝓤) (λ o e. e)
 
 pub offset-at-tied : Promised offset-at.ended (λ M. offset-at.clauses) (λ M. offset-at.spec) (λ x o. o .0 ≡ layout.offset (x .args .0 .now) (x .args .1 .0))
 offset-at-tied x = promises (x .𝓤) (λ o e. e)
+
+pub put-counts-tied : Promised put-counts.ended (λ M. put-counts.clauses) (λ M. put-counts.spec)
+    (λ x o. Wrote (x .args .0 .now) 0 (layout.countsBytes (x .args .1 .0) (x .args .1 .1 .0)) (o .0) (o .1 .0))
+put-counts-tied x = promises (x .𝓤) (λ o e. e)
 
 pub put-entry-tied : Promised put-entry.ended (λ M. put-entry.clauses) (λ M. put-entry.spec)
     (λ x o. Wrote (x .args .0 .now) (x .args .1 .0) (layout.entryBytes (x .args .1 .1 .0 .0) (x .args .1 .1 .1 .0) (x .args .1 .1 .1 .1 .0) (x .args .1 .1 .1 .1 .1 .0)) (o .0) (o .1 .0))

@@ -29,11 +29,14 @@ use Rattle.responder.specs.Answer as box
 use Rattle.bench.specs.Bench.{benched}
 use Rattle.bench.specs.Swept.{Premises, Swept, Ended}
 use Rattle.reading.specs.Completed as completed
+use Rattle.capture.specs.Capture as capture
+use Rattle.capture.specs.Capture.{captureFault}
 use Rattle.import.specs.Import as import
-use Rattle.import.specs.Import.{captureFault, sheetFrom, imported}
+use Rattle.import.specs.Import.{sheetFrom, imported}
 use Rattle.lent.specs.Maker.{Outcome, outcome, written, refusing, making, makes}
-use Rattle.import.proofs.Capture.{from-accepted, from-bytes, from-full, captured-short}
-use Rattle.import.proofs.Own.{own-accepted, own-sheet}
+use Rattle.capture.proofs.Describes.{captured-short}
+use Rattle.capture.proofs.Own.{own-accepted}
+use Rattle.import.proofs.Sheet.{from-accepted, from-bytes, from-full, own-sheet}
 use Rattle.import.proofs.Answers.{imported-fault, imported-short, imported-written, imported-zero}
 use Rattle.import.proofs.Numbers.{imported-is}
 use Rattle.demands.specs.Recorder.{sheetE, command}
@@ -203,7 +206,7 @@ pub each-number :
     × (number (0 ∷ 0 ∷ 0 ∷ 12 ∷ 0 ∷ 0 ∷ 0 ∷ 0 ∷ 0 ∷ 0 ∷ 3 ∷ 0 ∷ 0 ∷ 1 ∷ 2 ∷ 0 ∷ []) [] ≡ 5)
     × (number (0 ∷ 0 ∷ 0 ∷ 8 ∷ 0 ∷ 0 ∷ 0 ∷ 0 ∷ 0 ∷ 0 ∷ 3 ∷ 0 ∷ []) (0 ∷ 0 ∷ 0 ∷ []) ≡ 42)
     × (number (0 ∷ 0 ∷ 0 ∷ 8 ∷ 0 ∷ 0 ∷ 0 ∷ 0 ∷ 0 ∷ 0 ∷ 3 ∷ 0 ∷ []) (0 ∷ 0 ∷ 0 ∷ 0 ∷ []) ≡ 0)
-unfolding each flat field spell _if_else_ pickZero _orElse_ firstOf profileBytes currentProfile text.statedLength text.statedProfile text.headerRule text.headRule text.numberAt text.flagsAt text.lengthAt text.descAt text.headFault text.walk text.walked text.readFault text.wholes profiles.profileNumber profiles.profileCurrent profiles.profileLast profiles.listed profiles.profilesOf profiles.lists profiles.recordRule profiles.recordFault profiles.recordsFault flagsRule flags.flagsGiving layout.entryBytes contents sheetOf import.captured import.ownRule import.flagsFaults import.sheetRule completed.completeFault import.captureFault import.sheetFrom unless refusing making makes import.imported
+unfolding each flat field spell _if_else_ pickZero _orElse_ firstOf profileBytes currentProfile text.statedLength text.statedProfile text.headerRule text.headRule text.numberAt text.flagsAt text.lengthAt text.descAt text.headFault text.walk text.walked text.readFault text.wholes profiles.profileNumber profiles.profileCurrent profiles.profileLast profiles.listed profiles.profilesOf profiles.lists profiles.recordRule profiles.recordFault profiles.recordsFault flagsRule flags.flagsGiving layout.entryBytes contents sheetOf capture.captured capture.ownRule capture.flagsFaults capture.sheetRule completed.completeFault capture.captureFault import.sheetFrom unless refusing making makes import.imported
 each-number = (refl, refl, refl, refl, refl, refl, refl, refl, refl, refl, refl, refl)
 
 -- ---- the premises can be met: the full response of sheet E, 44 bytes, and a buffer of 52

@@ -6,6 +6,7 @@ pub mod Listings
 pub mod Steps
 pub mod Sweeping
 pub mod Checking
+pub mod Capturing
 pub mod Importing
 pub mod Stars
 pub mod Decides

@@ -24,6 +24,7 @@ use Rattle.bench.proofs.bench as bench
 use Rattle.checks.specs.Judge.{said}
 use Rattle.checks.proofs.check_descriptors as check-descriptors
 use Rattle.checks.proofs.check_profile as check-profile
+use Rattle.capture.proofs.check as capture-check
 use Rattle.import.proofs.import as import
 use Rattle.demands.proofs.Sheets.{Checks, checks}
 use Rattle.demands.proofs.Sending.{Answers, demand2, Trusts, trusts, Serves, serves}
@@ -32,6 +33,7 @@ use Rattle.demands.proofs.Listings.{Lists, lists}
 use Rattle.demands.proofs.Steps.{Starts, starts, Takes, takes-by}
 use Rattle.demands.proofs.Sweeping.{Benches, benches}
 use Rattle.demands.proofs.Checking.{Finds, finds, Judges, judges}
+use Rattle.demands.proofs.Capturing.{Captures, captures}
 use Rattle.demands.proofs.Importing.{Imports, imports}
 
 -- ---- sheet
@@ -101,7 +103,10 @@ check-descriptors-tied x = promises (x .𝓤) (λ o. by (Finds _) (finds _))
 pub check-profile-tied : Promised check-profile.ended (λ M. check-profile.clauses) (λ M. check-profile.spec) (λ x o. Judges (x .args .0 .0) (x .args .1 .0 .now) (said (o .0)))
 check-profile-tied x = promises (x .𝓤) (λ o. by (Judges _ _) (judges _ _))
 
--- ---- import
+-- ---- capture and import
+
+pub capture-check-tied : Promised capture-check.ended (λ M. capture-check.clauses) (λ M. capture-check.spec) (λ x o. Captures (x .args .0 .now) (o .0))
+capture-check-tied x = promises (x .𝓤) (λ o. by (Captures _) (captures _))
 
 pub import-tied : Promised import.ended (λ M. import.clauses) (λ M. import.spec) (λ x o. Imports (x .args .0 .now) (x .args .1 .0 .now) (outcome (o .0) (o .1 .1 .0)))
 import-tied x = promises (x .𝓤) (λ o. by (Imports _ _) (imports _ _))

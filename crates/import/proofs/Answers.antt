@@ -7,7 +7,8 @@ use lib.ListN.{length}
 use Rattle.refusal.specs.First.{refuse}
 use Rattle.lent.specs.Maker.{refusing, making}
 use Rattle.lent.proofs.Maker.{makes-fault, makes-short, makes-made, makes-zero}
-use Rattle.import.specs.Import.{captureFault, sheetFrom, imported}
+use Rattle.capture.specs.Capture.{captureFault}
+use Rattle.import.specs.Import.{sheetFrom, imported}
 
 module _ (r d : List ℕ) where
   pub imported-fault : (captureFault r .number ≡ 0 → ⊥) → imported r d ≡ refusing d (captureFault r)

@@ -6,7 +6,6 @@ use native.Mathlib.Omega.{arith}
 use lib.ListN.{length, set, length-append}
 use lib.Seq.{sets, set-comm, length-sets}
 use Rattle.base.specs.Lists.{flat}
-use Rattle.fields.specs.Field.{spell}
 use Rattle.fields.proofs.Laws.{length-spell}
 use Rattle.lent.specs.Wrote.{Wrote}
 use Rattle.lent.proofs.Sets.{sets-append}
@@ -16,10 +15,12 @@ use Rattle.text.specs.Reading.{descAt}
 use Rattle.reading.specs.Places.{nextAt}
 use Rattle.reading.specs.inner.Between.{from}
 use Rattle.reading.proofs.Places.{from-step, from-end}
+use Rattle.layout.specs.Layout.{countsBytes, profilesBehind}
 use Rattle.sheet.specs.Meaning.{contents}
 use Rattle.sheet.specs.Meaning as sheet
 use Rattle.sheet.proofs.Pieces.{length-entry, length-contents}
-use Rattle.import.specs.inner.Pieces.{behind, bodies, HasSpace, Filled, sheetBytes, Whole}
+use Rattle.capture.specs.inner.Behind.{behind}
+use Rattle.import.specs.inner.Pieces.{bodies, HasSpace, Filled, sheetBytes, Whole}
 
 -- ---- stores that do not meet
 
@@ -28,13 +29,13 @@ set-sets d i [] j y h = refl
 set-sets d i (x ∷ xs) j y h =
     set-sets (set d i x) (suc i) xs j y (omega arith) ∙ ap (λ (l : List ℕ). sets l (suc i) xs) (set-comm d i j x y (λ e. omega arith))
 
-pub sets-comm : (d : List ℕ) (i : ℕ) (xs : List ℕ) (j : ℕ) (ys : List ℕ) → i + length xs ≤ j → sets (sets d i xs) j ys ≡ sets (sets d j ys) i xs
+sets-comm : (d : List ℕ) (i : ℕ) (xs : List ℕ) (j : ℕ) (ys : List ℕ) → i + length xs ≤ j → sets (sets d i xs) j ys ≡ sets (sets d j ys) i xs
 sets-comm d i xs j [] h = refl
 sets-comm d i xs j (y ∷ ys) h =
     ap (λ (l : List ℕ). sets l (suc j) ys) (set-sets d i xs j y h) ∙ sets-comm (set d j y) i xs (suc j) ys (omega arith)
 
 -- a run that has room
-pub wrote-sets : (d : List ℕ) (at : ℕ) (xs : List ℕ) (r : ℕ) → at + length xs ≤ length d → r ≡ at + length xs → Wrote d at xs r (sets d at xs)
+wrote-sets : (d : List ℕ) (at : ℕ) (xs : List ℕ) (r : ℕ) → at + length xs ≤ length d → r ≡ at + length xs → Wrote d at xs r (sets d at xs)
 wrote-sets d at xs r h e = record { next = omega arith; holds = refl }
 
 -- one more at the front of each of two runs beside each other
@@ -102,43 +103,46 @@ module _ {s : List ℕ} {r : ℕ} {f : List ℕ} {entry next place : ℕ} {d : L
 
 -- ---- the whole sheet
 
+length-counts : (n p : ℕ) → length (countsBytes n p) ≡ 4
+length-counts n p = simp (length-append, length-spell)
+
 pub length-sheetBytes : (b : List ℕ) (ds : List Desc) → length (sheetBytes b ds) ≡ 4 + 8 * length ds + length b + length (bodies ds)
 unfolding sheetBytes
 length-sheetBytes b ds = simp (length-append, length-spell, length-contents) (omega arith)
 
 module _ {s : List ℕ} {n : ℕ} {d : List ℕ} (w : Whole s n d) where
   -- its pieces, each in its turn: the counts, the profile list, then contents and bodies
-  module _ {a entries body : ℕ} {d₁ d₂ d₃ b : List ℕ} (q : b ≡ descAt s 8 .body) (v₁ : Wrote d 0 (spell 2 n) a d₁) (v₂ : Wrote d₁ a (spell 2 (length b / 4)) entries d₂)
-      (v₃ : Wrote d₂ (4 + 8 * n) b body d₃) where
+  module _ {entries body at : ℕ} {d₁ d₂ b : List ℕ} (q : b ≡ descAt s 8 .body) (v₁ : Wrote d 0 (countsBytes n (length b / 4)) entries d₁) (p : at ≡ profilesBehind n)
+      (v₂ : Wrote d₁ at b body d₂) where
     sizes : length (sheetBytes (descAt s 8 .body) (behind s)) ≡ 4 + 8 * n + length b + length (bodies (behind s))
     sizes = length-sheetBytes (descAt s 8 .body) (behind s) ∙ rw (q, w .count)
 
     entries-at : entries ≡ 4
-    entries-at = omega (arith, v₁ .next, v₂ .next, kept v₁, length-spell 2 n, length-spell 2 (length b / 4), sizes, w .room)
+    entries-at = omega (arith, v₁ .next, length-counts n (length b / 4), sizes, w .room)
 
     body-at : body ≡ 4 + 8 * n + length b
-    body-at = omega (arith, v₃ .next, kept v₁, kept v₂, sizes, w .room)
+    body-at = omega (arith, v₂ .next, p, kept v₁, sizes, w .room)
 
-    pub whole-fits : {first : ℕ} → first ≡ nextAt s 8 → HasSpace s entries body first d₃
+    pub whole-fits : {first : ℕ} → first ≡ nextAt s 8 → HasSpace s entries body first d₂
     whole-fits {first} f = record {
       apart = rw f (omega (arith, entries-at, body-at, w .count));
-      room = rw f (omega (arith, body-at, sizes, w .room, kept v₁, kept v₂, kept v₃));
+      room = rw f (omega (arith, body-at, sizes, w .room, kept v₁, kept v₂));
       low = rw f (omega (arith, body-at, sizes, w .low));
     }
 
-    pub whole-written : {first r : ℕ} {e : List ℕ} → first ≡ nextAt s 8 → Filled s entries body first d₃ r e → Wrote d 0 (sheetBytes (descAt s 8 .body) (behind s)) r e
+    pub whole-written : {first r : ℕ} {e : List ℕ} → first ≡ nextAt s 8 → Filled s entries body first d₂ r e → Wrote d 0 (sheetBytes (descAt s 8 .body) (behind s)) r e
     unfolding sheetBytes
     whole-written {first} {r} {e} f g =
         let ds : List Desc = behind s in
         let c : List ℕ = contents body ds in
         let lc : length c ≡ 8 * length ds = length-contents body ds in
         let room : 4 + 8 * n + length b + length (bodies ds) ≤ length d = omega (arith, sizes, w .room) in
-        let k : length d₂ ≡ length d = kept v₂ ∙ kept v₁ in
-        let w₁ : Wrote d₂ entries c (4 + 8 * n) (sets d₂ entries c) = wrote-sets d₂ entries c (4 + 8 * n) (omega (arith, entries-at, w .count)) (omega (arith, entries-at, w .count)) in
-        let w₂ : Wrote (sets d₂ entries c) (4 + 8 * n) b body (sets (sets d₂ entries c) (4 + 8 * n) b) =
-        wrote-sets (sets d₂ entries c) (4 + 8 * n) b body (omega (arith, length-sets d₂ entries c)) body-at in
-        let m : sets (sets d₂ entries c) (4 + 8 * n) b ≡ sets d₃ entries c =
-        sets-comm d₂ entries c (4 + 8 * n) b (omega (arith, entries-at, w .count)) ∙ ap (λ (l : List ℕ). sets l entries c) (sym (v₃ .holds)) in
-        let w₃ : Wrote (sets d₃ entries c) body (bodies ds) r (sets (sets d₃ entries c) body (bodies ds)) =
-        wrote-sets (sets d₃ entries c) body (bodies ds) r (omega (arith, body-at, length-sets d₃ entries c, kept v₃)) (rw f at (g .next)) in
-        rw (← q, ← w .count, ← body-at, rw f at (g .holds)) (then (then (then (then v₁ v₂) w₁) (rw m at w₂)) w₃)
+        let k : length d₁ ≡ length d = kept v₁ in
+        let w₁ : Wrote d₁ entries c at (sets d₁ entries c) = wrote-sets d₁ entries c at (omega (arith, entries-at, w .count)) (omega (arith, p, entries-at, w .count)) in
+        let w₂ : Wrote (sets d₁ entries c) at b body (sets (sets d₁ entries c) at b) =
+        wrote-sets (sets d₁ entries c) at b body (omega (arith, p, length-sets d₁ entries c)) (omega (arith, p, body-at)) in
+        let m : sets (sets d₁ entries c) at b ≡ sets d₂ entries c =
+        sets-comm d₁ entries c at b (omega (arith, p, entries-at, w .count)) ∙ ap (λ (l : List ℕ). sets l entries c) (sym (v₂ .holds)) in
+        let w₃ : Wrote (sets d₂ entries c) body (bodies ds) r (sets (sets d₂ entries c) body (bodies ds)) =
+        wrote-sets (sets d₂ entries c) body (bodies ds) r (omega (arith, body-at, length-sets d₂ entries c, kept v₂)) (rw f at (g .next)) in
+        rw (← q, ← w .count, ← body-at, rw f at (g .holds)) (then (then (then v₁ w₁) (rw m at w₂)) w₃)

@@ -13,12 +13,13 @@ use Rattle.text.proofs.Selection.{asc-above, asc-down, from-all, selected-zero}
 use Rattle.text.proofs.Sizes.{length-bytes, length-full, full-four}
 use Rattle.sheet.specs.Meaning.{Fine}
 use Rattle.sheet.proofs.Longest.{length-sheet}
-use Rattle.import.proofs.Written.{length-bodies}
-use Rattle.import.specs.Import.{captured, captureFault, sheetFrom, imported}
+use Rattle.capture.specs.Capture.{captured, captureFault}
+use Rattle.capture.proofs.Describes.{captured-fine, captured-full, captured-short}
+use Rattle.capture.proofs.Checked.{length-bodies}
+use Rattle.import.specs.Import.{sheetFrom, imported}
 use Rattle.refusal.specs.First.{unless}
 use Rattle.refusal.proofs.First.{unless-none, unless-fault}
 use Rattle.lent.specs.Maker.{refusing, making}
-use Rattle.import.proofs.Capture.{captured-fine, captured-full, captured-short}
 use Rattle.import.proofs.Answers.{imported-fault, imported-written}
 
 -- the full response of a drive: the header, feature 0, the other features

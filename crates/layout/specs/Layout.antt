@@ -11,6 +11,14 @@ featureCount s = field 2 s 0
 unfoldable pub profileCount : List ℕ → ℕ
 profileCount s = field 2 s 2
 
+-- its bytes
+abbrev pub countsBytes : (features profiles : ℕ) → List ℕ
+countsBytes features profiles = spell 2 features ++ spell 2 profiles
+
+-- where the profiles start behind the entries of so many features
+abbrev pub profilesBehind : (features : ℕ) → ℕ
+profilesBehind features = 4 + 8 * features
+
 -- where entry i, the profiles and the bodies start
 abbrev pub entryAt : ℕ → ℕ
 entryAt i = 4 + 8 * i

@@ -2,7 +2,7 @@
 ghost use mathlib.Core.Path.{_≡_};
 ghost use Rattle.fields.specs.Part.{PartOf};
 ghost use Rattle.lent.specs.Wrote.{Wrote};
-ghost use Rattle.layout.specs.Layout.{featureCount, profileCount, bodiesAt, profilesAt, number, flags, bodyLength, offset, entryBytes, profilesPart};
+ghost use Rattle.layout.specs.Layout.{featureCount, profileCount, profilesBehind, bodiesAt, profilesAt, number, flags, bodyLength, offset, countsBytes, entryBytes, profilesPart};
 use text::Feature;
 
 pub fn feature_count(s: &[u8]) -> u16
@@ -15,6 +15,13 @@ pub fn profile_count(s: &[u8]) -> u16
     ensures { λ r. ⌜ r ≡ profileCount (now (s .entry)) ⌝ }
 {
     fields::get2(s, 2)
+}
+
+// Where the profiles start behind the entries of that many features.
+pub fn profiles_behind(features: u16) -> usize
+    ensures { λ r. ⌜ r ≡ profilesBehind features ⌝ }
+{
+    4 + 8 * (features as usize)
 }
 
 // Where the bodies start.
@@ -47,6 +54,14 @@ pub fn offset_at(s: &[u8], i: u16) -> u32
     ensures { λ r. ⌜ r ≡ offset (now (s .entry)) i ⌝ }
 {
     fields::get4(s, 4 + 8 * (i as usize) + 4)
+}
+
+// Writes the two counts to the front, as far as the buffer has room.
+pub fn put_counts(out: &mut [u8], features: u16, profiles: u16) -> usize
+    ensures { λ r. ⌜ Wrote (now (out .entry)) 0 (countsBytes features profiles) r (now (out .exit)) ⌝ }
+{
+    let second = lent::put2(out, 0, features);
+    lent::put2(out, second, profiles)
 }
 
 // Writes an entry, as far as the buffer has room.

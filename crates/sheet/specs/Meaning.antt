@@ -4,10 +4,9 @@ use mathlib.Core.List.{List, [], _∷_, _++_}
 use Prim.Native.Nat.{ℕ, _+_, _*_}
 use lib.ListN.{length, take, drop}
 use Rattle.base.specs.Lists.{each, flat, All}
-use Rattle.fields.specs.Field.{spell}
 use Rattle.text.specs.Drive.{Desc, Drive, Sound, profileBytes}
 use Rattle.profiles.specs.Profiles.{profilesOf, Distinct}
-use Rattle.layout.specs.Layout.{featureCount, number, flags, bodyLength, offset, entryBytes, profilesPart}
+use Rattle.layout.specs.Layout.{featureCount, countsBytes, profilesBehind, number, flags, bodyLength, offset, entryBytes, profilesPart}
 use Rattle.sheet.specs.Check.{flagsRule}
 
 -- the descriptor of entry i
@@ -30,8 +29,8 @@ contents at (d ∷ ds) = entry at d ++ contents (at + length (d .body)) ds
 -- the sheet of a drive
 unfoldable pub sheetOf : Drive → List ℕ
 sheetOf m =
-    spell 2 (length (m .features)) ++ spell 2 (length (m .profiles))
-    ++ contents (4 + 8 * length (m .features) + 4 * length (m .profiles)) (m .features)
+    countsBytes (length (m .features)) (length (m .profiles))
+    ++ contents (profilesBehind (length (m .features)) + 4 * length (m .profiles)) (m .features)
     ++ flat profileBytes (m .profiles)
     ++ flat (λ (d : Desc). d .body) (m .features)
 

@@ -6,18 +6,18 @@ use borrow.Author.Needs.{needs}
 use Rattle.import.proofs.put_sheet.Statement.{statement}
 use Rattle.import.proofs.put_sheet.Tie as tie
 
-cast-put2 : tie.Need-cast-put2
-cast-put2 c = omega (arith, body-short _ _ _ (c .before .before .before .before .before .body-at .ensures .holds) (λ i. c .before .before .before .before .before .before .shared-slice-known .given i .fits))
+cast-put-counts : tie.Need-cast-put-counts
+cast-put-counts c = omega (arith, body-short _ _ _ (c .before .body-at .ensures .holds) (λ i. c .before .before .shared-slice-known .given i .fits))
 
 put-features-requires : tie.Need-put-features-requires
 put-features-requires c κs =
-    whole-fits (c .before .before .before .before .before .before .before .before .before .before .before .before .before .before .before .before .before .pre) (c .before .before .before .before .before .before .before .before .before .before .before .before .before .before .body-at .ensures .holds) (c .before .before .before .before .before .before .before .before .before .before .before .before .put2 .ensures) (c .before .before .before .before .before .before .before .before .put22 .ensures) (c .before .before .before .before .copy .ensures) (c .next-at .ensures)
+    whole-fits (c .before .before .before .before .before .before .before .before .before .before .before .before .before .before .pre) (c .before .before .before .before .before .before .before .before .before .before .before .body-at .ensures .holds) (c .before .before .before .before .before .before .before .before .before .put-counts .ensures) (c .before .before .before .before .before .profiles-behind .ensures) (c .before .before .before .before .copy .ensures) (c .next-at .ensures)
 
 returns : tie.Need-returns
 returns c =
-    whole-written (c .before .before .before .before .before .before .before .before .before .before .before .before .before .before .before .before .before .before .before .before .pre) (c .before .before .before .before .before .before .before .before .before .before .before .before .before .before .before .before .before .body-at .ensures .holds) (c .before .before .before .before .before .before .before .before .before .before .before .before .before .before .before .put2 .ensures) (c .before .before .before .before .before .before .before .before .before .before .before .put22 .ensures) (c .before .before .before .before .before .before .before .copy .ensures) (c .before .before .before .next-at .ensures) (c .before .before .put-features .ensures)
+    whole-written (c .before .before .before .before .before .before .before .before .before .before .before .before .before .before .before .before .before .pre) (c .before .before .before .before .before .before .before .before .before .before .before .before .before .before .body-at .ensures .holds) (c .before .before .before .before .before .before .before .before .before .before .before .before .put-counts .ensures) (c .before .before .before .before .before .before .before .before .profiles-behind .ensures) (c .before .before .before .before .before .before .before .copy .ensures) (c .before .before .before .next-at .ensures) (c .before .before .put-features .ensures)
 
 pub put-sheet-spec : {M : Type 1} → statement M
 put-sheet-spec =
     tie.close
-    (tie.spec (λ c κs. search needs) (λ c κs. search needs) cast-put2 (λ c κs. search needs) (λ c. search needs) (λ c. search needs) (λ c κs. search needs) (λ c κs. search needs) put-features-requires (λ c. search needs) returns)
+    (tie.spec (λ c κs. search needs) cast-put-counts (λ c κs. search needs) (λ c κs. search needs) (λ c κs. search needs) (λ c κs. search needs) put-features-requires (λ c. search needs) returns)

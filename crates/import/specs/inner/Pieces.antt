@@ -1,21 +1,17 @@
--- The pieces that the inner functions speak of: the features behind feature 0, and a sheet's bytes as they are written. Assumes nothing: these are
--- definitions.
+-- The pieces that the inner functions speak of: a sheet's bytes as they are written. Assumes nothing: these are definitions.
 use mathlib.Core.List.{List, _++_}
 use mathlib.Core.Path.{_≡_}
 use Prim.Native.Nat.{ℕ, _+_, _*_, _/_, _≤_, _<_}
 use lib.ListN.{length}
 use lib.Seq.{sets}
 use Rattle.base.specs.Lists.{flat}
-use Rattle.fields.specs.Field.{spell}
 use Rattle.text.specs.Drive.{Desc}
+use Rattle.text.specs.Response.{headerLength}
 use Rattle.text.specs.Reading.{descAt}
-use Rattle.reading.specs.Places.{nextAt}
 use Rattle.reading.specs.inner.Between.{from}
+use Rattle.layout.specs.Layout.{countsBytes, profilesBehind}
 use Rattle.sheet.specs.Meaning.{contents}
-
--- the descriptors behind the first, which starts at byte 8
-abbrev pub behind : (s : List ℕ) → List Desc
-behind s = from s (nextAt s 8)
+use Rattle.capture.specs.inner.Behind.{behind}
 
 -- the bodies of descriptors, one behind the other
 abbrev pub bodies : List Desc → List ℕ
@@ -35,14 +31,14 @@ pub record Filled (s : List ℕ) (entries body first : ℕ) (d : List ℕ) (r : 
 -- the sheet of features ds behind a profile list b
 unfoldable pub sheetBytes : (b : List ℕ) (ds : List Desc) → List ℕ
 sheetBytes b ds =
-    spell 2 (length ds) ++ spell 2 (length b / 4)
-    ++ contents (4 + 8 * length ds + length b) ds
+    countsBytes (length ds) (length b / 4)
+    ++ contents (profilesBehind (length ds) + length b) ds
     ++ b
     ++ bodies ds
 
 -- that of the descriptors of s, of which n stand behind the first, has room in the buffer d
 pub record Whole (s : List ℕ) (n : ℕ) (d : List ℕ) : Type 0 where
-  pub some : 8 < length s
+  pub some : headerLength < length s
   pub count : n ≡ length (behind s)
-  pub room : length (sheetBytes (descAt s 8 .body) (behind s)) ≤ length d
-  pub low : length (sheetBytes (descAt s 8 .body) (behind s)) < 4294967296
+  pub room : length (sheetBytes (descAt s headerLength .body) (behind s)) ≤ length d
+  pub low : length (sheetBytes (descAt s headerLength .body) (behind s)) < 4294967296

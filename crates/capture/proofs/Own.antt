@@ -24,9 +24,9 @@ use Rattle.text.proofs.Own.{readFault-sent, wholes-sent, statedEnd-sent, stated
 use Rattle.profiles.specs.Profiles.{profilesOf}
 use Rattle.profiles.proofs.Again.{profiles-written, written-accept}
 use Rattle.sheet.specs.Check.{flagsRule}
-use Rattle.sheet.specs.Meaning.{Fine, sheetOf}
-use Rattle.import.specs.Import.{captured, ownRule, flagsFaults, sheetRule, captureFault, sheetFrom}
-use Rattle.import.proofs.Capture.{Capture, spell-nought}
+use Rattle.sheet.specs.Meaning.{Fine}
+use Rattle.capture.specs.Capture.{captured, ownRule, flagsFaults, sheetRule, captureFault}
+use Rattle.capture.proofs.Describes.{Describes, spell-nought}
 use Rattle.reading.proofs.Completed.{complete-accept}
 
 -- ---- what is not refused
@@ -36,7 +36,7 @@ unfolding flagsFaults
 flags-accept [] a = refl
 flags-accept (d ∷ ds) a = orElse-none (flagsRule (d .flags)) (flagsFaults ds) (a .0) ∙ flags-accept ds (a .1)
 
-pub capture-accept : {r : List ℕ} {z : Desc} {ds : List Desc} → Capture r z ds → captureFault r ≡ accept
+capture-accept : {r : List ℕ} {z : Desc} {ds : List Desc} → Describes r z ds → captureFault r ≡ accept
 unfolding captureFault ownRule sheetRule
 capture-accept {r} {z} {ds} c =
     let own : ownRule r (z ∷ ds) ≡ accept =
@@ -70,7 +70,7 @@ module _ {m : Drive} (f : Fine m) (small : length (full 0 0 m) ≤ 65534) where
       ∙ whole-every (min 65534 65534 - 8) (selected 0 0 m) (omega (arith, length-full 0 0 m, length-flat-bytes (selected 0 0 m)))
       ∙ all-selected
 
-  own : Capture (full 0 0 m) (feature0 (m .profiles)) (m .features)
+  own : Describes (full 0 0 m) (feature0 (m .profiles)) (m .features)
   unfolding feature0
   own = record {
     read = ap (λ (s : List ℕ). readFault 65534 0 0 s .number) (sym all-sent) ∙ ap (λ (r : Refusal). r .number) (readFault-sent (f .sound) 0 0 65534 (omega arith) 65534 (omega arith) (omega arith));
@@ -92,7 +92,3 @@ module _ {m : Drive} (f : Fine m) (small : length (full 0 0 m) ≤ 65534) where
   own-drive =
       ap captured all-found
       ∙ ap (λ (ps : List Listed). record { profiles = ps; features = m .features }) (profiles-written (m .profiles) (f .sound .profiles-low))
-
-  pub own-sheet : sheetFrom (full 0 0 m) ≡ sheetOf m
-  unfolding sheetFrom
-  own-sheet = ap sheetOf own-drive

@@ -1,14 +1,14 @@
--- `import::flags_fault` meets its contract: the loop carries what is left of the search.
+-- `capture::flags_fault` meets its contract: the loop carries what is left of the search.
 use borrow.Author.Needs.{needs}
 use Prim.Native.Nat.{_-_}
 use mathlib.Core.Path.{_≡_, refl}
 use lib.ListN.{length}
-use Rattle.import.specs.Import.{flagsFaults}
+use Rattle.capture.specs.Capture.{flagsFaults}
 use Rattle.reading.specs.inner.Between.{from}
 use Rattle.reading.proofs.Places.{from-less}
-use Rattle.import.proofs.Faults.{flags-stop, flags-go, flags-none}
-use Rattle.import.proofs.flags_fault.Statement.{statement}
-use Rattle.import.proofs.flags_fault.Tie as tie
+use Rattle.capture.proofs.Faults.{flags-stop, flags-go, flags-none}
+use Rattle.capture.proofs.flags_fault.Statement.{statement}
+use Rattle.capture.proofs.flags_fault.Tie as tie
 
 abbrev Inv-loop : tie.InvT-loop
 Inv-loop s first at₀ at = flagsFaults (from s first) ≡ flagsFaults (from s at)

@@ -1,9 +1,9 @@
--- `import::own_fault` meets its contract: each early return is a case of the rule.
+-- `capture::own_fault` meets its contract: each early return is a case of the rule.
 use Rattle.refusal.proofs.First.{tests}
-use Rattle.import.proofs.Faults.{own-none, own-some}
+use Rattle.capture.proofs.Faults.{own-none, own-some}
 use borrow.Author.Needs.{needs}
-use Rattle.import.proofs.own_fault.Statement.{statement}
-use Rattle.import.proofs.own_fault.Tie as tie
+use Rattle.capture.proofs.own_fault.Statement.{statement}
+use Rattle.capture.proofs.own_fault.Tie as tie
 
 returns : tie.Need-returns
 returns c = search own-none

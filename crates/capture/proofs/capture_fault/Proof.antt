@@ -1,8 +1,8 @@
--- `import::capture_fault` meets its contract: each early return is a case of the definition.
-use Rattle.import.proofs.Faults.{capture-refused, capture-own, own-there, capture-sheet}
+-- `capture::capture_fault` meets its contract: each early return is a case of the definition.
+use Rattle.capture.proofs.Faults.{capture-refused, capture-own, own-there, capture-sheet}
 use borrow.Author.Needs.{needs}
-use Rattle.import.proofs.capture_fault.Statement.{statement}
-use Rattle.import.proofs.capture_fault.Tie as tie
+use Rattle.capture.proofs.capture_fault.Statement.{statement}
+use Rattle.capture.proofs.capture_fault.Tie as tie
 
 returns : tie.Need-returns
 returns c = search capture-refused

@@ -1,4 +1,4 @@
--- What an accepted capture gives: the drive that it describes, and its own bytes again. Assumes nothing.
+-- What an accepted capture describes: a drive that a sheet can describe, and that gives the capture's own bytes again. Assumes nothing.
 use mathlib.Core.Path.{_≡_, refl, sym, ap, ap₂, _∙_}
 use mathlib.Core.List.{List, [], _∷_}
 use Prim.Native.Nat.{ℕ, _+_, _≤_}
@@ -23,16 +23,15 @@ use Rattle.reading.proofs.Places.{wholes-end}
 use Rattle.profiles.specs.Profiles.{profilesOf, recordsFault}
 use Rattle.profiles.proofs.Kept.{fault-kept, length-profilesOf, low-of, kept-distinct}
 use Rattle.profiles.proofs.Again.{profiles-back}
-use Rattle.sheet.specs.Check.{flagsRule, Accepted}
-use Rattle.sheet.specs.Meaning.{meaning, Fine}
+use Rattle.sheet.specs.Check.{flagsRule}
+use Rattle.sheet.specs.Meaning.{Fine}
 use Rattle.reading.proofs.Completed.{complete-zero}
-use Rattle.sheet.proofs.Build.{sheet-accepted, sheet-means, sheet-bytes}
-use Rattle.import.specs.Import.{captured, ownRule, flagsFaults, sheetRule, captureFault, sheetFrom}
+use Rattle.capture.specs.Capture.{captured, ownRule, flagsFaults, sheetRule, captureFault}
 
 -- ---- an accepted capture
 
 -- what its acceptance says
-pub record Capture (r : List ℕ) (first : Desc) (others : List Desc) : Type 0 where
+pub record Describes (r : List ℕ) (first : Desc) (others : List Desc) : Type 0 where
   pub read : readFault 65534 0 0 r .number ≡ 0
   pub complete : length r ≡ statedEnd r
   pub found : descs r ≡ first ∷ others
@@ -43,24 +42,24 @@ pub record Capture (r : List ℕ) (first : Desc) (others : List Desc) : Type 0 w
   pub profiles : recordsFault (first .body) .number ≡ 0
   pub legal : flagsFaults others .number ≡ 0
 
-pub record Captures (r : List ℕ) : Type 0 where
+pub record Described (r : List ℕ) : Type 0 where
   pub first : Desc
   pub others : List Desc
-  pub holds : Capture r first others
+  pub holds : Describes r first others
 
 pub capture-complete : (r : List ℕ) → captureFault r .number ≡ 0 → completeFault r .number ≡ 0
 unfolding captureFault
 capture-complete r e = orElse-zero _ _ e .0
 
-pub captures : (r : List ℕ) → captureFault r .number ≡ 0 → Captures r
+pub described : (r : List ℕ) → captureFault r .number ≡ 0 → Described r
 unfolding captureFault ownRule sheetRule
-captures r e =
+described r e =
     let x = orElse-zero _ _ e in
     let y = complete-zero r (capture-complete r e) in
     let z = orElse-zero _ _ (x .1) in
     go (descs r) refl (y .read) (y .ends) (z .0) (z .1)
   where
-    go : (ws : List Desc) → descs r ≡ ws → readFault 65534 0 0 r .number ≡ 0 → length r ≡ statedEnd r → ownRule r ws .number ≡ 0 → sheetRule ws .number ≡ 0 → Captures r
+    go : (ws : List Desc) → descs r ≡ ws → readFault 65534 0 0 r .number ≡ 0 → length r ≡ statedEnd r → ownRule r ws .number ≡ 0 → sheetRule ws .number ≡ 0 → Described r
     go [] e a c own sheet = absurd (omega arith)
     go (z ∷ ds) e a c own sheet =
         let x = if-zero _ _ _ own in
@@ -95,7 +94,7 @@ flags-legal (d ∷ ds) e =
     let x = orElse-zero (flagsRule (d .flags)) (flagsFaults ds) e in
     (x .0, flags-legal ds (x .1))
 
-module _ {r : List ℕ} (bs : Bytes r) {z : Desc} {ds : List Desc} (c : Capture r z ds) where
+module _ {r : List ℕ} (bs : Bytes r) {z : Desc} {ds : List Desc} (c : Describes r z ds) where
   all-found : walked 0 0 r .found ≡ z ∷ ds
   all-found = sym (wholes-accepted 65534 0 0 r (c .read)) ∙ c .found
 
@@ -161,31 +160,13 @@ module _ {r : List ℕ} (bs : Bytes r) {z : Desc} {ds : List Desc} (c : Capture 
 -- the drive that it describes is one that a sheet can describe, and its full response is the capture
 pub captured-fine : (r : List ℕ) → Bytes r → captureFault r .number ≡ 0 → Fine (captured (descs r))
 captured-fine r bs e =
-    let c = captures r e .holds in
+    let c = described r e .holds in
     rw (drive bs c) (drive-fine bs c)
 
 pub captured-full : (r : List ℕ) → Bytes r → captureFault r .number ≡ 0 → full 0 0 (captured (descs r)) ≡ r
 captured-full r bs e =
-    let c = captures r e .holds in
+    let c = described r e .holds in
     rw (drive bs c) (full-back bs c)
 
--- ---- its sheet: accepted, made of bytes, and with the capture as its full response
-
-module _ (r : List ℕ) (bs : Bytes r) (e : captureFault r .number ≡ 0) where
-  pub from-accepted : Accepted (sheetFrom r)
-  unfolding sheetFrom
-  from-accepted = sheet-accepted (captured (descs r)) (captured-fine r bs e)
-
-  pub from-bytes : Bytes (sheetFrom r)
-  unfolding sheetFrom
-  from-bytes = sheet-bytes (captured-fine r bs e)
-
-  pub from-means : meaning (sheetFrom r) ≡ captured (descs r)
-  unfolding sheetFrom
-  from-means = sheet-means (captured (descs r)) (captured-fine r bs e)
-
-  pub from-full : full 0 0 (meaning (sheetFrom r)) ≡ r
-  from-full = ap (full 0 0) from-means ∙ captured-full r bs e
-
 pub captured-short : (r : List ℕ) → captureFault r .number ≡ 0 → length r ≤ 65534
-captured-short r e = readFault-header 65534 0 0 r (captures r e .holds .read) .most
+captured-short r e = readFault-header 65534 0 0 r (described r e .holds .read) .most

@@ -24,8 +24,8 @@ use Rattle.profiles.specs.Profiles.{profilesOf, recordsFault}
 use Rattle.reading.specs.Completed.{completeFault, completed}
 use Rattle.reading.proofs.Completed.{descs-from, complete-fault, complete-none}
 use Rattle.sheet.specs.Check.{flagsRule}
-use Rattle.import.specs.Import.{ownRule, flagsFaults, sheetRule, captureFault}
-use Rattle.import.specs.inner.Pieces.{behind}
+use Rattle.capture.specs.Capture.{ownRule, flagsFaults, sheetRule, captureFault}
+use Rattle.capture.specs.inner.Behind.{behind}
 
 number-is : {r a : Refusal} → r ≡ a → r .number ≡ a .number
 number-is e = ap (λ (x : Refusal). x .number) e

@@ -1,8 +1,8 @@
--- `import::sheet_fault` meets its contract: the profiles' refusal, or the flags'.
-use Rattle.import.proofs.Faults.{sheet-profiles, sheet-flags}
+-- `capture::sheet_fault` meets its contract: the profiles' refusal, or the flags'.
+use Rattle.capture.proofs.Faults.{sheet-profiles, sheet-flags}
 use borrow.Author.Needs.{needs}
-use Rattle.import.proofs.sheet_fault.Statement.{statement}
-use Rattle.import.proofs.sheet_fault.Tie as tie
+use Rattle.capture.proofs.sheet_fault.Statement.{statement}
+use Rattle.capture.proofs.sheet_fault.Tie as tie
 
 returns : tie.Need-returns
 returns c =

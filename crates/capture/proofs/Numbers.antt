@@ -1,0 +1,102 @@
+-- Which numbers a capture can be refused with: what holds of each number of the rules holds of the number given. Assumes nothing.
+use mathlib.Core.Path.{_≡_, refl}
+use mathlib.Core.Logic.{_⊎_, inl, inr}
+use mathlib.Core.Bool.{Bool, true, false}
+use mathlib.Core.List.{List, [], _∷_}
+use Prim.Native.Nat.{ℕ, zero, suc, _+_, _≤_, _<_}
+use native.Mathlib.Omega.{arith}
+use lib.ListN.{length}
+use Rattle.refusal.specs.declared.Refusal.{Refusal}
+use Rattle.refusal.specs.First.{refuse, _if_else_, pickZero, _orElse_, firstOf}
+use Rattle.text.specs.Flags as text
+use Rattle.text.specs.Drive.{Desc}
+use Rattle.text.specs.Reading.{statedEnd, headerRule, headRule, numberAt, lengthAt, headFault, walk, walked, readFault}
+use Rattle.base.proofs.Compare.{le-or-lt}
+use Rattle.text.proofs.Walk.{walk-few, walk-bad, walk-short, walk-step}
+use Rattle.profiles.specs.Profiles.{recordRule, recordFault, recordsFault}
+use Rattle.sheet.specs.Check.{flagsRule}
+use Rattle.capture.specs.Capture.{ownRule, flagsFaults, sheetRule, captureFault}
+use Rattle.reading.specs.Places.{descs}
+use Rattle.reading.specs.Completed.{completeFault}
+
+module _ (P : ℕ → Type 0) where
+  pub if-is : (k : ℕ) (b : Bool) (y : Refusal) → P k → P (y .number) → P ((refuse k if b else y) .number)
+  unfolding _if_else_
+  if-is k true y h l = h
+  if-is k false y h l = l
+
+  if-not : (k : ℕ) (b : Bool) (y : Refusal) → b ≡ false → P (y .number) → P ((refuse k if b else y) .number)
+  unfolding _if_else_
+  if-not k b y e l = rw (e, _if_else_) l
+
+  pick-is : (k : ℕ) (a b : Refusal) → P (a .number) → P (b .number) → P (pickZero k a b .number)
+  unfolding pickZero
+  pick-is zero a b h l = l
+  pick-is (suc k) a b h l = h
+
+  pub orElse-is : (a b : Refusal) → P (a .number) → P (b .number) → P ((a orElse b) .number)
+  unfolding _orElse_
+  orElse-is a b h l = pick-is (a .number) a b h l
+
+  first-is : (f : ℕ → Refusal) (i k : ℕ) → P 0 → ((j : ℕ) → P (f j .number)) → P (firstOf f i k .number)
+  unfolding firstOf
+  first-is f i zero z h = z
+  first-is f i (suc k) z h = orElse-is (f i) (firstOf f (suc i) k) (h i) (first-is f (suc i) k z h)
+
+-- ---- a reading with RT 0: neither 13 nor 19
+
+module _ (P : ℕ → Type 0) (p0 : P 0) (p17 : P 17) (p18 : P 18) (p20 : P 20) (sfn end : ℕ) (s : List ℕ) where
+  head-is : (lo at : ℕ) → P (headFault 0 sfn end s lo at .number)
+  unfolding headFault headRule
+  head-is lo at = if-is P 17 _ _ p17 (if-is P 18 _ _ p18 (if-is P 18 _ _ p18 (if-not P 19 _ _ refl (if-is P 20 _ _ p20 p0))))
+
+  walk-is : (k lo at : ℕ) → P (walk k 0 sfn end s lo at .fault .number)
+  unfolding walk
+  walk-is zero lo at = p0
+  walk-is (suc k) lo at =
+      go (headFault 0 sfn end s lo at .number) refl (le-or-lt (at + 4) (length s)) (le-or-lt (at + 4 + lengthAt s at) (length s))
+      (walk-is k (numberAt s at + 1) (at + 4 + lengthAt s at))
+    where
+      go : (n : ℕ) → headFault 0 sfn end s lo at .number ≡ n → (at + 4 ≤ length s) ⊎ (length s < at + 4)
+          → (at + 4 + lengthAt s at ≤ length s) ⊎ (length s < at + 4 + lengthAt s at)
+          → P (walk k 0 sfn end s (numberAt s at + 1) (at + 4 + lengthAt s at) .fault .number)
+          → P (walk (suc k) 0 sfn end s lo at .fault .number)
+      go n e (inr few) q h = rw (walk-few k 0 sfn end s lo at few) p0
+      go zero e (inl four) (inl all) h = rw (walk-step k 0 sfn end s lo at four e all) h
+      go zero e (inl four) (inr cut) h = rw (walk-short k 0 sfn end s lo at four e cut) p0
+      go (suc n) e (inl four) q h = rw (walk-bad k 0 sfn end s lo at four (λ z. omega arith)) (head-is lo at)
+
+read-is : (P : ℕ → Type 0) → P 0 → P 14 → P 15 → P 16 → P 17 → P 18 → P 20 → (limit sfn : ℕ) (s : List ℕ) → P (readFault limit 0 sfn s .number)
+unfolding readFault headerRule walked
+read-is P p0 p14 p15 p16 p17 p18 p20 limit sfn s =
+    orElse-is P _ _
+    (if-not P 13 _ _ refl (if-is P 14 _ _ p14 (if-is P 14 _ _ p14 (if-is P 15 _ _ p15 (if-is P 15 _ _ p15 (if-is P 16 _ _ p16 (if-is P 16 _ _ p16 p0)))))))
+    (walk-is P p0 p17 p18 p20 sfn (statedEnd s) s (length s) sfn 8)
+
+-- ---- a capture
+
+module _ (P : ℕ → Type 0) (p0 : P 0) where
+  own-is : P 41 → (r : List ℕ) (ds : List Desc) → P (ownRule r ds .number)
+  unfolding ownRule
+  own-is p41 r [] = p41
+  own-is p41 r (z ∷ ds) = if-is P 41 _ _ p41 (if-is P 41 _ _ p41 (if-is P 41 _ _ p41 (if-is P 41 _ _ p41 p0)))
+
+  flags-is : P 5 → (ds : List Desc) → P (flagsFaults ds .number)
+  unfolding flagsFaults flagsRule text.flagsGiving
+  flags-is p5 [] = p0
+  flags-is p5 (d ∷ ds) = orElse-is P _ _ (orElse-is P _ _ (if-is P 5 _ _ p5 p0) (orElse-is P _ _ (if-is P 5 _ _ p5 p0) (if-is P 5 _ _ p5 p0))) (flags-is p5 ds)
+
+  record-is : P 3 → (b : List ℕ) (i : ℕ) → P (recordFault b i .number)
+  unfolding recordFault recordRule
+  record-is p3 b i = if-is P 3 _ _ p3 (if-is P 3 _ _ p3 (if-is P 3 _ _ p3 (if-is P 3 _ _ p3 p0)))
+
+  sheet-is : P 3 → P 5 → (ds : List Desc) → P (sheetRule ds .number)
+  unfolding sheetRule recordsFault
+  sheet-is p3 p5 [] = p0
+  sheet-is p3 p5 (z ∷ ds) = orElse-is P _ _ (first-is P _ 0 _ p0 (record-is p3 (z .body))) (flags-is p5 ds)
+
+pub capture-is : (P : ℕ → Type 0) → P 0 → P 14 → P 15 → P 16 → P 17 → P 18 → P 20 → P 29 → P 41 → P 3 → P 5 → (r : List ℕ) → P (captureFault r .number)
+unfolding captureFault completeFault
+capture-is P p0 p14 p15 p16 p17 p18 p20 p29 p41 p3 p5 r =
+    orElse-is P (completeFault r) _ (orElse-is P _ _ (read-is P p0 p14 p15 p16 p17 p18 p20 65534 0 r) (if-is P 29 _ _ p29 p0))
+    (orElse-is P _ _ (own-is P p0 p41 r (descs r)) (sheet-is P p0 p3 p5 (descs r)))

@@ -1,0 +1,110 @@
+// A captured response to RT 0 from 0: whether a drive sheet can describe its drive and give it back, and how many features that drive has.
+ghost use mathlib.Core.Path.{_≡_};
+ghost use Prim.Native.Nat.{_<_};
+ghost use lib.ListN.{length};
+ghost use Rattle.text.specs.Response.{headerLength};
+ghost use Rattle.reading.specs.inner.Between.{from};
+ghost use Rattle.reading.specs.Completed.{completed};
+ghost use Rattle.capture.specs.Capture.{ownRule, flagsFaults, sheetRule, captureFault, captureOf};
+use refusal::Refusal;
+use text::Flags;
+use text::Header;
+use text::Profile;
+use text::Reading;
+
+// What the check answers: all 0 but the refusal where there is one. The features are those behind feature 0.
+pub struct Capture {
+    pub refusal: Refusal,
+    pub features: u16,
+}
+
+// ---- what is refused of a complete response, whose descriptors stand behind the header
+
+// 41: not what a box of ours sends.
+fn own_fault(s: &[u8]) -> Refusal
+    ensures { λ r. ⌜ r ≡ ownRule (now (s .entry)) (from (now (s .entry)) headerLength) ⌝ }
+{
+    if s.len() <= Header::LENGTH {
+        return refusal::NOT_OWN;
+    }
+    let first = reading::number_at(s, Header::LENGTH);
+    if first.0 != 0 {
+        return refusal::NOT_OWN;
+    }
+    if reading::flags_at(s, Header::LENGTH) != 3 {
+        return refusal::NOT_OWN;
+    }
+    if fields::get2(s, 4) != 0 {
+        return refusal::NOT_OWN;
+    }
+    let current = profiles::current(reading::body_at(s, Header::LENGTH));
+    let stated = Profile(fields::get2(s, 6));
+    if stated.0 != current.0 {
+        return refusal::NOT_OWN;
+    }
+    refusal::ACCEPTED
+}
+
+// 5 at each descriptor from a place on.
+fn flags_fault(s: &[u8], first: usize) -> Refusal
+    ensures { λ r. ⌜ r ≡ flagsFaults (from (now (s .entry)) first) ⌝ }
+{
+    let mut at = first;
+    while at < s.len() {
+        let flags = Flags(reading::flags_at(s, at));
+        let fault = sheet::flags_rule(flags);
+        if fault.number != 0 {
+            return fault;
+        }
+        at = reading::next_at(s, at);
+    }
+    refusal::ACCEPTED
+}
+
+// 3 at each profile, then 5.
+// Asks: a response with a descriptor, which 41 has shown before.
+fn sheet_fault(s: &[u8]) -> Refusal
+    requires { ⌜ headerLength < length (now s) ⌝ }
+    ensures { λ r. ⌜ r ≡ sheetRule (from (now (s .entry)) headerLength) ⌝ }
+{
+    let fault = profiles::fault(reading::body_at(s, Header::LENGTH));
+    if fault.number != 0 {
+        return fault;
+    }
+    flags_fault(s, reading::next_at(s, Header::LENGTH))
+}
+
+// The first refusal of a response that was read.
+// Asks: the reading of this response.
+fn capture_fault(read: Reading, s: &[u8]) -> Refusal
+    requires { ⌜ read ≡ completed (now s) ⌝ }
+    ensures { λ r. ⌜ r ≡ captureFault (now (s .entry)) ⌝ }
+{
+    let refused = read.refusal;
+    if refused.number != 0 {
+        return refused;
+    }
+    let own = own_fault(s);
+    if own.number != 0 {
+        return own;
+    }
+    sheet_fault(s)
+}
+
+// The check of a captured response to RT 0 from 0.
+pub fn check(s: &[u8]) -> Capture
+    ensures { λ r. ⌜ r ≡ captureOf (now (s .entry)) ⌝ }
+{
+    let read = reading::complete(s);
+    let fault = capture_fault(read, s);
+    if fault.number != 0 {
+        return Capture {
+            refusal: fault,
+            features: 0,
+        };
+    }
+    Capture {
+        refusal: refusal::ACCEPTED,
+        features: (read.count - 1) as u16,
+    }
+}

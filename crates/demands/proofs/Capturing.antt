@@ -1,0 +1,39 @@
+-- A captured response that is checked, with no sheet made of it. `captureOf`, in crates/capture/specs/Capture.antt, is what the contract of `capture::check` says;
+-- `captured (descs r)` is the drive that the response r describes. Assumes nothing.
+use mathlib.Core.Path.{_≡_, ap, _∙_}
+use mathlib.Core.List.{List}
+use Prim.Native.Nat.{ℕ, _≤_}
+use lib.ListN.{length}
+use Rattle.base.specs.Lists.{Bytes}
+use Rattle.refusal.specs.First.{accept}
+use Rattle.text.specs.Drive.{Drive}
+use Rattle.text.specs.Response.{full}
+use Rattle.reading.specs.Places.{descs}
+use Rattle.sheet.specs.Meaning.{Fine}
+use Rattle.capture.specs.declared.Capture.{Capture}
+use Rattle.capture.specs.Capture.{captured, captureFault, captureOf}
+use Rattle.capture.proofs.Describes.{captured-fine, captured-full}
+use Rattle.capture.proofs.Checked.{captureOf-fault, captureOf-none}
+use Rattle.capture.proofs.Own.{own-accepted, own-drive}
+
+-- Of an answer o to the response r: the first refusal, in the paper's order, and the count 0; where there is none, how many features the drive has that r
+-- describes. It is a drive that a sheet can describe, and r is its full response. The full response of any such drive, of at most 65,534 bytes, is not
+-- refused and describes that drive.
+pub record Captures (r : List ℕ) (o : Capture) : Type 0 where
+  pub refuses : (captureFault r .number ≡ 0 → ⊥) → o ≡ record { refusal = captureFault r; features = 0 }
+  pub counts : captureFault r .number ≡ 0 → o ≡ record { refusal = accept; features = length (captured (descs r) .features) }
+  pub fine : Bytes r → captureFault r .number ≡ 0 → Fine (captured (descs r))
+  pub back : Bytes r → captureFault r .number ≡ 0 → full 0 0 (captured (descs r)) ≡ r
+  pub own : (m : Drive) → Fine m → length (full 0 0 m) ≤ 65534 → r ≡ full 0 0 m → o ≡ record { refusal = accept; features = length (m .features) }
+
+pub captures : (r : List ℕ) → Captures r (captureOf r)
+captures r = record {
+  refuses = captureOf-fault r;
+  counts = captureOf-none r;
+  fine = captured-fine r;
+  back = captured-full r;
+  own = λ m f l e.
+      let none : captureFault r .number ≡ 0 = rw e (ap (λ x. x .number) (own-accepted f l)) in
+      let drive : captured (descs r) ≡ m = rw e (own-drive f l) in
+      captureOf-none r none ∙ ap (λ (d : Drive). record { refusal = accept; features = length (d .features) }) drive;
+}
