@@ -4,7 +4,7 @@ ghost use mathlib.Core.Path.{_≡_};
 ghost use mathlib.Core.List.{[], _∷_};
 ghost use Rattle.lent.specs.Wrote.{Wrote};
 ghost use Rattle.text.specs.Reading.{reading};
-ghost use Rattle.text.specs.Response.{most};
+ghost use Rattle.text.specs.Response.{most, returnLimit};
 ghost use Rattle.sheet.specs.Check.{verdict};
 ghost use Rattle.responder.specs.Answer.{answered};
 ghost use Rattle.responder.specs.Trusting.{trustingCommand};
@@ -119,7 +119,7 @@ pub extern "C" fn gcf_respond_accepted(
 // Reads a response. Numbers: profile, Data Length, whole descriptors, the place behind the last, 1 if complete.
 #[no_mangle]
 pub extern "C" fn gcf_read(rt: u8, sfn: Feature, response: &[u8], numbers: &mut [u64]) -> u8
-    ensures { λ r. ⌜ left r noBuffer (now (numbers .exit)) ≡ showRead (reading 65534 rt (sfn .0) (now (response .entry))) (now (numbers .entry)) ⌝ }
+    ensures { λ r. ⌜ left r noBuffer (now (numbers .exit)) ≡ showRead (reading returnLimit rt (sfn .0) (now (response .entry))) (now (numbers .entry)) ⌝ }
 {
     let reading = reading::read(rt, sfn, response);
     let fault = reading.refusal;

@@ -7,7 +7,6 @@ ghost use Rattle.reading.specs.inner.Between.{from};
 ghost use Rattle.reading.specs.Completed.{completed};
 ghost use Rattle.capture.specs.Capture.{ownRule, flagsFaults, sheetRule, captureFault, captureOf};
 use refusal::Refusal;
-use text::Flags;
 use text::Header;
 use text::Profile;
 use text::Reading;
@@ -31,7 +30,7 @@ fn own_fault(s: &[u8]) -> Refusal
     if first.0 != 0 {
         return refusal::NOT_OWN;
     }
-    if reading::flags_at(s, Header::LENGTH) != 3 {
+    if reading::flags_at(s, Header::LENGTH).0 != 3 {
         return refusal::NOT_OWN;
     }
     if fields::get2(s, 4) != 0 {
@@ -51,7 +50,7 @@ fn flags_fault(s: &[u8], first: usize) -> Refusal
 {
     let mut at = first;
     while at < s.len() {
-        let flags = Flags(reading::flags_at(s, at));
+        let flags = reading::flags_at(s, at);
         let fault = sheet::flags_rule(flags);
         if fault.number != 0 {
             return fault;

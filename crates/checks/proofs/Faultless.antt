@@ -24,8 +24,7 @@ use Rattle.checks.specs.declared.Finding.{Finding}
 use Rattle.checks.specs.Legal.{rowOf}
 use Rattle.checks.specs.Rules.{byteOf, flagsFault, wrongLength, flagsShort, flagsBarred, rowRule, reservedRule, reservedAt, cueRule, profileAt, profilesFault, bodyFault, descFault}
 use Rattle.reading.specs.Places.{descs}
-use Rattle.checks.specs.Reported.{reported}
-use Rattle.checks.specs.Check.{finding, firstFinding, checkedAll, checked}
+use Rattle.checks.specs.Check.{reported, finding, firstFinding, checkedAll, checked}
 use Rattle.checks.specs.Faultless.{Fits, Faultless, Passes}
 use Rattle.checks.proofs.Bools.{not-yes, not-no, and-false, false-and, and-true, true-and, or-false, false-or}
 use Rattle.checks.proofs.Calls.{if-yes, if-no}

@@ -2,31 +2,25 @@
 use mathlib.Core.Path.{_≡_, refl, sym, ap, _∙_}
 use mathlib.Core.Bool.{true, false, true≢false}
 use mathlib.Core.List.{List, [], _∷_}
-use Prim.Native.Nat.{ℕ, zero, suc}
+use Prim.Native.Nat.{ℕ}
 use native.Mathlib.Omega.{arith}
 use lib.ListN.{length}
 use Rattle.refusal.specs.declared.Refusal.{Refusal}
 use Rattle.refusal.specs.First.{refuse}
-use Rattle.refusal.proofs.First.{orElse-none, orElse-fault}
+use Rattle.refusal.proofs.First.{orElse-none, orElse-fault, unless-none, unless-fault}
 use Rattle.checks.specs.declared.Judgement.{Judgement}
 use Rattle.checks.specs.declared.Judgement.the-variants.{Conforms, Missing, Refused}
 use Rattle.reading.specs.Places.{descs}
 use Rattle.reading.specs.Completed.{completeFault}
 use Rattle.checks.specs.Required.{hasTable}
-use Rattle.checks.specs.Judge.{Said, says, said, lowest, judgeFault, judged}
+use Rattle.checks.specs.Judge.{Said, said, lowest, judgeFault, judged}
 use Rattle.checks.proofs.Bools.{not-yes, not-no}
 use Rattle.checks.proofs.Calls.{if-yes, if-no}
 
 module _ (p : ℕ) (s : List ℕ) where
   refused-is : (r : Refusal) → r ≡ judgeFault p s → (r .number ≡ 0 → ⊥) → said (Refused r) ≡ judged p s
   unfolding judged
-  refused-is r e k = go (r .number) refl
-    where
-      go : (n : ℕ) → r .number ≡ n → said (Refused r) ≡ judged p s
-      go zero f = absurd (k f)
-      go (suc n) f =
-          let g : judgeFault p s .number ≡ suc n = ap (λ (x : Refusal). x .number) (sym e) ∙ f in
-          rw (g, judged) (ap (λ (m : ℕ). says m false []) f)
+  refused-is r e k = rw e (sym (unless-fault (judgeFault p s) _ _ (rw (← e) k)))
 
   pub judge-input : (r : Refusal) → r ≡ completeFault s → (r .number ≡ 0 → ⊥) → said (Refused r) ≡ judged p s
   unfolding judgeFault
@@ -47,7 +41,7 @@ module _ (p : ℕ) (s : List ℕ) where
     judge-lowest x t l =
         let g : judgeFault p s .number ≡ 0 =
         ap (λ (x : Refusal). x .number) (orElse-none (completeFault s) _ none ∙ if-no _ _ _ (not-no _ t)) in
-        l ∙ sym (rw (g, judged))
+        l ∙ sym (unless-none (judgeFault p s) _ _ g)
 
 -- a judgement is known by what it says
 pub said-injective : (a b : Judgement) → said a ≡ said b → a ≡ b

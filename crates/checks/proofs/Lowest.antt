@@ -9,12 +9,15 @@ use native.Mathlib.Omega.{arith}
 use lib.Dec.{eqb, leb}
 use Rattle.base.specs.Lists.{All}
 use Rattle.base.proofs.Lists.{all-map}
+use Rattle.refusal.specs.declared.Refusal.{Refusal}
+use Rattle.refusal.proofs.First.{unless-none, unless-fault}
 use Rattle.text.specs.Drive.{Desc}
+use Rattle.checks.specs.declared.Judgement.the-variants.{Refused}
 use Rattle.checks.specs.declared.required.Need.{Need}
 use Rattle.checks.specs.Pick.{pick, some}
 use Rattle.reading.specs.Places.{descs}
 use Rattle.checks.specs.Required.{required, lacks}
-use Rattle.checks.specs.Judge.{Said, says, lowest, judgeFault, judged}
+use Rattle.checks.specs.Judge.{Said, says, said, lowest, judgeFault, judged}
 use Rattle.checks.proofs.Bools.{and-true, true-and, false-and}
 use Rattle.checks.proofs.Pick.{pick-here, pick-past}
 
@@ -114,10 +117,10 @@ module _ (p : ℕ) (s : List ℕ) where
   judged-lowest x e k = go (judgeFault p s .number) refl
     where
       go : (n : ℕ) → judgeFault p s .number ≡ n → first p (descs s) required ≡ x
-      go zero h = sym (rw (h, judged)) ∙ e
+      go zero h = sym (unless-none (judgeFault p s) _ _ h) ∙ e
       go (suc n) h =
-          let j : judged p s ≡ says (suc n) false [] = rw (h, judged) in
-          let z : suc n ≡ x .number = ap (λ (y : Said). y .number) (sym j ∙ e) in
+          let j = unless-fault (judgeFault p s) (λ (r : Refusal). said (Refused r)) (lowest p (descs s)) (λ z. omega arith) in
+          let z : judgeFault p s .number ≡ x .number = ap (λ (y : Said). y .number) (sym j ∙ e) in
           absurd (omega arith)
 
   -- every line of the profile is met

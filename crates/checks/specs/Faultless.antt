@@ -15,7 +15,7 @@ use Rattle.checks.specs.Legal.{rowOf}
 use Rattle.checks.specs.Rules.{byteOf, maskAt}
 use Rattle.reading.specs.Places.{descs}
 use Rattle.reading.specs.Completed.{completeFault}
-use Rattle.checks.specs.Reported.{reported}
+use Rattle.checks.specs.Check.{reported}
 
 -- a body is as long as its row says
 abbrev pub Fits : Length → List ℕ → Type 0

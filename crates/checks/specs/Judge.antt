@@ -1,9 +1,9 @@
 -- Whether a response has what a profile requires. Assumes nothing: these are definitions.
 use mathlib.Core.Bool.{Bool, true, false, not}
 use mathlib.Core.List.{List, [], _∷_}
-use Prim.Native.Nat.{ℕ, zero, suc}
+use Prim.Native.Nat.{ℕ}
 use Rattle.refusal.specs.declared.Refusal.{Refusal}
-use Rattle.refusal.specs.First.{refuse, accept, _if_else_, _orElse_}
+use Rattle.refusal.specs.First.{refuse, accept, _if_else_, _orElse_, unless}
 use Rattle.text.specs.Drive.{Desc}
 use Rattle.checks.specs.declared.Judgement.{Judgement}
 use Rattle.checks.specs.declared.Judgement.the-variants.{Conforms, Missing, Refused}
@@ -39,4 +39,4 @@ judgeFault p s =
     accept
 
 unfoldable pub judged : (profile : ℕ) → List ℕ → Said
-judged p s = elim (judgeFault p s .number) [ zero ↦ lowest p (descs s) | suc k ↦ says (suc k) false [] ]
+judged p s = unless (judgeFault p s) (λ r. said (Refused r)) (lowest p (descs s))

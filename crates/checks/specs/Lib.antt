@@ -1,7 +1,6 @@
 pub mod Pick
 pub mod Legal
 pub mod Rules
-pub mod Reported
 pub mod Check
 pub mod Faultless
 pub mod Required

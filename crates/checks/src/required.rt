@@ -10,6 +10,7 @@ ghost use Rattle.checks.specs.Required.{required, line, givesRule, gives
 ghost use Rattle.checks.specs.Judge.{said, lowest};
 use super::Judgement;
 use text::Feature;
+use text::Header;
 use text::Profile;
 
 // A need: the profile needs the feature, with a body of at least so many bytes and with these bits set in the body byte at this place, which is
@@ -111,7 +112,7 @@ fn given_in(need: Need, s: &[u8]) -> bool
     requires { ⌜ completeFault (now s) .number ≡ 0 ⌝ }
     ensures { λ r. ⌜ r ≡ some (gives need) (descs (now (s .entry))) ⌝ }
 {
-    let mut at = 8;
+    let mut at = Header::LENGTH;
     while at < s.len() {
         if gives_at(need, s, at) {
             return true;

@@ -16,6 +16,7 @@ use super::legal::Row;
 use refusal::Refusal;
 use text::Feature;
 use text::Flags;
+use text::Header;
 use text::Profile;
 
 // ---- the rules, on numbers
@@ -239,7 +240,7 @@ fn fault_at(removable: bool, s: &[u8], at: usize) -> Refusal
     ensures { λ r. ⌜ r ≡ descFault removable (descAt (now (s .entry)) at) ⌝ }
 {
     let f = reading::number_at(s, at);
-    let flags = Flags(reading::flags_at(s, at));
+    let flags = reading::flags_at(s, at);
     desc_fault(removable, f, flags, reading::body_at(s, at))
 }
 
@@ -249,7 +250,7 @@ pub fn first_fault(removable: bool, s: &[u8]) -> Finding
     requires { ⌜ completeFault (now s) .number ≡ 0 ⌝ }
     ensures { λ r. ⌜ r ≡ firstFinding removable (descs (now (s .entry))) ⌝ }
 {
-    let mut at = 8;
+    let mut at = Header::LENGTH;
     while at < s.len() {
         let fault = fault_at(removable, s, at);
         if fault.number != 0 {

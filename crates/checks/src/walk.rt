@@ -1,9 +1,10 @@
-// The descriptors of a complete response, one behind the other from byte 8 on.
+// The descriptors of a complete response, one behind the other from behind the header on.
 ghost use mathlib.Core.Path.{_≡_};
 ghost use Rattle.reading.specs.Places.{descs};
 ghost use Rattle.reading.specs.Completed.{completeFault};
-ghost use Rattle.checks.specs.Reported.{reported};
+ghost use Rattle.checks.specs.Check.{reported};
 use text::Feature;
+use text::Header;
 
 // Whether a feature is reported.
 // Asks: a response that is accepted and complete, which the reading's numbers and 29 have shown before.
@@ -11,7 +12,7 @@ pub fn reports(f: Feature, s: &[u8]) -> bool
     requires { ⌜ completeFault (now s) .number ≡ 0 ⌝ }
     ensures { λ r. ⌜ r ≡ reported (f .0) (descs (now (s .entry))) ⌝ }
 {
-    let mut at = 8;
+    let mut at = Header::LENGTH;
     while at < s.len() {
         let number = reading::number_at(s, at);
         if number.0 == f.0 {

@@ -39,8 +39,7 @@ use Rattle.checks.specs.Pick.{pick}
 use Rattle.checks.specs.Rules.{byteOf, flagsFault, rowRule, reservedRule, reservedAt, cueRule, profileAt, profilesFault, bodyFault, descFault}
 use Rattle.reading.specs.Places.{descs}
 use Rattle.reading.specs.Completed.{completeFault}
-use Rattle.checks.specs.Reported.{reported}
-use Rattle.checks.specs.Check.{finding, _orNext_, firstFinding, checkedAll, checked}
+use Rattle.checks.specs.Check.{reported, finding, _orNext_, firstFinding, checkedAll, checked}
 use Rattle.checks.specs.Faultless.{Passes}
 use Rattle.checks.specs.Required.{required, lacks}
 use Rattle.checks.specs.Judge.{Said, says, judged}

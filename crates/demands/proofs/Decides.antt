@@ -235,7 +235,7 @@ pub number-at-decided : Decided number-at.ended (λ M. number-at.clauses) (λ M.
 number-at-decided x = decides (x .𝓤) (λ o o′ p q. ((λ i. record { 0 = joined p q i }), refl))
 
 pub reading-flags-at-decided : Decided reading-flags-at.ended (λ M. reading-flags-at.clauses) (λ M. reading-flags-at.spec)
-reading-flags-at-decided x = decides (x .𝓤) (λ o o′ p q. (joined p q, refl))
+reading-flags-at-decided x = decides (x .𝓤) (λ o o′ p q. ((λ i. record { 0 = joined p q i }), refl))
 
 pub reading-length-at-decided : Decided reading-length-at.ended (λ M. reading-length-at.clauses) (λ M. reading-length-at.spec)
 reading-length-at-decided x = decides (x .𝓤) (λ o o′ p q. (joined p q, refl))

@@ -198,7 +198,7 @@ first-from-tied x = promises (x .𝓤) (λ o e. e)
 pub number-at-tied : Promised number-at.ended (λ M. number-at.clauses) (λ M. number-at.spec) (λ x o. o .0 .0 ≡ numberAt (x .args .0 .now) (x .args .1 .0))
 number-at-tied x = promises (x .𝓤) (λ o e. e)
 
-pub reading-flags-at-tied : Promised reading-flags-at.ended (λ M. reading-flags-at.clauses) (λ M. reading-flags-at.spec) (λ x o. o .0 ≡ flagsAt (x .args .0 .now) (x .args .1 .0))
+pub reading-flags-at-tied : Promised reading-flags-at.ended (λ M. reading-flags-at.clauses) (λ M. reading-flags-at.spec) (λ x o. o .0 .0 ≡ flagsAt (x .args .0 .now) (x .args .1 .0))
 reading-flags-at-tied x = promises (x .𝓤) (λ o e. e)
 
 pub reading-length-at-tied : Promised reading-length-at.ended (λ M. reading-length-at.clauses) (λ M. reading-length-at.spec) (λ x o. o .0 ≡ lengthAt (x .args .0 .now) (x .args .1 .0))

@@ -1,6 +1,5 @@
 -- Laws that this crate's proofs cite.
 pub mod Decimal
-pub mod Lines
 pub mod Passed
 pub mod Outcome
 pub mod Numbers

@@ -1,9 +1,10 @@
 -- A listing by the reading at hand: refused or accepted. Assumes nothing.
 use mathlib.Core.Path.{_≡_, refl}
 use mathlib.Core.List.{List, _++_}
-use Prim.Native.Nat.{ℕ, zero, suc}
+use Prim.Native.Nat.{ℕ}
 use lib.ListN.{length}
 use Rattle.base.specs.Lists.{flat}
+use Rattle.refusal.proofs.First.{unless-none, unless-fault}
 use Rattle.text.specs.declared.Reading.{Reading}
 use Rattle.text.specs.Reading.{readFault, walked, nothingRead, taken, reading}
 use Rattle.reading.specs.Places.{descs}
@@ -13,15 +14,11 @@ use Rattle.listing.specs.Listing.{firstLine, descLine, lastLine, refused
 module _ (s : List ℕ) where
   pub listing-fault : (readFault 65534 0 0 s .number ≡ 0 → ⊥) → listing s ≡ refusedLine (readFault 65534 0 0 s .number)
   unfolding listing
-  listing-fault k = go (readFault 65534 0 0 s .number) refl
-    where
-      go : (n : ℕ) → readFault 65534 0 0 s .number ≡ n → listing s ≡ refusedLine (readFault 65534 0 0 s .number)
-      go zero e = absurd (k e)
-      go (suc n) e = rw (e, listing)
+  listing-fault k = unless-fault (readFault 65534 0 0 s) _ _ k
 
   pub listing-none : readFault 65534 0 0 s .number ≡ 0 → listing s ≡ accepted s (walked 0 0 s .found)
   unfolding listing
-  listing-none e = rw (e, listing)
+  listing-none e = unless-none (readFault 65534 0 0 s) _ _ e
 
   module _ (r : Reading) (q : r ≡ reading 65534 0 0 s) where
     pub listing-refused : (r .refusal .number ≡ 0 → ⊥) → listing s ≡ refusedLine (r .refusal .number)

@@ -1,12 +1,14 @@
 -- The listing of a response to RT 0 from 0, as the codes of its characters. Assumes nothing: these are definitions.
 use mathlib.Core.Bool.{Bool, true, false}
 use mathlib.Core.List.{List, [], _∷_, _++_}
-use Prim.Native.Nat.{ℕ, zero, suc}
+use Prim.Native.Nat.{ℕ}
 use lib.Dec.{eqb}
 use lib.ListN.{length}
 use Rattle.base.specs.Lists.{flat}
+use Rattle.refusal.specs.First.{unless}
 use Rattle.text.specs.Flags.{version, persistent, current}
 use Rattle.text.specs.Drive.{Desc}
+use Rattle.text.specs.Response.{returnLimit}
 use Rattle.text.specs.Reading.{statedProfile, statedEnd, walked, readFault}
 use Rattle.listing.specs.Digits.{hex4, decimal}
 
@@ -16,14 +18,14 @@ words [] = 10 ∷ []
 words (w ∷ []) = w ++ (10 ∷ [])
 words (w ∷ v ∷ ws) = w ++ (32 ∷ []) ++ words (v ∷ ws)
 
--- the letter where a bit is set, else `-`
-unfoldable pub mark : (letter bit : ℕ) → ℕ
-mark letter zero = 45
-mark letter (suc b) = letter
+-- the letter where a flag is set, else `-`
+unfoldable pub mark : (letter : ℕ) (set : Bool) → ℕ
+mark letter true = letter
+mark letter false = 45
 
 -- `P` or `-` for Persistent, `C` or `-` for Current
 unfoldable pub marks : (flags : ℕ) → List ℕ
-marks flags = mark 80 (persistent flags) ∷ mark 67 (current flags) ∷ []
+marks flags = mark 80 (eqb (persistent flags) 1) ∷ mark 67 (eqb (current flags) 1) ∷ []
 
 -- the first line: current profile, bytes received, count of whole descriptors
 unfoldable pub firstLine : (profile received count : ℕ) → List ℕ
@@ -51,4 +53,4 @@ accepted s ds = firstLine (statedProfile s) (length s) (length ds) ++ flat descL
 
 -- the listing of any bytes
 unfoldable pub listing : List ℕ → List ℕ
-listing s = elim (readFault 65534 0 0 s .number) [ zero ↦ accepted s (walked 0 0 s .found) | suc e ↦ refusedLine (suc e) ]
+listing s = unless (readFault returnLimit 0 0 s) (λ r. refusedLine (r .number)) (accepted s (walked 0 0 s .found))

@@ -4,6 +4,7 @@ ghost use mathlib.Core.List.{[], _∷_};
 ghost use Prim.Native.Nat.{_<_};
 ghost use Rattle.base.specs.Lists.{flat};
 ghost use Rattle.lent.specs.Wrote.{Wrote};
+ghost use Rattle.text.specs.Response.{returnLimit};
 ghost use Rattle.text.specs.Reading.{numberAt, flagsAt, lengthAt, reading};
 ghost use Rattle.reading.specs.Places.{descs};
 ghost use Rattle.listing.specs.Digits.{hex4, decimal};
@@ -12,6 +13,8 @@ ghost use Rattle.listing.specs.Listing.{marks, firstLine, lineOf, descLi
 ghost use Rattle.listing.specs.Listing.{mark as Listing·mark};
 use refusal::Refusal;
 use text::Feature;
+use text::Flags;
+use text::Header;
 use text::Profile;
 
 // No listing is longer: a first line of 17 bytes, 16,381 lines of 15, and `cut`.
@@ -59,21 +62,21 @@ fn put_decimal(out: &mut [u8], at: usize, n: usize) -> usize
 
 // ---- lines
 
-// The letter where a bit is set, else `-`.
-fn mark(letter: u8, bit: u8) -> u8
-    ensures { λ r. ⌜ r ≡ Listing·mark letter bit ⌝ }
+// The letter where a flag is set, else `-`.
+fn mark(letter: u8, set: bool) -> u8
+    ensures { λ r. ⌜ r ≡ Listing·mark letter set ⌝ }
 {
-    if bit == 0 {
-        return b'-';
+    if set {
+        return letter;
     }
-    letter
+    b'-'
 }
 
-fn put_marks(out: &mut [u8], at: usize, flags: u8) -> usize
-    ensures { λ r. ⌜ Wrote (now (out .entry)) at (marks flags) r (now (out .exit)) ⌝ }
+fn put_marks(out: &mut [u8], at: usize, flags: Flags) -> usize
+    ensures { λ r. ⌜ Wrote (now (out .entry)) at (marks (flags .0)) r (now (out .exit)) ⌝ }
 {
-    let a = lent::put(out, at, mark(b'P', flags / 2 % 2));
-    lent::put(out, a, mark(b'C', flags % 2))
+    let a = lent::put(out, at, mark(b'P', flags.persistent()));
+    lent::put(out, a, mark(b'C', flags.current()))
 }
 
 fn put_first(out: &mut [u8], profile: Profile, received: usize, count: u32) -> usize
@@ -87,14 +90,14 @@ fn put_first(out: &mut [u8], profile: Profile, received: usize, count: u32) -> u
     lent::put(out, e, b'\n')
 }
 
-fn put_line(out: &mut [u8], at: usize, feature: Feature, flags: u8, len: u8) -> usize
-    ensures { λ r. ⌜ Wrote (now (out .entry)) at (lineOf (feature .0) flags len) r (now (out .exit)) ⌝ }
+fn put_line(out: &mut [u8], at: usize, feature: Feature, flags: Flags, len: u8) -> usize
+    ensures { λ r. ⌜ Wrote (now (out .entry)) at (lineOf (feature .0) (flags .0) len) r (now (out .exit)) ⌝ }
 {
     let a = put_hex4(out, at, feature.0);
     let b = lent::put(out, a, b' ');
     let c = put_marks(out, b, flags);
     let d = lent::put(out, c, b' ');
-    let e = put_decimal(out, d, (flags / 4 % 16) as usize);
+    let e = put_decimal(out, d, flags.version() as usize);
     let f = lent::put(out, e, b' ');
     let g = put_decimal(out, f, len as usize);
     lent::put(out, g, b'\n')
@@ -110,14 +113,14 @@ fn put_line_at(out: &mut [u8], at: usize, s: &[u8], place: usize) -> usize
     put_line(out, at, feature, flags, len)
 }
 
-// The lines of the whole descriptors, which stand from place 8 to the end of the reading.
+// The lines of the whole descriptors, which stand from behind the header to the end of the reading.
 // Asks: the end that the reading of this response gave.
 fn put_lines(out: &mut [u8], at: usize, s: &[u8], end: usize) -> usize
-    requires { ⌜ end ≡ reading 65534 0 0 (now s) .end ⌝ }
+    requires { ⌜ end ≡ reading returnLimit 0 0 (now s) .end ⌝ }
     ensures { λ r. ⌜ Wrote (now (out .entry)) at (flat descLine (descs (now (s .entry)))) r (now (out .exit)) ⌝ }
 {
     let mut next = at;
-    let mut place: usize = 8;
+    let mut place = Header::LENGTH;
     while place < end {
         next = put_line_at(out, next, s, place);
         place = reading::next_at(s, place);

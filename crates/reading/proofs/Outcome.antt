@@ -8,14 +8,16 @@ use lib.ListN.{length}
 use Rattle.fields.specs.Field.{field}
 use Rattle.refusal.specs.declared.Refusal.{Refusal}
 use Rattle.refusal.specs.First.{accept}
+use Rattle.text.specs.declared.Feature.{Feature}
 use Rattle.text.specs.Reading.{statedLength, statedProfile, headerRule, walk, walked, readFault, taken, reading, lastNumber}
 use Rattle.refusal.proofs.First.{orElse-none, orElse-fault, orElse-zero}
 use Rattle.text.proofs.Walk.{headerRule-zero, wholes-refused, wholes-accepted}
 use Rattle.text.proofs.Received.{reading-fault, reading-none}
 use Rattle.reading.specs.declared.Walk.{Walk}
+use Rattle.reading.specs.declared.Walk.the-variants.{Refused, Whole}
 use Rattle.reading.specs.Scan.{scanned}
 use Rattle.reading.specs.inner.Tally.{refusal, tally}
-use Rattle.reading.proofs.Tally.{last-start, tally-fault, tally-none}
+use Rattle.reading.proofs.Tally.{last-start, tally-refused, tally-whole}
 
 -- an accepted header leaves room for the walk
 pub scan-room : (limit rt received stated : ℕ) (r : Refusal) → r ≡ headerRule limit rt received stated → r .number ≡ 0
@@ -46,30 +48,28 @@ module _ (limit rt sfn : ℕ) (s : List ℕ) where
       unfolding statedLength walked
       walk-is = rw (← t) v
 
-      fault-is : w .fault ≡ readFault limit rt sfn s
+      fault-is : walked rt sfn s .fault ≡ readFault limit rt sfn s
       unfolding readFault
-      fault-is =
-          ap (λ (x : Walk). x .fault) walk-is ∙ tally-fault 0 8 0 (walked rt sfn s)
-          ∙ sym (orElse-none (headerRule limit rt (length s) (statedLength s)) (walked rt sfn s .fault) (rw (← header-is) k))
+      fault-is = sym (orElse-none (headerRule limit rt (length s) (statedLength s)) (walked rt sfn s .fault) (rw (← header-is) k))
 
-      pub scan-walk : (w .fault .number ≡ 0 → ⊥) → refusal (w .fault) ≡ scanned limit rt sfn s
-      scan-walk f = scanned-fault (w .fault) fault-is f
+      pub scan-walk : (f : Refusal) → w ≡ Refused f → refusal f ≡ scanned limit rt sfn s
+      scan-walk f h = let g = tally-refused 0 8 0 (walked rt sfn s) f (sym h ∙ walk-is) in scanned-fault f (g .0 ∙ fault-is) (rw (g .0) (g .1))
 
-      pub scan-taken : w .fault .number ≡ 0 → (p : ℕ) → p ≡ field 2 s 6
+      pub scan-taken : (count end : ℕ) (last : Feature) → w ≡ Whole count end last → (p : ℕ) → p ≡ field 2 s 6
           → record {
             reading = record {
               refusal = accept;
               profile = record { 0 = p };
               data_length = stated;
-              count = w .count;
-              end = w .end;
+              count = count;
+              end = end;
               complete = eqb (length s) (stated + 4);
             };
-            last = w .last;
+            last = last;
           }
           ≡ scanned limit rt sfn s
-      unfolding scanned taken readFault statedLength statedProfile
-      scan-taken f p m =
-          let g : readFault limit rt sfn s .number ≡ 0 = rw (← fault-is) f in
-          let h : walked rt sfn s .fault .number ≡ 0 = orElse-zero _ _ g .1 in
-          rw (reading-none limit rt sfn s g, wholes-accepted limit rt sfn s g, walk-is ∙ tally-none 0 8 0 (walked rt sfn s) h, last-start, m, t, zero-add)
+      unfolding scanned taken statedLength statedProfile
+      scan-taken count end last h p m =
+          let f = tally-whole 0 8 0 (walked rt sfn s) count end last (sym h ∙ walk-is) in
+          let g : readFault limit rt sfn s .number ≡ 0 = rw (← fault-is) (f .0) in
+          rw (reading-none limit rt sfn s g, wholes-accepted limit rt sfn s g, f .1, f .2, f .3, last-start, m, t, zero-add)

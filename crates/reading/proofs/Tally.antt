@@ -1,5 +1,6 @@
 -- The walk's loop: what is left of the walk, and what each turn makes of it. Assumes nothing.
 use mathlib.Core.Path.{_≡_, refl, sym, ap, _∙_}
+use mathlib.Core.Bool.{true≢false}
 use mathlib.Core.List.{List, [], _∷_, _++_}
 use Prim.Native.Nat.{ℕ, zero, suc, _+_, _-_, _*_, _≤_, _<_}
 use native.Mathlib.Nat.{add-zero}
@@ -7,15 +8,19 @@ use native.Mathlib.Omega.{arith}
 use lib.ListN.{length, length-append}
 use Rattle.base.specs.Lists.{flat}
 use Rattle.text.specs.declared.Feature.{Feature}
+use Rattle.text.specs.declared.Flags.{Flags}
 use Rattle.refusal.specs.declared.Refusal.{Refusal}
-use Rattle.refusal.specs.First.{refuse, accept}
+use Rattle.refusal.specs.First.{accept, unless}
+use Rattle.refusal.proofs.First.{unless-none, unless-fault}
 use Rattle.text.specs.Drive.{Desc}
 use Rattle.text.specs.Response.{bytes}
-use Rattle.text.specs.Reading.{Walked, stop, onward, numberAt, lengthAt, descAt, headFault, walk, lastNumber}
+use Rattle.text.specs.Reading.{Walked, stop, onward, headRule, numberAt, flagsAt, lengthAt, descAt, headFault, walk, lastNumber}
 use Rattle.text.proofs.Walk.{walk-few, walk-bad, walk-short, walk-step}
 use Rattle.text.proofs.Received.{length-descAt}
 use Rattle.reading.specs.declared.Head.{Head}
+use Rattle.reading.specs.declared.Head.the-variants as head
 use Rattle.reading.specs.declared.Walk.{Walk}
+use Rattle.reading.specs.declared.Walk.the-variants as walked
 use Rattle.reading.specs.inner.Tally.{headAt, lastFrom, tally}
 
 -- ---- the number of the last descriptor
@@ -32,44 +37,60 @@ last-start (d ∷ ds) = last-from d ds
 
 -- ---- a walk in numbers
 
+-- an answer v by cases: there is no refusal, or it is made of the refusal
+by-cases : {A P : Type 0} (r : Refusal) (refused : Refusal → A) (x v : A) → v ≡ unless r refused x
+    → (r .number ≡ 0 → v ≡ x → P) → ((r .number ≡ 0 → ⊥) → v ≡ refused r → P) → P
+by-cases {A} {P} r refused x v q none fault = go (r .number) refl
+  where
+    go : (n : ℕ) → r .number ≡ n → P
+    go zero e = none e (q ∙ unless-none r refused x e)
+    go (suc n) e = let k : r .number ≡ 0 → ⊥ = λ z. omega arith in fault k (q ∙ unless-fault r refused x k)
+
 module _ (count place last : ℕ) where
-  pub tally-stop : tally count place last (stop accept) ≡ record { fault = accept; count = count; end = place; last = record { 0 = last } }
+  pub tally-stop : tally count place last (stop accept) ≡ walked.Whole count place (record { 0 = last })
   unfolding tally lastFrom flat
-  tally-stop = rw (add-zero, add-zero)
-
-  pub tally-bad : (r : Refusal) → (r .number ≡ 0 → ⊥) → tally count place last (stop r) ≡ record { fault = r; count = 0; end = 0; last = record { 0 = 0 } }
-  unfolding tally
-  tally-bad r k = go (r .number) refl
-    where
-      go : (n : ℕ) → r .number ≡ n → tally count place last (stop r) ≡ record { fault = r; count = 0; end = 0; last = record { 0 = 0 } }
-      go zero e = absurd (k e)
-      go (suc n) e = rw (e, tally) (ap (λ (k : ℕ). record { fault = refuse k; count = 0; end = 0; last = record { 0 = 0 } }) e)
-
-  pub tally-fault : (w : Walked) → tally count place last w .fault ≡ w .fault
-  unfolding tally
-  tally-fault w = go (w .fault .number) refl
-    where
-      go : (n : ℕ) → w .fault .number ≡ n → tally count place last w .fault ≡ w .fault
-      go zero e = rw (e, tally)
-      go (suc n) e = rw (e, tally) (ap refuse e)
-
-  pub tally-none : (w : Walked) → w .fault .number ≡ 0
-      → tally count place last w
-      ≡ record { fault = accept; count = count + length (w .found); end = place + length (flat bytes (w .found)); last = record { 0 = lastFrom last (w .found) } }
-  unfolding tally
-  tally-none w e = rw (e, tally)
+  tally-stop = unless-none accept walked.Refused _ refl ∙ rw (add-zero, add-zero)
 
   pub tally-onward : (d : Desc) (w : Walked) → tally count place last (onward d w) ≡ tally (count + 1) (place + length (bytes d)) (d .number) w
   unfolding tally lastFrom flat
-  tally-onward d w = go (w .fault .number) refl
-    where
-      go : (n : ℕ) → w .fault .number ≡ n → tally count place last (onward d w) ≡ tally (count + 1) (place + length (bytes d)) (d .number) w
-      go zero e =
-          let x : count + suc (length (w .found)) ≡ count + 1 + length (w .found) = omega arith in
-          let y : place + length (bytes d ++ flat bytes (w .found)) ≡ place + length (bytes d) + length (flat bytes (w .found)) =
-          omega (arith, length-append (bytes d) (flat bytes (w .found))) in
-          rw (e, tally, x, y)
-      go (suc n) e = rw (e, tally)
+  tally-onward d w =
+      let x : count + suc (length (w .found)) ≡ count + 1 + length (w .found) = omega arith in
+      let y : place + length (bytes d ++ flat bytes (w .found)) ≡ place + length (bytes d) + length (flat bytes (w .found)) =
+      omega (arith, length-append (bytes d) (flat bytes (w .found))) in
+      rw (x, y)
+
+  -- what its cases say of the walk
+  module _ (w : Walked) where
+    pub tally-fault : (w .fault .number ≡ 0 → ⊥) → tally count place last w ≡ walked.Refused (w .fault)
+    unfolding tally
+    tally-fault k = unless-fault (w .fault) walked.Refused _ k
+
+    pub tally-refused : (r : Refusal) → walked.Refused r ≡ tally count place last w → (r ≡ w .fault) × (w .fault .number ≡ 0 → ⊥)
+    unfolding tally
+    tally-refused r q = by-cases (w .fault) walked.Refused _ _ q (λ k e. absurd (true≢false cc)) (λ k e. (cc, k))
+
+    pub tally-whole : (n end : ℕ) (f : Feature) → walked.Whole n end f ≡ tally count place last w
+        → (w .fault .number ≡ 0) × (n ≡ count + length (w .found)) × (end ≡ place + length (flat bytes (w .found))) × (f ≡ record { 0 = lastFrom last (w .found) })
+    unfolding tally
+    tally-whole n end f q = by-cases (w .fault) walked.Refused _ _ q (λ k e. (k, cc, cc, cc)) (λ k e. absurd (true≢false cc))
+
+-- ---- the four header bytes, as they were read
+
+module _ (rt sfn end : ℕ) (s : List ℕ) (lo at : ℕ) where
+  module _ (number : Feature) (flags : Flags) (len : ℕ) (r : Refusal)
+      (n : number .0 ≡ numberAt s at) (f : flags .0 ≡ flagsAt s at) (l : len ≡ lengthAt s at)
+      (q : r ≡ headRule rt sfn end lo at (number .0) (flags .0) len) where
+    fault-is : r ≡ headFault rt sfn end s lo at
+    unfolding headFault
+    fault-is = rw (← n, ← f, ← l) q
+
+    pub head-fault : (r .number ≡ 0 → ⊥) → head.Refused r ≡ headAt rt sfn end s lo at
+    unfolding headAt
+    head-fault k = ap head.Refused fault-is ∙ sym (unless-fault _ head.Refused _ (rw (← fault-is) k))
+
+    pub head-none : r .number ≡ 0 → head.Stands number len ≡ headAt rt sfn end s lo at
+    unfolding headAt
+    head-none k = rw (← n, ← l) (sym (unless-none _ head.Refused _ (rw (← fault-is) k)))
 
 -- ---- the loop
 
@@ -82,7 +103,7 @@ loop-start rt sfn end s = ap (λ (k : ℕ). tally 0 8 0 (walk k rt sfn end s sfn
 
 -- w is the whole walk: the end, a refusal, a cut descriptor, a further turn
 module _ (w : Walk) (rt sfn end : ℕ) (s : List ℕ) (at lo count : ℕ) (last : Feature) (e : w ≡ left rt sfn end s at lo count (last .0)) where
-  pub loop-end : length s < at + 4 → record { fault = accept; count = count; end = at; last = last } ≡ w
+  pub loop-end : length s < at + 4 → walked.Whole count at last ≡ w
   unfolding walk
   loop-end h = sym (e ∙ go (length s - count) ∙ tally-stop count at (last .0))
     where
@@ -96,34 +117,27 @@ module _ (w : Walk) (rt sfn end : ℕ) (s : List ℕ) (at lo count : ℕ) (last 
         e ∙ ap (λ (k : ℕ). tally count at (last .0) (walk k rt sfn end s lo at)) {x = length s - count} {y = suc (length s - (count + 1))} (omega arith)
         ∙ ap (tally count at (last .0)) g
 
-    fault-is : h .fault ≡ headFault rt sfn end s lo at
+    pub loop-fault : (r : Refusal) → h ≡ head.Refused r → walked.Refused r ≡ w
     unfolding headAt
-    fault-is = ap (λ (x : Head). x .fault) q
+    loop-fault r k =
+        by-cases (headFault rt sfn end s lo at) head.Refused _ _ (sym k ∙ q) (λ z f. absurd (true≢false cc))
+        (λ z f.
+        let g : r ≡ headFault rt sfn end s lo at = cc in
+        sym (one-more _ (walk-bad _ rt sfn end s lo at l z) ∙ tally-fault count at (last .0) (stop (headFault rt sfn end s lo at)) z ∙ ap walked.Refused (sym g)))
 
-    len-is : h .len ≡ lengthAt s at
-    unfolding headAt
-    len-is = ap (λ (x : Head). x .len) q
+    module _ (number : Feature) (len : ℕ) (k : h ≡ head.Stands number len) where
+      facts : (headFault rt sfn end s lo at .number ≡ 0) × (number ≡ record { 0 = numberAt s at }) × (len ≡ lengthAt s at)
+      unfolding headAt
+      facts = by-cases (headFault rt sfn end s lo at) head.Refused _ _ (sym k ∙ q) (λ z f. (z, cc, cc)) (λ z f. absurd (true≢false cc))
 
-    number-is : h .number .0 ≡ numberAt s at
-    unfolding headAt
-    number-is = ap (λ (x : Head). x .number .0) q
+      pub loop-cut : length s < at + 4 + len → walked.Whole count at last ≡ w
+      loop-cut m = sym (one-more (stop accept) (walk-short _ rt sfn end s lo at l (facts .0) (rw (← facts .2) m)) ∙ tally-stop count at (last .0))
 
-    pub loop-fault : (h .fault .number ≡ 0 → ⊥) → record { fault = h .fault; count = 0; end = 0; last = record { 0 = 0 } } ≡ w
-    loop-fault k =
-        sym (one-more (stop (h .fault)) (rw fault-is (walk-bad _ rt sfn end s lo at l (rw (← fault-is) k))) ∙ tally-bad count at (last .0) (h .fault) k)
-
-    module _ (k : h .fault .number ≡ 0) where
-      none : headFault rt sfn end s lo at .number ≡ 0
-      none = rw (← fault-is) k
-
-      pub loop-cut : length s < at + 4 + h .len → record { fault = accept; count = count; end = at; last = last } ≡ w
-      loop-cut m = sym (one-more (stop accept) (walk-short _ rt sfn end s lo at l none (rw (← len-is) m)) ∙ tally-stop count at (last .0))
-
-      pub loop-more : at + 4 + h .len ≤ length s → w ≡ left rt sfn end s (at + 4 + h .len) (h .number .0 + 1) (count + 1) (h .number .0)
+      pub loop-more : at + 4 + len ≤ length s → w ≡ left rt sfn end s (at + 4 + len) (number .0 + 1) (count + 1) (number .0)
       unfolding descAt
       loop-more m =
-          let g : at + 4 + lengthAt s at ≤ length s = rw (← len-is) m in
+          let g : at + 4 + lengthAt s at ≤ length s = rw (← facts .2) m in
           let x : at + length (bytes (descAt s at)) ≡ at + 4 + lengthAt s at = omega (arith, length-descAt s at g) in
-          one-more _ (walk-step _ rt sfn end s lo at l none g)
+          one-more _ (walk-step _ rt sfn end s lo at l (facts .0) g)
           ∙ tally-onward count at (last .0) (descAt s at) _
-          ∙ rw (x, len-is, number-is)
+          ∙ rw (x, facts .2, facts .1)

@@ -8,7 +8,7 @@ use denote.Ref.{RefT, now}
 use Rattle.base.specs.Lists.{flat, keep}
 use Rattle.fields.specs.Part.{PartOf}
 use Rattle.text.specs.Drive.{Desc}
-use Rattle.text.specs.Response.{bytes}
+use Rattle.text.specs.Response.{bytes, headerLength}
 use Rattle.reading.specs.Places.{descs}
 
 -- a descriptor of feature f
@@ -25,7 +25,7 @@ heldIn f s = flat bytes (keep (isOf f) (descs s))
 
 -- where it stands: behind the header and the whole descriptors of lower features. Where the response does not have it, it would stand there
 unfoldable pub placeIn : (f : ℕ) (s : List ℕ) → ℕ
-placeIn f s = 8 + length (flat bytes (keep (isBelow f) (descs s)))
+placeIn f s = headerLength + length (flat bytes (keep (isBelow f) (descs s)))
 
 -- r is that descriptor as a part of the response s
 abbrev pub HeldIn : (f : ℕ) (s r : RefT (List ℕ)) → Type 0

@@ -5,11 +5,12 @@ use Prim.Native.Nat.{ℕ, _+_}
 use lib.Dec.{ltb}
 use lib.ListN.{length}
 use Rattle.text.specs.Drive.{Desc}
+use Rattle.text.specs.Response.{returnLimit}
 use Rattle.text.specs.Reading.{lengthAt, wholes}
 
 -- the whole descriptors of a response to RT 0 from 0, none where it is refused
 abbrev pub descs : List ℕ → List Desc
-descs s = wholes 65534 0 0 s
+descs s = wholes returnLimit 0 0 s
 
 -- the place behind the descriptor at a place; behind the end of s the place itself
 unfoldable pub nextAt : (s : List ℕ) (at : ℕ) → ℕ

@@ -6,6 +6,7 @@ ghost use lib.Dec.{eqb};
 ghost use lib.ListN.{length};
 ghost use Rattle.fields.specs.Part.{PartOf};
 ghost use Rattle.text.specs.Flags.{current};
+ghost use Rattle.text.specs.Response.{headerLength, returnLimit};
 ghost use Rattle.text.specs.Reading.{headerRule, headRule, numberAt, flagsAt, lengthAt, descAt, walk, reading};
 ghost use Rattle.reading.specs.Places.{nextAt};
 ghost use Rattle.reading.specs.Scan.{scanned};
@@ -14,6 +15,7 @@ ghost use Rattle.reading.specs.Completed.{completed};
 ghost use Rattle.reading.specs.Held.{HeldIn, HeldOf};
 use refusal::Refusal;
 use text::Feature;
+use text::Flags;
 use text::Header;
 use text::Profile;
 use text::Reading;
@@ -24,19 +26,20 @@ pub struct Scanned {
     pub last: Feature,
 }
 
-// The header bytes of a descriptor: number, Additional Length, and a refusal or none.
-struct Head {
-    number: Feature,
-    len: u8,
-    fault: Refusal,
+// The header bytes of a descriptor, judged: a refusal, or its number and Additional Length.
+enum Head {
+    Refused(Refusal),
+    Stands { number: Feature, len: u8 },
 }
 
-// The walk over the descriptors: a refusal or none, how many are whole, the place behind the last and its number.
-struct Walk {
-    fault: Refusal,
-    count: u32,
-    end: usize,
-    last: Feature,
+// The walk over the descriptors: a refusal, or how many are whole, the place behind the last and its number.
+enum Walk {
+    Refused(Refusal),
+    Whole {
+        count: u32,
+        end: usize,
+        last: Feature,
+    },
 }
 
 // ---- a descriptor at a place; behind the end of s there is an empty one whose fields are 0
@@ -47,13 +50,13 @@ pub fn number_at(s: &[u8], at: usize) -> Feature
     Feature(fields::get2(s, at))
 }
 
-pub fn flags_at(s: &[u8], at: usize) -> u8
-    ensures { λ r. ⌜ r ≡ flagsAt (now (s .entry)) at ⌝ }
+pub fn flags_at(s: &[u8], at: usize) -> Flags
+    ensures { λ r. ⌜ r .0 ≡ flagsAt (now (s .entry)) at ⌝ }
 {
     if s.len() <= at {
-        return 0;
+        return Flags(0);
     }
-    fields::byte(s, at + 2)
+    Flags(fields::byte(s, at + 2))
 }
 
 // Additional Length.
@@ -126,17 +129,17 @@ fn other_feature(rt: u8, sfn: Feature, number: Feature) -> bool
 }
 
 // RT 1: a feature that is not current.
-fn not_current(rt: u8, flags: u8) -> bool
-    ensures { λ r. ⌜ r ≡ (eqb rt 1 && eqb (current flags) 0) ⌝ }
+fn not_current(rt: u8, flags: Flags) -> bool
+    ensures { λ r. ⌜ r ≡ (eqb rt 1 && not (eqb (current (flags .0)) 1)) ⌝ }
 {
     if rt != 1 {
         return false;
     }
-    flags % 2 == 0
+    !flags.current()
 }
 
 // The lowest number that may stand, lo, is a bound and not a feature number: behind FFFFh it is 65,536.
-// Asks: a place of at most 65,534, the longest response, which 14 has shown before.
+// Asks: a place inside the longest response, which 14 has shown before.
 fn head_rule(
     rt: u8,
     sfn: Feature,
@@ -144,11 +147,11 @@ fn head_rule(
     lo: u32,
     at: usize,
     number: Feature,
-    flags: u8,
+    flags: Flags,
     len: u8,
 ) -> Refusal
-    requires { ⌜ at ≤ 65534 ⌝ }
-    ensures { λ r. ⌜ r ≡ headRule rt (sfn .0) end lo at (number .0) flags len ⌝ }
+    requires { ⌜ at ≤ returnLimit ⌝ }
+    ensures { λ r. ⌜ r ≡ headRule rt (sfn .0) end lo at (number .0) (flags .0) len ⌝ }
 {
     if len % 4 != 0 {
         return refusal::ADDITIONAL_BAD;
@@ -171,55 +174,53 @@ fn head_rule(
 // ---- the walk
 
 // The header bytes at a place, judged.
-// Asks: a place of at most 65,534, the longest response, which 14 has shown before.
+// Asks: a place inside the longest response, which 14 has shown before.
 fn head_at(rt: u8, sfn: Feature, end: usize, s: &[u8], lo: u32, at: usize) -> Head
-    requires { ⌜ at ≤ 65534 ⌝ }
+    requires { ⌜ at ≤ returnLimit ⌝ }
     ensures { λ r. ⌜ r ≡ headAt rt (sfn .0) end (now (s .entry)) lo at ⌝ }
 {
     let number = number_at(s, at);
     let flags = flags_at(s, at);
     let len = length_at(s, at);
     let fault = head_rule(rt, sfn, end, lo, at, number, flags, len);
-    Head { number, len, fault }
+    if fault.number != 0 {
+        return Head::Refused(fault);
+    }
+    Head::Stands { number, len }
 }
 
 // The walk over the descriptors of a response that ends at end, from sfn on.
-// Asks: 8 to 65,534 bytes, which 14 has shown before.
+// Asks: as many bytes as 14 lets through, which has been shown before.
 fn walk_over(rt: u8, sfn: Feature, end: usize, s: &[u8]) -> Walk
-    requires { ⌜ (8 ≤ length (now s)) × (length (now s) ≤ 65534) ⌝ }
-    ensures { λ r. ⌜ r ≡ tally 0 8 0 (walk (length (now (s .entry))) rt (sfn .0) end (now (s .entry)) (sfn .0) 8) ⌝ }
+    requires { ⌜ (headerLength ≤ length (now s)) × (length (now s) ≤ returnLimit) ⌝ }
+    ensures { λ r. ⌜ r ≡ tally 0 headerLength 0 (walk (length (now (s .entry))) rt (sfn .0) end (now (s .entry)) (sfn .0) headerLength) ⌝ }
 {
-    let mut at: usize = 8;
+    let mut at = Header::LENGTH;
     let mut lo = sfn.0 as u32;
     let mut count: u32 = 0;
     let mut last = Feature(0);
     while at + 4 <= s.len() {
-        let head = head_at(rt, sfn, end, s, lo, at);
-        let fault = head.fault;
-        if fault.number != 0 {
-            return Walk {
-                fault,
-                count: 0,
-                end: 0,
-                last: Feature(0),
-            };
+        match head_at(rt, sfn, end, s, lo, at) {
+            Head::Refused(fault) => {
+                return Walk::Refused(fault);
+            }
+            Head::Stands { number, len } => {
+                let next = at + 4 + len as usize;
+                if s.len() < next {
+                    return Walk::Whole {
+                        count,
+                        end: at,
+                        last,
+                    };
+                }
+                at = next;
+                lo = number.0 as u32 + 1;
+                count += 1;
+                last = number;
+            }
         }
-        let next = at + 4 + head.len as usize;
-        if s.len() < next {
-            return Walk {
-                fault: refusal::ACCEPTED,
-                count,
-                end: at,
-                last,
-            };
-        }
-        at = next;
-        last = head.number;
-        lo = last.0 as u32 + 1;
-        count += 1;
     }
-    Walk {
-        fault: refusal::ACCEPTED,
+    Walk::Whole {
         count,
         end: at,
         last,
@@ -255,28 +256,29 @@ pub fn scan(limit: usize, rt: u8, sfn: Feature, s: &[u8]) -> Scanned
         return refusing(fault);
     }
     let end = stated as usize + 4;
-    let walk = walk_over(rt, sfn, end, s);
-    let fault = walk.fault;
-    if fault.number != 0 {
-        return refusing(fault);
-    }
-    let last = walk.last;
-    Scanned {
-        reading: Reading {
-            refusal: refusal::ACCEPTED,
-            profile: Profile(fields::get2(s, 6)),
-            data_length: stated,
-            count: walk.count,
-            end: walk.end,
-            complete: s.len() == end,
+    match walk_over(rt, sfn, end, s) {
+        Walk::Refused(fault) => refusing(fault),
+        Walk::Whole {
+            count,
+            end: behind,
+            last,
+        } => Scanned {
+            reading: Reading {
+                refusal: refusal::ACCEPTED,
+                profile: Profile(fields::get2(s, 6)),
+                data_length: stated,
+                count,
+                end: behind,
+                complete: s.len() == end,
+            },
+            last,
         },
-        last,
     }
 }
 
 // The reading of a response to RT rt from sfn.
 pub fn read(rt: u8, sfn: Feature, s: &[u8]) -> Reading
-    ensures { λ r. ⌜ r ≡ reading 65534 rt (sfn .0) (now (s .entry)) ⌝ }
+    ensures { λ r. ⌜ r ≡ reading returnLimit rt (sfn .0) (now (s .entry)) ⌝ }
 {
     let scan = scan(Header::RETURN_LIMIT, rt, sfn, s);
     scan.reading
@@ -306,7 +308,7 @@ fn held_in(feature: Feature, s: &[u8]) -> &[u8]
 {
     let reading = read(0, Feature(0), s);
     let end = reading.end;
-    let mut at: usize = 8;
+    let mut at = Header::LENGTH;
     while at < end {
         let number = number_at(s, at);
         if number.0 == feature.0 {

@@ -29,12 +29,12 @@ use Rattle.text.proofs.Walk.{walk-end, walk-short, walk-step, HeaderFin
 
 pub record Fit (rt sfn : ℕ) (d : Desc) : Type 0 where
   pub one : (eqb rt 2 && not (eqb (d .number) sfn)) ≡ false
-  pub on : (eqb rt 1 && eqb (current (d .flags)) 0) ≡ false
+  pub on : (eqb rt 1 && not (eqb (current (d .flags)) 1)) ≡ false
 
 pub wants-fit : (rt sfn : ℕ) (d : Desc) → wants rt sfn d ≡ true → Fit rt sfn d
 unfolding wants
 wants-fit zero sfn d e = record { one = refl; on = refl }
-wants-fit (suc zero) sfn d e = record { one = refl; on = ne-eqb (current (d .flags)) 0 (λ z. omega (arith, wants-current sfn d e)) }
+wants-fit (suc zero) sfn d e = record { one = refl; on = ap not (eq-eqb (current (d .flags)) 1 (wants-current sfn d e)) }
 wants-fit (suc (suc rt)) sfn d e = record {
   one = rw e (and-false (eqb (suc (suc rt)) 2));
   on = rw (ne-eqb (suc (suc rt)) 1 (λ z. omega arith));
@@ -175,8 +175,8 @@ module _ {m : Drive} (good : Sound m) (rt sfn a : ℕ) (h : 8 ≤ a) where
         readFault-accept limit rt sfn s fine (ap (λ (w : Walked). w .fault .number) walked-sent)
 
     pub wholes-sent : wholes limit rt sfn (sent rt sfn a m) ≡ whole (min a 65534 - 8) (selected rt sfn m)
-    unfolding wholes
-    wholes-sent = rw (readFault-sent, wholes, walked-sent)
+    unfolding wholes unless
+    wholes-sent = rw (readFault-sent, walked-sent)
 
     pub reading-sent : reading limit rt sfn (sent rt sfn a m) ≡ record {
       refusal = accept;

@@ -18,7 +18,7 @@ use Rattle.text.specs.Flags.{current}
 use Rattle.text.specs.Drive.{Desc}
 use Rattle.text.specs.Response.{bytes}
 use Rattle.text.specs.Reading.{statedLength, headerRule, headRule, numberAt, flagsAt, lengthAt, descAt, headFault, Walked, stop, onward, walk, walked, readFault, wholes}
-use Rattle.refusal.proofs.First.{if-zero, orElse-none, orElse-zero}
+use Rattle.refusal.proofs.First.{if-zero, orElse-none, orElse-zero, unless-none, unless-fault}
 use Rattle.base.proofs.Compare.{le-or-lt}
 
 module _ (k rt sfn end : ℕ) (s : List ℕ) (lo at : ℕ) where
@@ -31,23 +31,19 @@ module _ (k rt sfn end : ℕ) (s : List ℕ) (lo at : ℕ) where
   pub walk-bad : at + 4 ≤ length s → (headFault rt sfn end s lo at .number ≡ 0 → ⊥)
       → walk (suc k) rt sfn end s lo at ≡ stop (headFault rt sfn end s lo at)
   unfolding walk
-  walk-bad h e = go (headFault rt sfn end s lo at .number) refl
-    where
-      go : (n : ℕ) → headFault rt sfn end s lo at .number ≡ n → walk (suc k) rt sfn end s lo at ≡ stop (headFault rt sfn end s lo at)
-      go zero f = absurd (e f)
-      go (suc n) f = rw (le-leb (at + 4) (length s) h, f, walk) (ap (λ (n : ℕ). stop (refuse n)) f)
+  walk-bad h e = rw (le-leb (at + 4) (length s) h, walk) (unless-fault _ stop _ e)
 
   -- the body is cut
   pub walk-short : at + 4 ≤ length s → headFault rt sfn end s lo at .number ≡ 0 → length s < at + 4 + lengthAt s at
       → walk (suc k) rt sfn end s lo at ≡ stop accept
   unfolding walk
-  walk-short h e l = rw (le-leb (at + 4) (length s) h, e, lt-leb (at + 4 + lengthAt s at) (length s) l, walk)
+  walk-short h e l = rw (le-leb (at + 4) (length s) h, lt-leb (at + 4 + lengthAt s at) (length s) l, walk) (unless-none _ stop _ e)
 
   -- a whole descriptor
   pub walk-step : at + 4 ≤ length s → headFault rt sfn end s lo at .number ≡ 0 → at + 4 + lengthAt s at ≤ length s
       → walk (suc k) rt sfn end s lo at ≡ onward (descAt s at) (walk k rt sfn end s (numberAt s at + 1) (at + 4 + lengthAt s at))
   unfolding walk
-  walk-step h e l = rw (le-leb (at + 4) (length s) h, e, le-leb (at + 4 + lengthAt s at) (length s) l, walk)
+  walk-step h e l = rw (le-leb (at + 4) (length s) h, le-leb (at + 4 + lengthAt s at) (length s) l, walk) (unless-none _ stop _ e)
 
 -- with no steps left the walk is at its end, and so it is with fewer than four bytes
 pub walk-none : (rt sfn end : ℕ) (s : List ℕ) (lo at : ℕ) → walk zero rt sfn end s lo at ≡ stop accept
@@ -121,7 +117,7 @@ pub record HeadFine (rt sfn end lo at number flags len : ℕ) : Type 0 where
   pub four : len % 4 ≡ 0
   pub from : lo ≤ number
   pub one : (eqb rt 2 && not (eqb number sfn)) ≡ false
-  pub on : (eqb rt 1 && eqb (current flags) 0) ≡ false
+  pub on : (eqb rt 1 && not (eqb (current flags) 1)) ≡ false
   pub within : at + 4 + len ≤ end
 
 pub headRule-accept : (rt sfn end lo at number flags len : ℕ) → HeadFine rt sfn end lo at number flags len → headRule rt sfn end lo at number flags len ≡ accept
@@ -201,12 +197,8 @@ module _ (limit rt sfn : ℕ) (s : List ℕ) where
 
   pub wholes-accepted : readFault limit rt sfn s .number ≡ 0 → wholes limit rt sfn s ≡ walked rt sfn s .found
   unfolding wholes
-  wholes-accepted e = rw (e, wholes)
+  wholes-accepted e = unless-none _ _ _ e
 
   pub wholes-refused : (readFault limit rt sfn s .number ≡ 0 → ⊥) → wholes limit rt sfn s ≡ []
   unfolding wholes
-  wholes-refused h = go (readFault limit rt sfn s .number) refl
-    where
-      go : (k : ℕ) → readFault limit rt sfn s .number ≡ k → wholes limit rt sfn s ≡ []
-      go zero e = absurd (h e)
-      go (suc k) e = rw (e, wholes)
+  wholes-refused h = unless-fault _ _ _ h

@@ -45,7 +45,7 @@ headRule rt sfn end lo at number flags len =
     refuse 17 if not (eqb (len % 4) 0) else
     refuse 18 if ltb number lo else
     refuse 18 if eqb rt 2 && not (eqb number sfn) else
-    refuse 19 if eqb rt 1 && eqb (current flags) 0 else
+    refuse 19 if eqb rt 1 && not (eqb (current flags) 1) else
     refuse 20 if ltb end (at + 4 + len) else
     accept
 
@@ -81,13 +81,11 @@ unfoldable pub walk : (k rt sfn end : ℕ) (s : List ℕ) (lo at : ℕ) → Walk
 walk zero rt sfn end s lo at = stop accept
 walk (suc k) rt sfn end s lo at =
     elim (leb (at + 4) (length s)) [
-      | true ↦ elim (headFault rt sfn end s lo at .number) [
-        | zero ↦ elim (leb (at + 4 + lengthAt s at) (length s)) [
-          | true ↦ onward (descAt s at) (walk k rt sfn end s (numberAt s at + 1) (at + 4 + lengthAt s at))
-          | false ↦ stop accept
-        ]
-        | suc e ↦ stop (headFault rt sfn end s lo at)
-      ]
+      | true ↦ unless (headFault rt sfn end s lo at) stop
+          elim (leb (at + 4 + lengthAt s at) (length s)) [
+            | true ↦ onward (descAt s at) (walk k rt sfn end s (numberAt s at + 1) (at + 4 + lengthAt s at))
+            | false ↦ stop accept
+          ]
       | false ↦ stop accept
     ]
 
@@ -120,7 +118,7 @@ reading limit rt sfn s = unless (readFault limit rt sfn s) nothingRead (taken s 
 
 -- the whole descriptors of a response, none where it is refused
 unfoldable pub wholes : (limit rt sfn : ℕ) (s : List ℕ) → List Desc
-wholes limit rt sfn s = elim (readFault limit rt sfn s .number) [ zero ↦ walked rt sfn s .found | suc e ↦ [] ]
+wholes limit rt sfn s = unless (readFault limit rt sfn s) (λ r. []) (walked rt sfn s .found)
 
 -- the number of the last descriptor, 0 if there is none
 unfoldable pub lastNumber : List Desc → ℕ

@@ -12,16 +12,16 @@ returns-2 : tie.Need-returns-2
 returns-2 c = rw (own-some (c .before .before .before .before .before .args .s .now) (c .before .before .before .if1 .left)) (search (tests, ← c .before .before .number-at .ensures))
 
 returns-3 : tie.Need-returns-3
-returns-3 c = rw (own-some (c .before .before .before .before .before .before .before .args .s .now) (c .before .before .before .before .before .if1 .left)) (search (tests, ← c .before .before .before .before .number-at .ensures, ← c .before .flags-at .ensures))
+returns-3 c = rw (own-some (c .before .before .before .before .before .before .before .before .args .s .now) (c .before .before .before .before .before .before .if1 .left)) (search (tests, ← c .before .before .before .before .before .number-at .ensures, ← c .before .before .flags-at .ensures))
 
 returns-4 : tie.Need-returns-4
-returns-4 c = rw (own-some (c .before .before .before .before .before .before .before .before .before .args .s .now) (c .before .before .before .before .before .before .before .if1 .left)) (search (tests, ← c .before .before .before .before .before .before .number-at .ensures, ← c .before .before .before .flags-at .ensures, ← c .before .get2 .ensures))
+returns-4 c = rw (own-some (c .before .before .before .before .before .before .before .before .before .before .args .s .now) (c .before .before .before .before .before .before .before .before .if1 .left)) (search (tests, ← c .before .before .before .before .before .before .before .number-at .ensures, ← c .before .before .before .before .flags-at .ensures, ← c .before .get2 .ensures))
 
 returns-5 : tie.Need-returns-5
-returns-5 c = rw (own-some (c .before .before .before .before .before .before .before .before .before .before .before .before .before .before .before .args .s .now) (c .before .before .before .before .before .before .before .before .before .before .before .before .before .if1 .left)) (search (tests, ← c .before .before .before .before .before .before .before .before .before .before .before .before .number-at .ensures, ← c .before .before .before .before .before .before .before .before .before .flags-at .ensures, ← c .before .before .before .before .before .before .before .get2 .ensures, ← c .before .before .before .before .before .body-at .ensures .holds, ← c .before .before .before .before .current .ensures, ← c .before .before .before .get22 .ensures))
+returns-5 c = rw (own-some (c .before .before .before .before .before .before .before .before .before .before .before .before .before .before .before .before .args .s .now) (c .before .before .before .before .before .before .before .before .before .before .before .before .before .before .if1 .left)) (search (tests, ← c .before .before .before .before .before .before .before .before .before .before .before .before .before .number-at .ensures, ← c .before .before .before .before .before .before .before .before .before .before .flags-at .ensures, ← c .before .before .before .before .before .before .before .get2 .ensures, ← c .before .before .before .before .before .body-at .ensures .holds, ← c .before .before .before .before .current .ensures, ← c .before .before .before .get22 .ensures))
 
 returns-6 : tie.Need-returns-6
-returns-6 c = rw (own-some (c .before .before .before .before .before .before .before .before .before .before .before .before .before .before .before .args .s .now) (c .before .before .before .before .before .before .before .before .before .before .before .before .before .if1 .left)) (search (tests, ← c .before .before .before .before .before .before .before .before .before .before .before .before .number-at .ensures, ← c .before .before .before .before .before .before .before .before .before .flags-at .ensures, ← c .before .before .before .before .before .before .before .get2 .ensures, ← c .before .before .before .before .before .body-at .ensures .holds, ← c .before .before .before .before .current .ensures, ← c .before .before .before .get22 .ensures))
+returns-6 c = rw (own-some (c .before .before .before .before .before .before .before .before .before .before .before .before .before .before .before .before .args .s .now) (c .before .before .before .before .before .before .before .before .before .before .before .before .before .before .if1 .left)) (search (tests, ← c .before .before .before .before .before .before .before .before .before .before .before .before .before .number-at .ensures, ← c .before .before .before .before .before .before .before .before .before .before .flags-at .ensures, ← c .before .before .before .before .before .before .before .get2 .ensures, ← c .before .before .before .before .before .body-at .ensures .holds, ← c .before .before .before .before .current .ensures, ← c .before .before .before .get22 .ensures))
 
 pub own-fault-spec : {M : Type 1} → statement M
 own-fault-spec =

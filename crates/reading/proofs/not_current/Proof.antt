@@ -1,4 +1,5 @@
 -- `reading::not_current` meets its contract: each early return is a case of the test.
+use borrow.Author.Needs.{needs}
 use Rattle.refusal.proofs.First.{tests}
 use Rattle.reading.proofs.not_current.Statement.{statement}
 use Rattle.reading.proofs.not_current.Tie as tie
@@ -7,7 +8,7 @@ returns : tie.Need-returns
 returns c = search tests
 
 returns-2 : tie.Need-returns-2
-returns-2 c = search tests
+returns-2 c = search (tests, c .current .ensures)
 
 pub not-current-spec : {M : Type 1} → statement M
-not-current-spec = tie.close (tie.spec returns returns-2)
+not-current-spec = tie.close (tie.spec returns (λ c κs. search needs) returns-2)

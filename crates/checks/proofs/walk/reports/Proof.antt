@@ -6,7 +6,7 @@ use lib.Dec.{eqb}
 use lib.ListN.{length}
 use Rattle.text.specs.Reading.{descAt}
 use Rattle.checks.specs.Pick.{some}
-use Rattle.checks.specs.Reported.{reported}
+use Rattle.checks.specs.Check.{reported}
 use Rattle.checks.proofs.Calls.{call-eq, call-ne}
 use Rattle.reading.specs.Places.{descs}
 use Rattle.reading.specs.inner.Between.{from}
