@@ -4,19 +4,18 @@ ghost use mathlib.Core.Path.{_≡_};
 ghost use mathlib.Core.List.{[], _∷_};
 ghost use Rattle.lent.specs.Wrote.{Wrote};
 ghost use Rattle.text.specs.Reading.{reading};
-ghost use Rattle.text.specs.Response.{most, returnLimit};
+ghost use Rattle.text.specs.Response.{returnLimit, most};
 ghost use Rattle.sheet.specs.Check.{verdict};
 ghost use Rattle.responder.specs.Answer.{answered};
 ghost use Rattle.responder.specs.Trusting.{trustingCommand};
 ghost use Rattle.reading.specs.Held.{heldOf};
 ghost use Rattle.listing.specs.Listing.{listing};
-ghost use Rattle.sweep.specs.Sweep.{started};
-ghost use Rattle.sweep.specs.Sweep as sweep;
+ghost use Rattle.sweep.specs.Sweep.{started, stepped};
 ghost use Rattle.bench.specs.Bench as bench;
 ghost use Rattle.checks.specs.Check.{checked};
 ghost use Rattle.checks.specs.Judge as checks;
 ghost use Rattle.import.specs.Import.{imported};
-ghost use Rattle.abi.specs.Left.{left, noBuffer, showMade, readingNumbers, showRead, recordNumbers, recordOf, showStep, showBenched, showFinding, showJudged};
+ghost use Rattle.abi.specs.Left.{left, showMade, readingNumbers, showRead, recordNumbers, recordOf, showStep, showTurn, showBenched, showFinding, showJudged};
 use checks::Judgement;
 use sweep::Sweep;
 use text::Feature;
@@ -119,7 +118,7 @@ pub extern "C" fn gcf_respond_accepted(
 // Reads a response. Numbers: profile, Data Length, whole descriptors, the place behind the last, 1 if complete.
 #[no_mangle]
 pub extern "C" fn gcf_read(rt: u8, sfn: Feature, response: &[u8], numbers: &mut [u64]) -> u8
-    ensures { λ r. ⌜ left r noBuffer (now (numbers .exit)) ≡ showRead (reading returnLimit rt (sfn .0) (now (response .entry))) (now (numbers .entry)) ⌝ }
+    ensures { λ r. ⌜ left r tt (now (numbers .exit)) ≡ showRead (reading returnLimit rt (sfn .0) (now (response .entry))) (now (numbers .entry)) ⌝ }
 {
     let reading = reading::read(rt, sfn, response);
     let fault = reading.refusal;
@@ -160,7 +159,7 @@ pub extern "C" fn gcf_most(allocation: u16) -> usize
 // Starts a sweep. Numbers: the record.
 #[no_mangle]
 pub extern "C" fn gcf_sweep_start(rt: u8, allocation: u16, numbers: &mut [u64]) -> u8
-    ensures { λ r. ⌜ left r noBuffer (now (numbers .exit)) ≡ showStep (started rt allocation) noBuffer (now (numbers .entry)) ⌝ }
+    ensures { λ r. ⌜ left r tt (now (numbers .exit)) ≡ showStep (started rt allocation) (now (numbers .entry)) ⌝ }
 {
     let step = Sweep::start(rt, allocation);
     let fault = step.refusal;
@@ -182,9 +181,7 @@ pub extern "C" fn gcf_sweep_take(
     numbers: &mut [u64],
 ) -> u8
     ensures { λ r. ⌜ left r (now (out .exit)) (now (numbers .exit))
-        ≡ showStep (sweep.stepped (recordOf rt allocation next commands collected ended) (now (response .entry)) (now (out .entry)))
-        (sweep.collecting (recordOf rt allocation next commands collected ended) (now (response .entry)) (now (out .entry)))
-        (now (numbers .entry)) ⌝ }
+        ≡ showTurn (stepped (recordOf rt allocation next commands collected ended) (now (response .entry)) (now (out .entry))) (now (numbers .entry)) ⌝ }
 {
     let record = Sweep {
         rt: rt,
@@ -213,8 +210,8 @@ pub extern "C" fn gcf_bench(
     starts: &mut [u16],
     numbers: &mut [u64],
 ) -> u8
-    ensures { λ r. ⌜ left r (now (response .exit), now (collected .exit), now (starts .exit)) (now (numbers .exit))
-        ≡ showBenched (bench.benched (now (sheet .entry)) rt allocation (now (response .entry)) (now (collected .entry)) (now (starts .entry))) (now (numbers .entry)) ⌝ }
+    ensures { λ r. ⌜ left r (bench.buffers (now (response .exit)) (now (collected .exit)) (now (starts .exit))) (now (numbers .exit))
+        ≡ showBenched (bench.benched (now (sheet .entry)) rt allocation (bench.buffers (now (response .entry)) (now (collected .entry)) (now (starts .entry)))) (now (numbers .entry)) ⌝ }
 {
     let end = bench::bench(sheet, rt, allocation, response, collected, starts);
     let fault = end.refusal;
@@ -225,7 +222,7 @@ pub extern "C" fn gcf_bench(
 // Checks the descriptors of a response. Numbers: the feature at fault.
 #[no_mangle]
 pub extern "C" fn gcf_check_descriptors(response: &[u8], numbers: &mut [u64]) -> u8
-    ensures { λ r. ⌜ left r noBuffer (now (numbers .exit)) ≡ showFinding (checked (now (response .entry))) (now (numbers .entry)) ⌝ }
+    ensures { λ r. ⌜ left r tt (now (numbers .exit)) ≡ showFinding (checked (now (response .entry))) (now (numbers .entry)) ⌝ }
 {
     let finding = checks::check_descriptors(response);
     let fault = finding.refusal;
@@ -237,7 +234,7 @@ pub extern "C" fn gcf_check_descriptors(response: &[u8], numbers: &mut [u64]) ->
 // Whether a response has what a profile requires. Numbers: 1 if a feature is missing, the lowest that is.
 #[no_mangle]
 pub extern "C" fn gcf_check_profile(profile: Profile, response: &[u8], numbers: &mut [u64]) -> u8
-    ensures { λ r. ⌜ left r noBuffer (now (numbers .exit)) ≡ showJudged (checks.judged (profile .0) (now (response .entry))) (now (numbers .entry)) ⌝ }
+    ensures { λ r. ⌜ left r tt (now (numbers .exit)) ≡ showJudged (checks.judged (profile .0) (now (response .entry))) (now (numbers .entry)) ⌝ }
 {
     let judgement = checks::check_profile(profile, response);
     match judgement {

@@ -1,6 +1,6 @@
 -- Demand 3: the bench sweep of an accepted sheet, and how it can end whatever the room. Assumes nothing.
 use mathlib.Core.Path.{_≡_, refl, ap, _∙_}
-use mathlib.Core.Logic.{_⊎_, inl, inr, ⊎-elim}
+use mathlib.Core.Logic.{_⊎_, ⊎-elim}
 use mathlib.Core.List.{List, _∷_, _++_}
 use Prim.Native.Nat.{ℕ, _-_, _*_, _≤_, _<_}
 use native.Mathlib.Nat.{zero-add}
@@ -11,7 +11,6 @@ use lib.Seq.{sets, sets-eq}
 use borrow.Author.Tests.{le-ltb, lt-ltb, ltb-false}
 use Rattle.base.specs.Lists.{flat, keep, All, Bytes}
 use Rattle.base.proofs.Lists.{all-right}
-use Rattle.refusal.specs.declared.Refusal.{Refusal}
 use Rattle.refusal.specs.First.{refuse, accept, _if_else_, pickZero, _orElse_}
 use Rattle.text.specs.Drive.{Desc, Drive, Sound}
 use Rattle.text.specs.Response.{bytes, feature0, wants, selected, most}
@@ -25,8 +24,9 @@ use Rattle.sheet.specs.Check.{verdict, Accepted}
 use Rattle.sheet.specs.Meaning.{meaning}
 use Rattle.sheet.proofs.Meaning.{meaning-fine}
 use Rattle.sweep.specs.Sweep.{startRule, fresh}
-use Rattle.bench.specs.Bench.{State, Ending, failing, firstFault, opened, runFrom, benched}
-use Rattle.bench.specs.Swept.{room, HasRoom, Premises, Swept, Ended, Numbers, swept, short, long, narrow, many}
+use Rattle.bench.specs.Bench.{Buffers, state, Ending, failing, firstFault, benched}
+use Rattle.bench.specs.inner.Loop.{runFrom}
+use Rattle.bench.specs.Swept.{room, HasRoom, Premises, Swept, Ended, swept, short, long, narrow, many}
 use Rattle.bench.proofs.Run.{unless-zero, unless-settled, run-settled}
 use Rattle.bench.proofs.Rounds.{startsOf, length-startsOf}
 use Rattle.bench.proofs.Honest.{rounds}
@@ -37,8 +37,8 @@ front-sets : (d xs : List ℕ) → length xs ≤ length d → sets d 0 xs ≡ xs
 front-sets d xs h = sets-eq xs d 0 (omega arith) ∙ ap (λ (n : ℕ). xs ++ drop n d) (zero-add (length xs))
 
 -- with the premises nothing is refused
-ended-swept : {m : Drive} {rt a : ℕ} {response collected starts : List ℕ} {o : Ending} → Premises m rt a response collected starts → Ended m rt a response collected starts o
-    → Swept m rt a response collected starts o
+ended-swept : {m : Drive} {rt a : ℕ} {bs : Buffers} {o : Ending} → Premises m rt a bs → Ended m rt a bs o
+    → Swept m rt a bs o
 ended-swept p (swept s) = s
 ended-swept p (short e h) = absurd (omega (arith, p .response-room))
 ended-swept {m} {rt} {a} p (long e xs d ys q t u b) = absurd (omega (arith, all-right (HasRoom a) xs (d ∷ ys) (rw q at (p .small)) .0))
@@ -48,17 +48,9 @@ ended-swept p (many e h) = absurd (omega (arith, p .starts-room))
 abbrev number : Ending → ℕ
 number o = o .reply .refusal .number
 
-ended-number : {m : Drive} {rt a : ℕ} {response collected starts : List ℕ} {o : Ending} → Ended m rt a response collected starts o → Numbers (number o)
-unfolding failing
-ended-number (swept s) = inl (ap (λ (r : Refusal). r .number) (s .fine))
-ended-number (short e h) = inr (inl (ap number e))
-ended-number (long e xs d ys q t u b) = inr (inr (inl (ap number e)))
-ended-number (narrow e h) = inr (inr (inr (inl (ap number e))))
-ended-number (many e h) = inr (inr (inr (inr (ap number e))))
-
 -- no number: a successful sweep
-ended-zero : {m : Drive} {rt a : ℕ} {response collected starts : List ℕ} {o : Ending} → Ended m rt a response collected starts o → number o ≡ 0
-    → Swept m rt a response collected starts o
+ended-zero : {m : Drive} {rt a : ℕ} {bs : Buffers} {o : Ending} → Ended m rt a bs o → number o ≡ 0
+    → Swept m rt a bs o
 unfolding failing
 ended-zero (swept s) z = s
 ended-zero (short e h) z = absurd (omega (arith, ap number e))
@@ -66,7 +58,7 @@ ended-zero (long e xs d ys q t u b) z = absurd (omega (arith, ap number e))
 ended-zero (narrow e h) z = absurd (omega (arith, ap number e))
 ended-zero (many e h) z = absurd (omega (arith, ap number e))
 
-module _ {m : Drive} (good : Sound m) (rt a : ℕ) (two : rt < 2) (eight : 8 ≤ a) (response collected starts : List ℕ) where
+module _ {m : Drive} (good : Sound m) (rt a : ℕ) (two : rt < 2) (eight : 8 ≤ a) (bs : Buffers) where
   abbrev wanted : List Desc
   wanted = selected rt 0 m
 
@@ -80,106 +72,103 @@ module _ {m : Drive} (good : Sound m) (rt a : ℕ) (two : rt < 2) (eight : 8 ≤
       rw e (packing (room a) 65536 (feature0 (m .profiles)) (keep (wants rt 0) (m .features)) (rw e at s) (rw e at (selected-count good rt 0)) .1)
 
   -- a run that is done is a successful sweep
-  swept-done : joined all ≡ wanted → length (flat bytes wanted) ≤ length collected → length all ≤ length starts
-      → Swept m rt a response collected starts (finished m rt a 0 0 0 response collected starts all)
+  swept-done : joined all ≡ wanted → length (flat bytes wanted) ≤ length (bs .collected) → length all ≤ length (bs .starts)
+      → Swept m rt a bs (finished m rt a 0 0 0 bs all)
   unfolding finished
   swept-done j c t =
       let ts : List ℕ = startsOf 0 all in
       let n : length ts ≡ length all = length-startsOf 0 all in
       let s : All (HasRoom a) wanted = rw j at (groups-fit (room a) 65536 wanted) in
-      let x : sets collected 0 (flat bytes (joined all)) ≡ flat bytes wanted ++ drop (length (flat bytes wanted)) collected =
-      ap (λ (r : List Desc). sets collected 0 (flat bytes r)) j ∙ front-sets collected (flat bytes wanted) c in
+      let x : sets (bs .collected) 0 (flat bytes (joined all)) ≡ flat bytes wanted ++ drop (length (flat bytes wanted)) (bs .collected) =
+      ap (λ (r : List Desc). sets (bs .collected) 0 (flat bytes r)) j ∙ front-sets (bs .collected) (flat bytes wanted) c in
       let k : 0 < length wanted = omega (arith, ap length (selected-zero rt m)) in
       record {
         asked = ts;
         taken = all;
         fine = refl;
         commands = omega arith;
-        noted = front-sets starts ts (omega arith);
+        noted = front-sets (bs .starts) ts (omega arith);
         count = omega (arith, ap (λ (r : List Desc). length (flat bytes r)) j);
         exact = x;
-        honest = rounds good rt a two eight 65536 0 0 (sets collected 0 (flat bytes (joined all))) (drop (length (flat bytes wanted)) collected) s k (selected-count good rt 0) x;
+        honest = rounds good rt a two eight 65536 0 0 (sets (bs .collected) 0 (flat bytes (joined all))) (drop (length (flat bytes wanted)) (bs .collected)) s k (selected-count good rt 0) x;
         once = j;
         ascending = rw j (selected-asc good rt 0);
         last = refl;
         few = rw (zero-add (length all), zero-add (length (flat bytes (joined all))), j, length-flat-bytes wanted) (few-rounds s);
       }
 
-  runs-ended : {o : Ending} → Runs m rt a (opened rt a response collected starts) 65536 0 0 0 response collected starts o → Ended m rt a response collected starts o
+  runs-ended : {o : Ending} → Runs m rt a bs 65536 0 0 0 bs o → Ended m rt a bs o
   runs-ended (done e j c t) = swept (rw e (swept-done j (omega arith) (omega arith)))
   runs-ended (stuck e xs d ys q t u b) = long e xs d ys q t u b
   runs-ended (tight e q) = narrow e (omega (arith, length-flat-bytes wanted))
   runs-ended (spent e q) = many e (omega arith)
 
   -- the sweep of a drive that the text can speak of, with room for a longest response
-  pub run-ends : most a ≤ length response → Ended m rt a response collected starts (runFrom m (opened rt a response collected starts))
-  unfolding opened fresh
+  pub run-ends : most a ≤ length (bs .response) → Ended m rt a bs (runFrom m (state (fresh rt a) bs))
+  unfolding fresh
   run-ends h =
       runs-ended
-      (ends good rt a two eight (opened rt a response collected starts) 65536 0 0 0 response collected starts
+      (ends good rt a two eight bs 65536 0 0 0 bs
       (omega (arith, ap length (selected-zero rt m)))
       (selected-count good rt 0)
       (omega (arith, selected-count good rt 0))
       h)
 
   -- demand 3 of such a drive
-  pub run-swept : Premises m rt a response collected starts → Swept m rt a response collected starts (runFrom m (opened rt a response collected starts))
+  pub run-swept : Premises m rt a bs → Swept m rt a bs (runFrom m (state (fresh rt a) bs))
   run-swept p = ended-swept p (run-ends (p .response-room))
 
 -- ---- the bench sweep of a sheet
 
-module _ (s : List ℕ) (rt a : ℕ) (response collected starts : List ℕ) where
-  -- the buffers as they came, and what comes of it
-  abbrev came : State
-  came = opened rt a response collected starts
+module _ (s : List ℕ) (rt a : ℕ) (bs : Buffers) where
+  -- what comes of it, and of all rounds
+  abbrev rest : Ending
+  rest = runFrom (meaning s) (state (fresh rt a) bs)
 
   abbrev result : Ending
-  result = benched s rt a response collected starts
+  result = benched s rt a bs
 
   -- any refusal at all, whatever the sheet: both counts 0, all three buffers zero throughout
-  pub settled : (number result ≡ 0) ⊎ (result ≡ failing came (result .reply .refusal))
+  pub settled : (number result ≡ 0) ⊎ (result ≡ failing bs (result .reply .refusal))
   unfolding benched
-  settled = unless-settled (firstFault s rt a response) came (runFrom (meaning s) came) (run-settled 65537 (meaning s) came came)
+  settled = unless-settled (firstFault s rt a (length (bs .response))) bs rest (run-settled 65537 (meaning s) bs (state (fresh rt a) bs))
 
-  first-accepted : firstFault s rt a response .number ≡ 0 → Accepted s
+  first-accepted : firstFault s rt a (length (bs .response)) .number ≡ 0 → Accepted s
   unfolding firstFault
   first-accepted e = orElse-zero (verdict s) _ e .0
 
-  first-two : firstFault s rt a response .number ≡ 0 → rt < 2
+  first-two : firstFault s rt a (length (bs .response)) .number ≡ 0 → rt < 2
   unfolding firstFault startRule
   first-two e = omega (arith, ltb-false 1 rt (if-zero 20 (ltb 1 rt) _ (orElse-zero _ _ (orElse-zero (verdict s) _ e .1) .0) .0))
 
-  first-eight : firstFault s rt a response .number ≡ 0 → 8 ≤ a
+  first-eight : firstFault s rt a (length (bs .response)) .number ≡ 0 → 8 ≤ a
   unfolding firstFault startRule
   first-eight e = ltb-false a 8 (if-zero 21 (ltb a 8) _ (if-zero 20 (ltb 1 rt) _ (orElse-zero _ _ (orElse-zero (verdict s) _ e .1) .0) .1) .0)
 
-  first-room : Accepted s → rt < 2 → 8 ≤ a → firstFault s rt a response ≡ (refuse 12 if ltb (length response) (most a) else accept)
+  first-room : Accepted s → rt < 2 → 8 ≤ a → firstFault s rt a (length (bs .response)) ≡ (refuse 12 if ltb (length (bs .response)) (most a) else accept)
   unfolding firstFault startRule _if_else_ _orElse_ pickZero
   first-room accepted two eight =
       let h : rt ≤ 1 = omega arith in
       rw (accepted, pickZero, le-ltb 1 rt h, le-ltb a 8 eight)
 
   -- an accepted sheet, whatever the room: it succeeds, or is refused 12, 23, 24 or 25
-  pub ended : Bytes s → Accepted s → rt < 2 → 8 ≤ a → Ended (meaning s) rt a response collected starts result
+  pub ended : Bytes s → Accepted s → rt < 2 → 8 ≤ a → Ended (meaning s) rt a bs result
   unfolding benched
   ended b accepted two eight = ⊎-elim
-      (λ (h : most a ≤ length response).
-      rw (first-room accepted two eight, le-ltb (length response) (most a) h, if-false, unless-none accept (failing came) (runFrom (meaning s) came) refl)
-      (run-ends (meaning-fine s b accepted .sound) rt a two eight response collected starts h))
-      (λ (h : length response < most a).
-      short (rw (first-room accepted two eight, lt-ltb (length response) (most a) h, if-true) (unless-fault (refuse 12) (failing came) (runFrom (meaning s) came) (λ z. omega arith))) h)
-      (le-or-lt (most a) (length response))
-
-  pub numbers : Bytes s → Accepted s → rt < 2 → 8 ≤ a → Numbers (number result)
-  numbers b accepted two eight = ended-number (ended b accepted two eight)
+      (λ (h : most a ≤ length (bs .response)).
+      rw (first-room accepted two eight, le-ltb (length (bs .response)) (most a) h, if-false, unless-none accept (failing bs) rest refl)
+      (run-ends (meaning-fine s b accepted .sound) rt a two eight bs h))
+      (λ (h : length (bs .response) < most a).
+      short (rw (first-room accepted two eight, lt-ltb (length (bs .response)) (most a) h, if-true) (unless-fault (refuse 12) (failing bs) rest (λ z. omega arith))) h)
+      (le-or-lt (most a) (length (bs .response)))
 
   -- demand 3
-  pub demand3 : Bytes s → Accepted s → Premises (meaning s) rt a response collected starts → Swept (meaning s) rt a response collected starts result
+  pub demand3 : Bytes s → Accepted s → Premises (meaning s) rt a bs → Swept (meaning s) rt a bs result
   demand3 b accepted p = ended-swept p (ended b accepted (p .kind) (p .eight))
 
   -- whatever succeeds is such a sweep
-  pub succeeded : Bytes s → number result ≡ 0 → Swept (meaning s) rt a response collected starts result
+  pub succeeded : Bytes s → number result ≡ 0 → Swept (meaning s) rt a bs result
   unfolding benched
   succeeded b e =
-      let f : firstFault s rt a response .number ≡ 0 = unless-zero (firstFault s rt a response) came (runFrom (meaning s) came) e in
+      let f : firstFault s rt a (length (bs .response)) .number ≡ 0 = unless-zero (firstFault s rt a (length (bs .response))) bs rest e in
       ended-zero (ended b (first-accepted f) (first-two f) (first-eight f)) e

@@ -21,38 +21,37 @@ use Rattle.base.proofs.Compare.{le-or-lt}
 use Rattle.text.proofs.Sent.{length-sent}
 use Rattle.text.proofs.Packing.{whole-rest, rest-fits, whole-every, whole-fits, whole-none, groups-last, groups-some, flat-parts}
 use Rattle.text.proofs.Next.{selected-next}
-use Rattle.sweep.specs.Sweep.{takeFault, stepped}
-use Rattle.bench.specs.Bench.{State, state, Ending, ending, filled, failing, succeeding, rounded, rounds}
+use Rattle.sweep.specs.Sweep.{takeFault}
+use Rattle.sweep.proofs.Cases.{step-refusal}
+use Rattle.bench.specs.Bench.{Buffers, buffers, State, state, Ending, ending, filled, failing, succeeding, rounded, rounds}
 use Rattle.bench.specs.Swept.{room, HasRoom, lastOf, nextStart}
-use Rattle.bench.proofs.Run.{length-filled, filled-filled, run-ended, run-full, run-fault, run-round}
-use Rattle.bench.proofs.Round.{going, gone, fits, left, gain, later, plan, standing, Takes, take-narrow, take-fine, take-stuck, round-last, round-more}
+use Rattle.bench.proofs.Run.{length-filled, filled-filled, answer, run-ended, run-full, run-fault, run-round}
+use Rattle.bench.proofs.Round.{going, gone, fits, left, gain, later, plan, onto, Takes, take-narrow, take-fine, take-stuck, round-last, round-more}
 use Rattle.bench.proofs.Rounds.{startsOf, length-startsOf, behind-append, last-some, selected-split, selected-count, selected-bytes, plan-more}
 
 -- the outcome of a run that takes gs in its rounds, the first from f with c commands and k bytes before it
-unfoldable pub finished : (m : Drive) (rt a f c k : ℕ) (response out starts : List ℕ) → List (List Desc) → Ending
-finished m rt a f c k response out starts gs =
+unfoldable pub finished : (m : Drive) (rt a f c k : ℕ) (bs : Buffers) → List (List Desc) → Ending
+finished m rt a f c k bs gs =
     ending record { refusal = accept; commands = c + length gs; collected = k + length (flat bytes (joined gs)) }
-    (filled (sent rt (lastOf f (startsOf f gs)) a m) response)
-    (sets out k (flat bytes (joined gs)))
-    (sets starts c (startsOf f gs))
+    (buffers (filled (sent rt (lastOf f (startsOf f gs)) a m) (bs .response)) (sets (bs .collected) k (flat bytes (joined gs))) (sets (bs .starts) c (startsOf f gs)))
 
-module _ (m : Drive) (rt a : ℕ) (came : State) where
+module _ (m : Drive) (rt a : ℕ) (came : Buffers) where
   -- a run from f with room for n rounds
-  pub data Runs (n f c k : ℕ) (response out starts : List ℕ) (o : Ending) : Type 0 where
-    done : o ≡ finished m rt a f c k response out starts (plan m rt a n f) → joined (plan m rt a n f) ≡ selected rt f m
-        → k + length (flat bytes (selected rt f m)) ≤ length out → c + length (plan m rt a n f) ≤ length starts → Runs n f c k response out starts o
+  pub data Runs (n f c k : ℕ) (bs : Buffers) (o : Ending) : Type 0 where
+    done : o ≡ finished m rt a f c k bs (plan m rt a n f) → joined (plan m rt a n f) ≡ selected rt f m
+        → k + length (flat bytes (selected rt f m)) ≤ length (bs .collected) → c + length (plan m rt a n f) ≤ length (bs .starts) → Runs n f c k bs o
     stuck : o ≡ failing came (refuse 23) → (xs : List Desc) (d : Desc) (ys : List Desc)
-        → selected rt f m ≡ xs ++ d ∷ ys → selected rt (nextStart f xs) m ≡ d ∷ ys → room a < size d → All (HasRoom a) xs → Runs n f c k response out starts o
-    tight : o ≡ failing came (refuse 24) → length out < k + length (flat bytes (selected rt f m)) → Runs n f c k response out starts o
-    spent : o ≡ failing came (refuse 25) → length starts < c + length (plan m rt a n f) → Runs n f c k response out starts o
+        → selected rt f m ≡ xs ++ d ∷ ys → selected rt (nextStart f xs) m ≡ d ∷ ys → room a < size d → All (HasRoom a) xs → Runs n f c k bs o
+    tight : o ≡ failing came (refuse 24) → length (bs .collected) < k + length (flat bytes (selected rt f m)) → Runs n f c k bs o
+    spent : o ≡ failing came (refuse 25) → length (bs .starts) < c + length (plan m rt a n f) → Runs n f c k bs o
 
 -- a round that takes g, and those behind it
-finished-more : (m : Drive) (rt a f c k : ℕ) (response out starts : List ℕ) (g : List Desc) (gs : List (List Desc))
-    → length (sent rt f a m) ≤ length response → 0 < length gs
-    → finished m rt a (lastNumber g + 1) (c + 1) (k + length (flat bytes g)) (filled (sent rt f a m) response) (sets out k (flat bytes g)) (set starts c f) gs
-    ≡ finished m rt a f c k response out starts (g ∷ gs)
+finished-more : (m : Drive) (rt a f c k : ℕ) (bs : Buffers) (g : List Desc) (gs : List (List Desc))
+    → length (sent rt f a m) ≤ length (bs .response) → 0 < length gs
+    → finished m rt a (lastNumber g + 1) (c + 1) (k + length (flat bytes g)) (buffers (filled (sent rt f a m) (bs .response)) (sets (bs .collected) k (flat bytes g)) (set (bs .starts) c f)) gs
+    ≡ finished m rt a f c k bs (g ∷ gs)
 unfolding finished startsOf lastOf joined
-finished-more m rt a f c k response out starts g gs l h =
+finished-more m rt a f c k bs g gs l h =
     let t : ℕ = lastNumber g + 1 in
     let p : 0 < length (startsOf t gs) = omega (arith, length-startsOf t gs) in
     let i : c + 1 + length gs ≡ c + suc (length gs) = omega arith in
@@ -61,133 +60,133 @@ finished-more m rt a f c k response out starts g gs l h =
     rw (
       i,
       j,
-      filled-filled (sent rt (lastOf t (startsOf t gs)) a m) (sent rt f a m) response l,
+      filled-filled (sent rt (lastOf t (startsOf t gs)) a m) (sent rt f a m) (bs .response) l,
       last-some t f (startsOf t gs) p,
-      ← sets-append out k (flat bytes g) (flat bytes (joined gs)),
+      ← sets-append (bs .collected) k (flat bytes g) (flat bytes (joined gs)),
       ← flat-append bytes g (joined gs),
       add-one c,
     )
 
-module _ {m : Drive} (good : Sound m) (rt a : ℕ) (two : rt < 2) (eight : 8 ≤ a) (came : State) where
+module _ {m : Drive} (good : Sound m) (rt a : ℕ) (two : rt < 2) (eight : 8 ≤ a) (came : Buffers) where
   -- a round with room for its start, and room for n more rounds
-  module _ (n f c k : ℕ) (response out starts : List ℕ) (few : c ≤ 65535) (another : c < length starts) where
+  module _ (n f c k : ℕ) (bs : Buffers) (few : c ≤ 65535) (another : c < length (bs .starts)) where
     abbrev w : State
-    w = standing rt a f c k response out starts
+    w = state (going rt a f c k) bs
 
-    refused-by : (r : Refusal) → (r .number ≡ 0 → ⊥) → takeFault (going rt a f c k) (sent rt f a m) (length out) ≡ r → rounds (suc n) m came w ≡ failing came r
-    unfolding stepped
-    refused-by r h e = run-fault n m came w refl another (λ z. h (sym (ap (λ (r : Refusal). r .number) e) ∙ z)) ∙ ap (λ (r : Refusal). failing came r) e
+    refused-by : (r : Refusal) → (r .number ≡ 0 → ⊥) → takeFault (going rt a f c k) (sent rt f a m) (length (bs .collected)) ≡ r → rounds (suc n) m came w ≡ failing came r
+    refused-by r h e =
+        let q : answer m w ≡ r = step-refusal (going rt a f c k) (sent rt f a m) (bs .collected) ∙ e in
+        run-fault n m came w refl another (λ z. h (sym (ap (λ (r : Refusal). r .number) q) ∙ z)) ∙ ap (failing came) q
 
-    taken-by : takeFault (going rt a f c k) (sent rt f a m) (length out) ≡ accept → rounds (suc n) m came w ≡ rounds n m came (rounded m w)
-    unfolding stepped
-    taken-by e = run-round n m came w refl another (ap (λ (r : Refusal). r .number) e)
+    taken-by : takeFault (going rt a f c k) (sent rt f a m) (length (bs .collected)) ≡ accept → rounds (suc n) m came w ≡ rounds n m came (rounded m w)
+    taken-by e = run-round n m came w refl another (ap (λ (r : Refusal). r .number) (step-refusal (going rt a f c k) (sent rt f a m) (bs .collected) ∙ e))
 
     -- 24
-    ends-tight : Takes m rt a f → length out < k + gain m rt a f → Runs m rt a came n f c k response out starts (rounds (suc n) m came w)
+    ends-tight : Takes m rt a f → length (bs .collected) < k + gain m rt a f → Runs m rt a came n f c k bs (rounds (suc n) m came w)
     ends-tight t h =
         tight
-        (refused-by (refuse 24) (λ z. omega arith) (take-narrow good rt a f eight two c k few t (length out) h))
+        (refused-by (refuse 24) (λ z. omega arith) (take-narrow good rt a f eight two c k few t (length (bs .collected)) h))
         (omega (arith, flat-parts (room a) (selected rt f m)))
 
     -- 23
-    ends-stuck : (x : Desc) (xs : List Desc) → fits m rt a f ≡ [] → left m rt a f ≡ x ∷ xs → Runs m rt a came n f c k response out starts (rounds (suc n) m came w)
+    ends-stuck : (x : Desc) (xs : List Desc) → fits m rt a f ≡ [] → left m rt a f ≡ x ∷ xs → Runs m rt a came n f c k bs (rounds (suc n) m came w)
     unfolding nextStart
     ends-stuck x xs e l =
         let q : selected rt f m ≡ x ∷ xs = sym (whole-rest (room a) (selected rt f m)) ∙ ap (λ (r : List Desc). r ++ left m rt a f) e ∙ l in
         stuck
-        (refused-by (refuse 23) (λ z. omega arith) (take-stuck good rt a f eight two c k few e (rw l (omega arith)) (length out)))
+        (refused-by (refuse 23) (λ z. omega arith) (take-stuck good rt a f eight two c k few e (rw l (omega arith)) (length (bs .collected))))
         [] x xs q q
         (whole-none (room a) x xs (ap (whole (room a)) (sym q) ∙ e))
         tt
 
   -- nothing is left
-  abbrev ended : (f c k : ℕ) (response out starts : List ℕ) → State
-  ended f c k response out starts = state (gone rt a f (c + 1) (k + gain m rt a f)) (filled (sent rt f a m) response) (sets out k (flat bytes (fits m rt a f))) (set starts c f)
+  abbrev ended : (f c k : ℕ) (bs : Buffers) → State
+  ended f c k bs = state (gone rt a f (c + 1) (k + gain m rt a f)) (onto m rt a f c k bs)
 
-  finish : (n f c k : ℕ) (response out starts : List ℕ) → left m rt a f ≡ []
-      → succeeding (ended f c k response out starts) ≡ finished m rt a f c k response out starts (plan m rt a (suc n) f)
+  finish : (n f c k : ℕ) (bs : Buffers) → left m rt a f ≡ []
+      → succeeding (ended f c k bs) ≡ finished m rt a f c k bs (plan m rt a (suc n) f)
   unfolding finished startsOf lastOf succeeding joined
-  finish n f c k response out starts e = rw (groups-last (room a) n (selected rt f m) e, append-nil)
+  finish n f c k bs e = rw (groups-last (room a) n (selected rt f m) e, append-nil)
 
   all : (f : ℕ) → left m rt a f ≡ [] → fits m rt a f ≡ selected rt f m
   all f e = whole-every (room a) (selected rt f m) (rest-fits (room a) (selected rt f m) e)
 
-  ends-last : (n f c k : ℕ) (response out starts : List ℕ) → c ≤ 65535 → c < length starts → left m rt a f ≡ []
-      → Runs m rt a came (suc n) f c k response out starts (rounds (suc (suc n)) m came (standing rt a f c k response out starts))
+  ends-last : (n f c k : ℕ) (bs : Buffers) → c ≤ 65535 → c < length (bs .starts) → left m rt a f ≡ []
+      → Runs m rt a came (suc n) f c k bs (rounds (suc (suc n)) m came (state (going rt a f c k) bs))
   unfolding joined
-  ends-last n f c k response out starts few another e = ⊎-elim
-      (λ (h : k + gain m rt a f ≤ length out).
+  ends-last n f c k bs few another e = ⊎-elim
+      (λ (h : k + gain m rt a f ≤ length (bs .collected)).
       done
-      (taken-by (suc n) f c k response out starts few another (take-fine good rt a f eight two c k few (inl e) (length out) h)
-      ∙ ap (rounds (suc n) m came) (round-last good rt a f eight two c k few response out starts h e)
-      ∙ run-ended n m came (ended f c k response out starts) refl
-      ∙ finish n f c k response out starts e)
+      (taken-by (suc n) f c k bs few another (take-fine good rt a f eight two c k few (inl e) (length (bs .collected)) h)
+      ∙ ap (rounds (suc n) m came) (round-last good rt a f eight two c k few bs h e)
+      ∙ run-ended n m came (ended f c k bs) refl
+      ∙ finish n f c k bs e)
       (rw (groups-last (room a) n (selected rt f m) e) (append-nil (fits m rt a f) ∙ all f e))
       (omega (arith, ap (λ (r : List Desc). length (flat bytes r)) (all f e)))
       (omega (arith, ap length (groups-last (room a) n (selected rt f m) e))))
-      (λ (h : length out < k + gain m rt a f). ends-tight (suc n) f c k response out starts few another (inl e) h)
-      (le-or-lt (k + gain m rt a f) (length out))
+      (λ (h : length (bs .collected) < k + gain m rt a f). ends-tight (suc n) f c k bs few another (inl e) h)
+      (le-or-lt (k + gain m rt a f) (length (bs .collected)))
 
   -- something is left: what comes of the rounds from the next start on comes of those from this one
   module _ (f : ℕ) (x : Desc) (xs : List Desc) (l : left m rt a f ≡ x ∷ xs) (h : 0 < length (fits m rt a f)) where
-    onward : (n c k : ℕ) (response out starts : List ℕ) (o : Ending) → 0 < n → length (sent rt f a m) ≤ length response
-        → Runs m rt a came n (later m rt a f) (c + 1) (k + gain m rt a f) (filled (sent rt f a m) response) (sets out k (flat bytes (fits m rt a f))) (set starts c f) o
-        → Runs m rt a came (suc n) f c k response out starts o
+    onward : (n c k : ℕ) (bs : Buffers) (o : Ending) → 0 < n → length (sent rt f a m) ≤ length (bs .response)
+        → Runs m rt a came n (later m rt a f) (c + 1) (k + gain m rt a f) (onto m rt a f c k bs) o
+        → Runs m rt a came (suc n) f c k bs o
     unfolding joined
-    onward n c k response out starts o p r (done e j b s) =
+    onward n c k bs o p r (done e j b s) =
         let gs : List (List Desc) = plan m rt a n (later m rt a f) in
         let g : plan m rt a (suc n) f ≡ fits m rt a f ∷ gs = plan-more good rt a f two h x xs l n in
         done
         (e
-        ∙ finished-more m rt a f c k response out starts (fits m rt a f) gs r (groups-some (room a) n (selected rt (later m rt a f) m) p)
-        ∙ ap (finished m rt a f c k response out starts) (sym g))
+        ∙ finished-more m rt a f c k bs (fits m rt a f) gs r (groups-some (room a) n (selected rt (later m rt a f) m) p)
+        ∙ ap (finished m rt a f c k bs) (sym g))
         (ap joined g ∙ ap (λ (r : List Desc). fits m rt a f ++ r) j ∙ sym (selected-split good rt a f two h))
-        (omega (arith, length-sets out k (flat bytes (fits m rt a f)), selected-bytes good rt a f two h))
-        (omega (arith, length-set starts c f, ap length g))
-    onward n c k response out starts o p r (stuck e ys d zs q t u b) =
+        (omega (arith, length-sets (bs .collected) k (flat bytes (fits m rt a f)), selected-bytes good rt a f two h))
+        (omega (arith, length-set (bs .starts) c f, ap length g))
+    onward n c k bs o p r (stuck e ys d zs q t u b) =
         stuck e (fits m rt a f ++ ys) d zs
         (selected-split good rt a f two h ∙ ap (λ (r : List Desc). fits m rt a f ++ r) q ∙ sym (append-assoc (fits m rt a f) ys (d ∷ zs)))
         (ap (λ (n : ℕ). selected rt n m) (sym (behind-append f (fits m rt a f) ys h)) ∙ t)
         u
         (all-append (HasRoom a) (fits m rt a f) ys (whole-fits (room a) (selected rt f m)) b)
-    onward n c k response out starts o p r (tight e q) =
-        tight e (omega (arith, length-sets out k (flat bytes (fits m rt a f)), selected-bytes good rt a f two h))
-    onward n c k response out starts o p r (spent e q) = spent e (omega (arith, length-set starts c f, ap length (plan-more good rt a f two h x xs l n)))
+    onward n c k bs o p r (tight e q) =
+        tight e (omega (arith, length-sets (bs .collected) k (flat bytes (fits m rt a f)), selected-bytes good rt a f two h))
+    onward n c k bs o p r (spent e q) = spent e (omega (arith, length-set (bs .starts) c f, ap length (plan-more good rt a f two h x xs l n)))
 
   -- a run with a round for each wanted descriptor
   abbrev Claim : (n : ℕ) → Type 0
   Claim n =
-      (f c k : ℕ) (response out starts : List ℕ) → 0 < length (selected rt f m) → length (selected rt f m) ≤ n → c + length (selected rt f m) ≤ 65536
-      → most a ≤ length response → Runs m rt a came n f c k response out starts (rounds (suc n) m came (standing rt a f c k response out starts))
+      (f c k : ℕ) (bs : Buffers) → 0 < length (selected rt f m) → length (selected rt f m) ≤ n → c + length (selected rt f m) ≤ 65536
+      → most a ≤ length (bs .response) → Runs m rt a came n f c k bs (rounds (suc n) m came (state (going rt a f c k) bs))
 
   pub ends : (n : ℕ) → Claim n
-  ends zero f c k response out starts p q r s = absurd (omega arith)
-  ends (suc n) f c k response out starts p q r s = ⊎-elim
-      (λ (h : length starts ≤ c). spent (run-full (suc n) m came w refl h) (omega (arith, groups-some (room a) (suc n) (selected rt f m) (omega arith))))
-      (λ (h : c < length starts). go h (left m rt a f) refl (fits m rt a f) refl (ends n))
-      (le-or-lt (length starts) c)
+  ends zero f c k bs p q r s = absurd (omega arith)
+  ends (suc n) f c k bs p q r s = ⊎-elim
+      (λ (h : length (bs .starts) ≤ c). spent (run-full (suc n) m came w refl h) (omega (arith, groups-some (room a) (suc n) (selected rt f m) (omega arith))))
+      (λ (h : c < length (bs .starts)). go h (left m rt a f) refl (fits m rt a f) refl (ends n))
+      (le-or-lt (length (bs .starts)) c)
     where
       w : State
-      w = standing rt a f c k response out starts
+      w = state (going rt a f c k) bs
 
-      go : c < length starts → (xs : List Desc) → left m rt a f ≡ xs → (ys : List Desc) → fits m rt a f ≡ ys → Claim n
-          → Runs m rt a came (suc n) f c k response out starts (rounds (suc (suc n)) m came w)
-      go h [] e ys d ih = ends-last n f c k response out starts (omega arith) h e
-      go h (x ∷ xs) l [] d ih = ends-stuck (suc n) f c k response out starts (omega arith) h x xs d l
+      go : c < length (bs .starts) → (xs : List Desc) → left m rt a f ≡ xs → (ys : List Desc) → fits m rt a f ≡ ys → Claim n
+          → Runs m rt a came (suc n) f c k bs (rounds (suc (suc n)) m came w)
+      go h [] e ys d ih = ends-last n f c k bs (omega arith) h e
+      go h (x ∷ xs) l [] d ih = ends-stuck (suc n) f c k bs (omega arith) h x xs d l
       go h (x ∷ xs) l (y ∷ ys) d ih =
           let i : 0 < length (fits m rt a f) = rw d (omega arith) in
           let j : 0 < length (left m rt a f) = rw l (omega arith) in
           let t : length (selected rt f m) ≡ length (fits m rt a f) + length (selected rt (later m rt a f) m) = selected-count good rt a f two i in
           let u : length (selected rt (later m rt a f) m) ≡ length (left m rt a f) = ap length (selected-next good rt (room a) f i two) in
-          let v : length (sent rt f a m) ≤ length response = omega (arith, length-sent rt f a m) in
+          let v : length (sent rt f a m) ≤ length (bs .response) = omega (arith, length-sent rt f a m) in
           ⊎-elim
-          (λ (b : k + gain m rt a f ≤ length out).
+          (λ (b : k + gain m rt a f ≤ length (bs .collected)).
           rw (
-            taken-by (suc n) f c k response out starts (omega arith) h (take-fine good rt a f eight two c k (omega arith) (inr (j, i)) (length out) b),
-            round-more good rt a f eight two c k (omega arith) response out starts b j i,
+            taken-by (suc n) f c k bs (omega arith) h (take-fine good rt a f eight two c k (omega arith) (inr (j, i)) (length (bs .collected)) b),
+            round-more good rt a f eight two c k (omega arith) bs b j i,
           )
-          (onward f x xs l i n c k response out starts _ (omega arith) v
-          (ih (later m rt a f) (c + 1) (k + gain m rt a f) (filled (sent rt f a m) response) (sets out k (flat bytes (fits m rt a f))) (set starts c f)
-          (omega arith) (omega arith) (omega arith) (omega (arith, length-filled (sent rt f a m) response v)))))
-          (λ (b : length out < k + gain m rt a f). ends-tight (suc n) f c k response out starts (omega arith) h (inr (j, i)) b)
-          (le-or-lt (k + gain m rt a f) (length out))
+          (onward f x xs l i n c k bs _ (omega arith) v
+          (ih (later m rt a f) (c + 1) (k + gain m rt a f) (onto m rt a f c k bs)
+          (omega arith) (omega arith) (omega arith) (omega (arith, length-filled (sent rt f a m) (bs .response) v)))))
+          (λ (b : length (bs .collected) < k + gain m rt a f). ends-tight (suc n) f c k bs (omega arith) h (inr (j, i)) b)
+          (le-or-lt (k + gain m rt a f) (length (bs .collected)))

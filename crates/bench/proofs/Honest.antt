@@ -4,8 +4,10 @@ use mathlib.Core.Bool.{true}
 use mathlib.Core.List.{List, [], _∷_, _++_, append-assoc}
 use Prim.Native.Nat.{ℕ, zero, suc, _+_, _≤_, _<_}
 use native.Mathlib.Omega.{arith}
+use lib.Dec.{ltb}
 use lib.ListN.{length, drop}
 use lib.Seq.{take-at}
+use borrow.Author.Tests.{lt-ltb}
 use Rattle.base.specs.Lists.{flat, All}
 use Rattle.base.proofs.Lists.{flat-append, drop-behind}
 use Rattle.text.specs.Drive.{Desc, Drive, Sound}
@@ -14,19 +16,14 @@ use Rattle.text.proofs.Packing.{whole-rest, whole-some, rest-all, groups-last, 
 use Rattle.text.proofs.Own.{wholes-sent}
 use Rattle.text.proofs.Next.{selected-next}
 use Rattle.sweep.specs.Sweep.{cut}
-use Rattle.bench.specs.Swept.{room, HasRoom, another, Round, Honest}
+use Rattle.bench.specs.Swept.{room, HasRoom, Round, Honest}
 use Rattle.bench.proofs.Round.{fits, left, gain, later, plan, cut-none, cut-yes}
 use Rattle.bench.proofs.Rounds.{startsOf, length-startsOf, selected-count, plan-more}
 
-some-yes : (ts : List ℕ) → 0 < length ts → another ts ≡ true
-unfolding another
-some-yes [] h = absurd (omega arith)
-some-yes (t ∷ ts) h = refl
-
 module _ {m : Drive} (good : Sound m) (rt a : ℕ) (two : rt < 2) (eight : 8 ≤ a) where
   -- one round
-  round : (f before : ℕ) (out behind : List ℕ) → drop before out ≡ flat bytes (fits m rt a f) ++ behind → (ts : List ℕ) → cut (sent rt f a m) ≡ another ts
-      → Round m rt a out before f (fits m rt a f) (another ts)
+  round : (f before : ℕ) (out behind : List ℕ) → drop before out ≡ flat bytes (fits m rt a f) ++ behind → (ts : List ℕ) → cut (sent rt f a m) ≡ ltb 0 (length ts)
+      → Round m rt a out before f (fits m rt a f) (ltb 0 (length ts))
   round f before out behind e ts c = record {
     took = sym (wholes-sent good rt f a eight (most a) (omega arith) (omega arith));
     stands = rw e (take-at (flat bytes (fits m rt a f)) behind (gain m rt a f) refl);
@@ -48,7 +45,7 @@ module _ {m : Drive} (good : Sound m) (rt a : ℕ) (two : rt < 2) (eight : 8 ≤
       → drop before out ≡ flat bytes (selected rt f m) ++ behind → Honest m rt a out before f (startsOf f (plan m rt a n f)) (plan m rt a n f)
 
   pub rounds : (n : ℕ) → Claim n
-  unfolding startsOf another
+  unfolding startsOf
   rounds zero f before out behind s p q e = absurd (omega arith)
   rounds (suc n) f before out behind s p q e = go (left m rt a f) refl (rounds n)
     where
@@ -64,7 +61,7 @@ module _ {m : Drive} (good : Sound m) (rt a : ℕ) (two : rt < 2) (eight : 8 ≤
           let gs : List (List Desc) = plan m rt a n (later m rt a f) in
           let ts : List ℕ = startsOf (later m rt a f) gs in
           let b : drop before out ≡ flat bytes (fits m rt a f) ++ (flat bytes (left m rt a f) ++ behind) = front f before out behind e in
-          let c : another ts ≡ true = some-yes ts (omega (arith, length-startsOf (later m rt a f) gs, groups-some (room a) n (selected rt (later m rt a f) m) (omega (arith, ap length k)))) in
+          let c : ltb 0 (length ts) ≡ true = lt-ltb 0 (length ts) (omega (arith, length-startsOf (later m rt a f) gs, groups-some (room a) n (selected rt (later m rt a f) m) (omega (arith, ap length k)))) in
           rw (plan-more good rt a f two j x xs l n) (
             refl,
             round f before out (flat bytes (left m rt a f) ++ behind) b ts (cut-yes good rt a f eight i ∙ sym c),

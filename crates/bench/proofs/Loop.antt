@@ -24,11 +24,11 @@ use Rattle.responder.specs.Trusting.{trusting}
 use Rattle.responder.proofs.Trusting.{trusting-accepted}
 use Rattle.sweep.specs.declared.Sweep.{Sweep}
 use Rattle.sweep.specs.declared.Step.{Step}
-use Rattle.sweep.specs.Sweep.{startRule, fresh, started, advanced, endedNow, stepped, collecting}
+use Rattle.sweep.specs.Sweep.{startRule, fresh, started, advanced, endedNow, Turn, turn, taking, stepped}
 use Rattle.sweep.proofs.Numbers.{start-fresh}
 use Rattle.sweep.proofs.Cases.{step-cases}
-use Rattle.bench.specs.Bench.{State, state, Ending, ending, zeros, failing, succeeding, reply, filled, roundFault, rounded, rounds, runFrom, firstFault, opened, benched}
-use Rattle.bench.specs.inner.Loop.{openFault, cleared, SameLengths, Rounded, Ran}
+use Rattle.bench.specs.Bench.{Buffers, buffers, State, state, Ending, ending, zeros, failing, succeeding, reply, filled, turnAt, roundFault, rounded, rounds, firstFault, benched}
+use Rattle.bench.specs.inner.Loop.{runFrom, SameLengths, Rounded, Ran}
 use Rattle.bench.proofs.Asked.{sent-most, take-filled, asked}
 use Rattle.bench.proofs.Run.{length-filled, round-full, round-room}
 use Rattle.bench.proofs.Turns.{onwards, onwards-ended, onwards-fault, onwards-round, round-commands, rounded-few}
@@ -36,18 +36,18 @@ use Rattle.bench.proofs.Turns.{onwards, onwards-ended, onwards-fault, o
 -- ---- before any round
 
 -- nothing is refused: the sheet is accepted, a sweep starts afresh, and there is room for a response
-module _ (s : List ℕ) (rt a n : ℕ) (e : openFault s rt a n .number ≡ 0) where
-  pub open-accepted : Accepted s
-  unfolding openFault
-  open-accepted = orElse-zero _ _ e .0
+module _ (s : List ℕ) (rt a n : ℕ) (e : firstFault s rt a n .number ≡ 0) where
+  first-accepted : Accepted s
+  unfolding firstFault
+  first-accepted = orElse-zero _ _ e .0
 
-  pub open-fresh : started rt a .sweep ≡ fresh rt a
-  unfolding openFault
-  open-fresh = sym (ap (λ (t : Step). t .sweep) (start-fresh rt a (startRule rt a) refl (orElse-zero _ _ (orElse-zero _ _ e .1) .0)))
+  first-fresh : started rt a .sweep ≡ fresh rt a
+  unfolding firstFault
+  first-fresh = sym (ap (λ (t : Step). t .sweep) (start-fresh rt a (startRule rt a) refl (orElse-zero _ _ (orElse-zero _ _ e .1) .0)))
 
-  pub open-room : most a ≤ n
-  unfolding openFault
-  open-room = ltb-false n (most a) (if-zero 11 (ltb n (most a)) accept (orElse-zero _ _ (orElse-zero _ _ e .1) .1) .0)
+  first-room : most a ≤ n
+  unfolding firstFault
+  first-room = ltb-false n (most a) (if-zero 11 (ltb n (most a)) accept (orElse-zero _ _ (orElse-zero _ _ e .1) .1) .0)
 
 -- ---- a round
 
@@ -76,56 +76,57 @@ module _ (s : List ℕ) (b : Bytes s) (ok : Accepted s) (rt f a : ℕ) (d : List
   pub asked-part : take (r .count) e ≡ due
   asked-part = rw (asked-count, asked-filled) (take-filled due d)
 
+same-lengths : {bs : Buffers} → SameLengths bs bs
+same-lengths = record { response = refl; collected = refl; starts = refl }
+
 -- no room for another start
-pub round-short : {m : Drive} {w : Sweep} {response collected starts : List ℕ} → length starts ≤ w .commands
-    → Rounded m (state w response collected starts) (refuse 25) (state w response collected starts)
-round-short {m} {w} {response} {collected} {starts} h = record {
-  fault = sym (round-full m (state w response collected starts) h);
+pub round-short : {m : Drive} {w : Sweep} {bs : Buffers} → length (bs .starts) ≤ w .commands → Rounded m (state w bs) (refuse 25) (state w bs)
+round-short {m} {w} {bs} h = record {
+  fault = sym (round-full m (state w bs) h);
   stands = λ e. absurd (omega arith);
-  kept = record { response = refl; collected = refl; starts = refl };
+  kept = same-lengths;
 }
 
 -- the start is noted, the box is asked, the record takes the bytes sent
-module _ (s : List ℕ) (w : Sweep) (response collected starts : List ℕ) {blank e out noted : List ℕ} {r : Made} {n : ℕ} {t : Step} where
-  pub round-asked : Bytes s → Accepted s → most (w .allocation) ≤ length response → w .commands < length starts → Wrote starts (w .commands) (w .next .0 ∷ []) n noted
-      → blank ≡ replicate (length response) 0 → maker.outcome r e ≡ trusting s (w .rt) (w .next .0) (w .allocation) blank
-      → (t ≡ stepped w (take (r .count) e) collected) × (out ≡ collecting w (take (r .count) e) collected) → length out ≡ length collected
-      → Rounded (meaning s) (state w response collected starts) (t .refusal) (state (t .sweep) e out noted)
+module _ (s : List ℕ) (w : Sweep) (bs : Buffers) {blank e out noted : List ℕ} {r : Made} {n : ℕ} {t : Step} where
+  pub round-asked : Bytes s → Accepted s → most (w .allocation) ≤ length (bs .response) → w .commands < length (bs .starts) → Wrote (bs .starts) (w .commands) (w .next .0 ∷ []) n noted
+      → blank ≡ replicate (length (bs .response)) 0 → maker.outcome r e ≡ trusting s (w .rt) (w .next .0) (w .allocation) blank
+      → turn t out ≡ stepped w (take (r .count) e) (bs .collected) → length out ≡ length (bs .collected)
+      → Rounded (meaning s) (state w bs) (t .refusal) (state (t .sweep) (buffers e out noted))
   unfolding rounded
   round-asked b ok room h wrote clear q took l =
-      let part : take (r .count) e ≡ reply (meaning s) w = asked-part s b ok (w .rt) (w .next .0) (w .allocation) response room clear q in
-      let step : t ≡ stepped w (reply (meaning s) w) collected = took .0 ∙ ap (λ (x : List ℕ). stepped w x collected) part in
-      let gives : out ≡ collecting w (reply (meaning s) w) collected = took .1 ∙ ap (λ (x : List ℕ). collecting w x collected) part in
-      let fills : e ≡ filled (reply (meaning s) w) response = asked-filled s b ok (w .rt) (w .next .0) (w .allocation) response room clear q in
-      let notes : noted ≡ set starts (w .commands) (w .next .0) = wrote .holds in
+      let part : take (r .count) e ≡ reply (meaning s) w = asked-part s b ok (w .rt) (w .next .0) (w .allocation) (bs .response) room clear q in
+      let did : turn t out ≡ turnAt (meaning s) (state w bs) = took ∙ ap (λ (x : List ℕ). stepped w x (bs .collected)) part in
+      let fills : e ≡ filled (reply (meaning s) w) (bs .response) = asked-filled s b ok (w .rt) (w .next .0) (w .allocation) (bs .response) room clear q in
+      let notes : noted ≡ set (bs .starts) (w .commands) (w .next .0) = wrote .holds in
       record {
-        fault = ap (λ (x : Step). x .refusal) step ∙ sym (round-room (meaning s) (state w response collected starts) h);
-        stands = λ _. rw (step, gives, fills, notes);
-        kept = record { response = asked-length s b ok (w .rt) (w .next .0) (w .allocation) response room clear q; collected = l; starts = kept wrote };
+        fault = ap (λ (x : Turn). x .step .refusal) did ∙ sym (round-room (meaning s) (state w bs) h);
+        stands = λ _. ap (λ (x : Turn). state (x .step .sweep) (buffers e (x .buffer) noted)) did ∙ rw (fills, notes);
+        kept = record { response = asked-length s b ok (w .rt) (w .next .0) (w .allocation) (bs .response) room clear q; collected = l; starts = kept wrote };
       }
 
 -- ---- the loop over the rounds
 
 -- it stands at w, from `was` on
 pub record Standing (m : Drive) (was w : State) : Type 0 where
-  pub runs : onwards m was w ≡ runFrom m was
+  pub runs : onwards m (was .buffers) w ≡ runFrom m was
   pub few : w .sweep .commands ≤ 65536
   pub allocation : w .sweep .allocation ≡ was .sweep .allocation
-  pub kept : SameLengths was w
+  pub kept : SameLengths (was .buffers) (w .buffers)
 
 pub standing-start : {m : Drive} {was : State} → was .sweep .commands ≡ 0 → Standing m was was
 standing-start {m} {was} e = record {
-  runs = ap (λ (n : ℕ). rounds n m was was) (omega arith);
+  runs = ap (λ (n : ℕ). rounds n m (was .buffers) was) (omega arith);
   few = omega arith;
   allocation = refl;
-  kept = record { response = refl; collected = refl; starts = refl };
+  kept = same-lengths;
 }
 
 -- there is room for a response still
-pub standing-room : {m : Drive} {was w : State} → Standing m was w → most (was .sweep .allocation) ≤ length (was .response) → most (w .sweep .allocation) ≤ length (w .response)
+pub standing-room : {m : Drive} {was w : State} → Standing m was w → most (was .sweep .allocation) ≤ length (was .buffers .response) → most (w .sweep .allocation) ≤ length (w .buffers .response)
 standing-room at h = rw (at .allocation, at .kept .response) h
 
-kept-then : {u v w : State} → SameLengths u v → SameLengths v w → SameLengths u w
+kept-then : {u v w : Buffers} → SameLengths u v → SameLengths v w → SameLengths u w
 kept-then a b = record {
   response = b .response ∙ a .response;
   collected = b .collected ∙ a .collected;
@@ -133,23 +134,23 @@ kept-then a b = record {
 }
 
 rounded-allocation : (m : Drive) (w : State) → rounded m w .sweep .allocation ≡ w .sweep .allocation
-unfolding rounded endedNow advanced
-rounded-allocation m w = step-cases (w .sweep) (reply m (w .sweep)) (w .collected) (λ (n : ℕ) (v : Sweep). v .allocation ≡ w .sweep .allocation) (λ e. refl) (λ e. refl) (λ e. refl)
+unfolding rounded endedNow taking advanced
+rounded-allocation m w = step-cases (w .sweep) (reply m (w .sweep)) (w .buffers .collected) (λ (n : ℕ) (v : Sweep). v .allocation ≡ w .sweep .allocation) (λ e. refl) (λ e. refl) (λ e. refl)
 
 module _ {m : Drive} {was w v : State} {r : Refusal} (at : Standing m was w) (test : not (w .sweep .ended) ≡ true) (did : Rounded m w r v) where
   goes : w .sweep .ended ≡ false
   goes = not-true (w .sweep .ended) test
 
-  pub standing-kept : SameLengths was v
+  pub standing-kept : SameLengths (was .buffers) (v .buffers)
   standing-kept = kept-then (at .kept) (did .kept)
 
   -- a refusal ends it
   pub standing-fault : (r .number ≡ 0 → ⊥) → Ran m was r v
   standing-fault h = record {
     ends =
-        unless-fault r (failing was) (succeeding v) h
-        ∙ ap (λ (k : Refusal). failing was k) (did .fault)
-        ∙ sym (onwards-fault m was w (at .few) goes (λ z. h (ap (λ (k : Refusal). k .number) (did .fault) ∙ z)))
+        unless-fault r (failing (was .buffers)) (succeeding v) h
+        ∙ ap (failing (was .buffers)) (did .fault)
+        ∙ sym (onwards-fault m (was .buffers) w (at .few) goes (λ z. h (ap (λ (k : Refusal). k .number) (did .fault) ∙ z)))
         ∙ at .runs;
     kept = standing-kept;
   }
@@ -161,7 +162,7 @@ module _ {m : Drive} {was w v : State} {r : Refusal} (at : Standing m was w) (te
     -- another turn
     pub standing-again : Standing m was v
     standing-again = record {
-      runs = ap (onwards m was) (did .stands e) ∙ sym (onwards-round m was w goes fine) ∙ at .runs;
+      runs = ap (onwards m (was .buffers)) (did .stands e) ∙ sym (onwards-round m (was .buffers) w goes fine) ∙ at .runs;
       few = rw (did .stands e) (rounded-few m w fine);
       allocation = ap (λ (x : State). x .sweep .allocation) (did .stands e) ∙ rounded-allocation m w ∙ at .allocation;
       kept = standing-kept;
@@ -175,61 +176,52 @@ module _ {m : Drive} {was w v : State} {r : Refusal} (at : Standing m was w) (te
 -- it has ended
 pub standing-ended : {m : Drive} {was w : State} → Standing m was w → not (w .sweep .ended) ≡ false → Ran m was accept w
 standing-ended {m} {was} {w} at test = record {
-  ends = unless-none accept (failing was) (succeeding w) refl ∙ sym (onwards-ended m was w (at .few) (not-false (w .sweep .ended) test)) ∙ at .runs;
+  ends = unless-none accept (failing (was .buffers)) (succeeding w) refl ∙ sym (onwards-ended m (was .buffers) w (at .few) (not-false (w .sweep .ended) test)) ∙ at .runs;
   kept = at .kept;
 }
 
 -- ---- the outcome
 
 -- a refusal, whatever the buffers hold by then
-pub refused-kept : (r : Refusal) {was w : State} → SameLengths was w → cleared r (w .response) (w .collected) (w .starts) ≡ failing was r
-unfolding cleared failing zeros
+refused-kept : (r : Refusal) {was bs : Buffers} → SameLengths was bs → failing bs r ≡ failing was r
+unfolding failing zeros
 refused-kept r k = rw (k .response, k .collected, k .starts)
 
-module _ (s : List ℕ) (rt a : ℕ) (response collected starts : List ℕ) {r : Refusal} (q : r ≡ openFault s rt a (length response)) where
-  abbrev from : State
-  from = opened rt a response collected starts
-
+module _ (s : List ℕ) (rt a : ℕ) (bs : Buffers) {r : Refusal} (q : r ≡ firstFault s rt a (length (bs .response))) where
   abbrev rest : Ending
-  rest = runFrom (meaning s) from
+  rest = runFrom (meaning s) (state (fresh rt a) bs)
 
-  opens : benched s rt a response collected starts ≡ unless r (failing from) rest
-  unfolding benched firstFault openFault
-  opens = ap (λ (k : Refusal). unless k (failing from) rest) (sym q)
+  opens : benched s rt a bs ≡ unless r (failing bs) rest
+  unfolding benched
+  opens = ap (λ (k : Refusal). unless k (failing bs) rest) (sym q)
 
   -- refused before any round
-  pub bench-first : {o : Ending} → (r .number ≡ 0 → ⊥) → o ≡ cleared r response collected starts → o ≡ benched s rt a response collected starts
-  unfolding opened
-  bench-first h e = e ∙ refused-kept r {was = from} {w = from} record { response = refl; collected = refl; starts = refl } ∙ sym (opens ∙ unless-fault r (failing from) rest h)
+  pub bench-first : {o : Ending} → (r .number ≡ 0 → ⊥) → o ≡ failing bs r → o ≡ benched s rt a bs
+  bench-first h e = e ∙ sym (opens ∙ unless-fault r (failing bs) rest h)
 
   module _ (h : r .number ≡ 0) {start : Step} (b : start ≡ started rt a) where
-    accepts : openFault s rt a (length response) .number ≡ 0
+    accepts : firstFault s rt a (length (bs .response)) .number ≡ 0
     accepts = sym (ap (λ (k : Refusal). k .number) q) ∙ h
 
     afresh : start .sweep ≡ fresh rt a
-    afresh = ap (λ (x : Step). x .sweep) b ∙ open-fresh s rt a (length response) accepts
+    afresh = ap (λ (x : Step). x .sweep) b ∙ first-fresh s rt a (length (bs .response)) accepts
 
     -- what the rounds ask for
-    pub bench-ready : Accepted s × (most (start .sweep .allocation) ≤ length response) × (start .sweep .commands ≡ 0)
+    pub bench-ready : Accepted s × (most (start .sweep .allocation) ≤ length (bs .response)) × (start .sweep .commands ≡ 0)
     unfolding fresh
-    bench-ready = rw afresh (open-accepted s rt a (length response) accepts, open-room s rt a (length response) accepts, refl)
+    bench-ready = rw afresh (first-accepted s rt a (length (bs .response)) accepts, first-room s rt a (length (bs .response)) accepts, refl)
 
-    module _ {t : Refusal} {w : State} (ran : Ran (meaning s) (state (start .sweep) response collected starts) t w) where
-      begins : state (start .sweep) response collected starts ≡ from
-      unfolding opened
-      begins = ap (λ (x : Sweep). state x response collected starts) afresh
-
-      ends : benched s rt a response collected starts ≡ unless t (failing from) (succeeding w)
-      ends = opens ∙ unless-none r (failing from) rest h ∙ sym (rw begins at (ran .ends))
+    module _ {t : Refusal} {w : State} (ran : Ran (meaning s) (state (start .sweep) bs) t w) where
+      ends : benched s rt a bs ≡ unless t (failing bs) (succeeding w)
+      ends = opens ∙ unless-none r (failing bs) rest h ∙ ap (λ (x : Sweep). runFrom (meaning s) (state x bs)) (sym afresh) ∙ sym (ran .ends)
 
       -- refused in a round
-      pub bench-later : {o : Ending} → (t .number ≡ 0 → ⊥) → o ≡ cleared t (w .response) (w .collected) (w .starts) → o ≡ benched s rt a response collected starts
-      bench-later k e = e ∙ refused-kept t {was = from} {w = w} (rw begins at (ran .kept)) ∙ sym (ends ∙ unless-fault t (failing from) (succeeding w) k)
+      pub bench-later : {o : Ending} → (t .number ≡ 0 → ⊥) → o ≡ failing (w .buffers) t → o ≡ benched s rt a bs
+      bench-later k e = e ∙ refused-kept t (ran .kept) ∙ sym (ends ∙ unless-fault t (failing bs) (succeeding w) k)
 
       -- refused nowhere
-      pub bench-done : t .number ≡ 0
-          → ending record { refusal = t; commands = w .sweep .commands; collected = w .sweep .collected } (w .response) (w .collected) (w .starts) ≡ benched s rt a response collected starts
+      pub bench-done : t .number ≡ 0 → ending record { refusal = t; commands = w .sweep .commands; collected = w .sweep .collected } (w .buffers) ≡ benched s rt a bs
       unfolding succeeding
       bench-done k =
-          ap (λ (n : ℕ). ending record { refusal = refuse n; commands = w .sweep .commands; collected = w .sweep .collected } (w .response) (w .collected) (w .starts)) k
-          ∙ sym (ends ∙ unless-none t (failing from) (succeeding w) k)
+          ap (λ (n : ℕ). ending record { refusal = refuse n; commands = w .sweep .commands; collected = w .sweep .collected } (w .buffers)) k
+          ∙ sym (ends ∙ unless-none t (failing bs) (succeeding w) k)

@@ -1,8 +1,8 @@
 -- A round against a drive that the text can speak of: what its record answers, and what it is afterwards. Assumes nothing.
-use mathlib.Core.Path.{_≡_, refl, sym, ap, _∙_}
+use mathlib.Core.Path.{_≡_, refl, ap, _∙_}
 use mathlib.Core.Logic.{_⊎_, inl, inr, ⊎-elim}
 use mathlib.Core.Bool.{true, false}
-use mathlib.Core.List.{List, [], _∷_}
+use mathlib.Core.List.{List, []}
 use Prim.Native.Nat.{ℕ, _+_, _≤_, _<_}
 use native.Mathlib.Omega.{arith}
 use lib.Dec.{ltb}
@@ -21,8 +21,9 @@ use Rattle.text.proofs.Sent.{length-sent}
 use Rattle.text.proofs.Own.{walked-sent, readFault-sent, complete-sent, complete-none, cut-some}
 use Rattle.text.proofs.Next.{next-low}
 use Rattle.sweep.specs.declared.Sweep.{Sweep}
-use Rattle.sweep.specs.Sweep.{startRule, openRule, roomRule, takeFault, cut, empty, wholesOf, advanced, after, stepped, collecting}
-use Rattle.bench.specs.Bench.{State, state, filled, rounded}
+use Rattle.sweep.specs.Sweep.{startRule, takeFault, cut, wholesOf, advanced, taking}
+use Rattle.sweep.proofs.Cases.{roomRule, stepped-none}
+use Rattle.bench.specs.Bench.{Buffers, buffers, state, filled, rounded}
 use Rattle.bench.specs.Swept.{room}
 
 -- a record that goes on, and one that has ended
@@ -54,14 +55,9 @@ plan m rt a n f = groups (room a) n (selected rt f m)
 abbrev pub Takes : (m : Drive) (rt a f : ℕ) → Type 0
 Takes m rt a f = (left m rt a f ≡ []) ⊎ ((0 < length (left m rt a f)) × (0 < length (fits m rt a f)))
 
-empty-not : (ds : List Desc) → 0 < length ds → empty ds ≡ false
-unfolding empty
-empty-not [] h = absurd (omega arith)
-empty-not (d ∷ ds) h = refl
-
--- where a sweep with such a record stands
-abbrev pub standing : (rt a f c k : ℕ) (response out starts : List ℕ) → State
-standing rt a f c k response out starts = state (going rt a f c k) response out starts
+-- the buffers after a round from start f with c commands and k bytes before it
+abbrev pub onto : (m : Drive) (rt a f c k : ℕ) → Buffers → Buffers
+onto m rt a f c k bs = buffers (filled (sent rt f a m) (bs .response)) (sets (bs .collected) k (flat bytes (fits m rt a f))) (set (bs .starts) c f)
 
 module _ {m : Drive} (good : Sound m) (rt a f : ℕ) (eight : 8 ≤ a) where
   -- cut exactly if something is left
@@ -92,21 +88,21 @@ module _ {m : Drive} (good : Sound m) (rt a f : ℕ) (eight : 8 ≤ a) where
     found-sent = ap (λ (w : Walked). w .found) (walked-sent good rt f a eight)
 
     -- neither 21, 22, 26 nor a number of the reading
-    take-room : (n : ℕ) → takeFault (going rt a f c k) (sent rt f a m) n ≡ roomRule (going rt a f c k) (sent rt f a m) (fits m rt a f) n
-    unfolding takeFault startRule openRule _if_else_ _orElse_ pickZero
+    take-room : (n : ℕ) → takeFault (going rt a f c k) (sent rt f a m) n ≡ roomRule (going rt a f c k) (sent rt f a m) n
+    unfolding takeFault startRule _if_else_ _orElse_ pickZero
     take-room n =
         let h : rt ≤ 1 = omega arith in
-        rw (le-ltb 1 rt h, le-ltb a 8 eight, le-ltb 65535 c few, readFault-sent good rt f a eight (most a) (omega arith) (omega arith), found-sent)
+        rw (le-ltb 1 rt h, le-ltb a 8 eight, le-ltb 65535 c few, readFault-sent good rt f a eight (most a) (omega arith) (omega arith))
 
     -- it is refused only for want of room
     take-rule : Takes m rt a f → (n : ℕ) → takeFault (going rt a f c k) (sent rt f a m) n ≡ (refuse 24 if ltb n (k + gain m rt a f) else accept)
-    unfolding roomRule _if_else_
+    unfolding _if_else_
     take-rule t n =
         take-room n ∙ ⊎-elim
-        (λ (e : left m rt a f ≡ []). rw (cut-none e))
+        (λ (e : left m rt a f ≡ []). rw (cut-none e, found-sent))
         (λ (l : (0 < length (left m rt a f)) × (0 < length (fits m rt a f))).
         let h : most a ≤ length (sent rt f a m) = omega (arith, cut-long (l .0)) in
-        rw (cut-yes (l .0), le-ltb (length (sent rt f a m)) (most a) h, empty-not (fits m rt a f) (l .1), ne-eqb (lastNumber (fits m rt a f)) 65535 (λ z. omega (arith, next-low good rt (room a) f (l .1) (l .0)))))
+        rw (cut-yes (l .0), le-ltb (length (sent rt f a m)) (most a) h, found-sent, ne-eqb (length (fits m rt a f)) 0 (λ z. omega (arith, l .1)), ne-eqb (lastNumber (fits m rt a f)) 65535 (λ z. omega (arith, next-low good rt (room a) f (l .1) (l .0)))))
         t
 
     pub take-narrow : Takes m rt a f → (n : ℕ) → n < k + gain m rt a f → takeFault (going rt a f c k) (sent rt f a m) n ≡ refuse 24
@@ -117,31 +113,30 @@ module _ {m : Drive} (good : Sound m) (rt a f : ℕ) (eight : 8 ≤ a) where
 
     -- a round that takes nothing and leaves something
     pub take-stuck : fits m rt a f ≡ [] → 0 < length (left m rt a f) → (n : ℕ) → takeFault (going rt a f c k) (sent rt f a m) n ≡ refuse 23
-    unfolding roomRule _if_else_ empty
+    unfolding _if_else_
     take-stuck e l n =
         let h : most a ≤ length (sent rt f a m) = omega (arith, cut-long l) in
-        take-room n ∙ rw (cut-yes l, le-ltb (length (sent rt f a m)) (most a) h, e, empty)
+        take-room n ∙ rw (cut-yes l, le-ltb (length (sent rt f a m)) (most a) h, found-sent, e)
 
-    module _ (out : List ℕ) (fine : Takes m rt a f) (space : k + gain m rt a f ≤ length out) where
-      pub stepped-fine : stepped (going rt a f c k) (sent rt f a m) out ≡ record { refusal = accept; sweep = advanced (going rt a f c k) (sent rt f a m) (fits m rt a f) }
-      unfolding stepped after
-      stepped-fine = rw (take-fine fine (length out) space, after, found-sent)
+    -- a round that is accepted
+    module _ (bs : Buffers) (fine : Takes m rt a f) (space : k + gain m rt a f ≤ length (bs .collected)) where
+      round-fine : rounded m (state (going rt a f c k) bs)
+          ≡ state (advanced (going rt a f c k) (cut (sent rt f a m)) (lastNumber (fits m rt a f)) (k + gain m rt a f)) (onto m rt a f c k bs)
+      unfolding rounded taking
+      round-fine = rw (
+        stepped-none (going rt a f c k) (sent rt f a m) (bs .collected) (rw (take-fine fine (length (bs .collected)) space) refl),
+        found-sent,
+        ← sets-eq (flat bytes (fits m rt a f)) (bs .collected) k space,
+      )
 
-      pub collecting-fine : collecting (going rt a f c k) (sent rt f a m) out ≡ sets out k (flat bytes (fits m rt a f))
-      unfolding collecting
-      collecting-fine =
-          rw (take-fine fine (length out) space, collecting, found-sent)
-          (sym (sets-eq (flat bytes (fits m rt a f)) out k space))
-
-    module _ (response out starts : List ℕ) (space : k + gain m rt a f ≤ length out) where
+    module _ (bs : Buffers) (space : k + gain m rt a f ≤ length (bs .collected)) where
       -- the last round
-      pub round-last : left m rt a f ≡ [] → rounded m (standing rt a f c k response out starts)
-          ≡ state (gone rt a f (c + 1) (k + gain m rt a f)) (filled (sent rt f a m) response) (sets out k (flat bytes (fits m rt a f))) (set starts c f)
-      unfolding rounded advanced
-      round-last e = rw (stepped-fine out (inl e) space, collecting-fine out (inl e) space, cut-none e)
+      pub round-last : left m rt a f ≡ [] → rounded m (state (going rt a f c k) bs) ≡ state (gone rt a f (c + 1) (k + gain m rt a f)) (onto m rt a f c k bs)
+      unfolding advanced
+      round-last e = round-fine bs (inl e) space ∙ rw (cut-none e)
 
       -- a round with another behind it
-      pub round-more : 0 < length (left m rt a f) → 0 < length (fits m rt a f) → rounded m (standing rt a f c k response out starts)
-          ≡ standing rt a (later m rt a f) (c + 1) (k + gain m rt a f) (filled (sent rt f a m) response) (sets out k (flat bytes (fits m rt a f))) (set starts c f)
-      unfolding rounded advanced
-      round-more l h = rw (stepped-fine out (inr (l, h)) space, collecting-fine out (inr (l, h)) space, cut-yes l)
+      pub round-more : 0 < length (left m rt a f) → 0 < length (fits m rt a f) → rounded m (state (going rt a f c k) bs)
+          ≡ state (going rt a (later m rt a f) (c + 1) (k + gain m rt a f)) (onto m rt a f c k bs)
+      unfolding advanced
+      round-more l h = round-fine bs (inr (l, h)) space ∙ rw (cut-yes l)

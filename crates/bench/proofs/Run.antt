@@ -11,19 +11,18 @@ use Rattle.refusal.specs.declared.Refusal.{Refusal}
 use Rattle.refusal.specs.First.{refuse, unless}
 use Rattle.text.specs.Drive.{Drive}
 use Rattle.refusal.proofs.First.{if-true, if-false, unless-none, unless-fault}
-use Rattle.sweep.specs.Sweep.{stepped}
-use Rattle.bench.specs.Bench.{State, Ending, zeros, failing, succeeding, reply, filled, roundFault, rounded, rounds}
+use Rattle.bench.specs.Bench.{Buffers, State, Ending, zeros, failing, succeeding, filled, turnAt, roundFault, rounded, rounds}
 
 -- ---- the first refusal
 
 -- no refusal afterwards: none before
-pub unless-zero : (r : Refusal) (w : State) (x : Ending) → unless r (failing w) x .reply .refusal .number ≡ 0 → r .number ≡ 0
+pub unless-zero : (r : Refusal) (b : Buffers) (x : Ending) → unless r (failing b) x .reply .refusal .number ≡ 0 → r .number ≡ 0
 unfolding failing
-unless-zero r w x h = go (r .number) refl
+unless-zero r b x h = go (r .number) refl
   where
     go : (n : ℕ) → r .number ≡ n → r .number ≡ 0
     go zero e = e
-    go (suc n) e = absurd (omega (arith, ap (λ (o : Ending). o .reply .refusal .number) (unless-fault r (failing w) x (λ z. omega arith))))
+    go (suc n) e = absurd (omega (arith, ap (λ (o : Ending). o .reply .refusal .number) (unless-fault r (failing b) x (λ z. omega arith))))
 
 -- ---- the response buffer
 
@@ -43,20 +42,20 @@ filled-filled xs ys d h = ap (λ (n : ℕ). xs ++ drop (length xs) (replicate n 
 module _ (m : Drive) (w : State) where
   -- what the record answers to the bytes sent
   abbrev pub answer : Refusal
-  answer = stepped (w .sweep) (reply m (w .sweep)) (w .collected) .refusal
+  answer = turnAt m w .step .refusal
 
   -- no room for another start
-  pub round-full : length (w .starts) ≤ w .sweep .commands → roundFault m w ≡ refuse 25
+  pub round-full : length (w .buffers .starts) ≤ w .sweep .commands → roundFault m w ≡ refuse 25
   unfolding roundFault
-  round-full h = rw (le-leb (length (w .starts)) (w .sweep .commands) h) (if-true (refuse 25) answer)
+  round-full h = rw (le-leb (length (w .buffers .starts)) (w .sweep .commands) h) (if-true (refuse 25) answer)
 
-  pub round-room : w .sweep .commands < length (w .starts) → roundFault m w ≡ answer
+  pub round-room : w .sweep .commands < length (w .buffers .starts) → roundFault m w ≡ answer
   unfolding roundFault
-  round-room h = rw (lt-leb (length (w .starts)) (w .sweep .commands) h) (if-false (refuse 25) answer)
+  round-room h = rw (lt-leb (length (w .buffers .starts)) (w .sweep .commands) h) (if-false (refuse 25) answer)
 
 -- ---- a run
 
-module _ (n : ℕ) (m : Drive) (came w : State) where
+module _ (n : ℕ) (m : Drive) (came : Buffers) (w : State) where
   -- it has ended
   pub run-ended : w .sweep .ended ≡ true → rounds (suc n) m came w ≡ succeeding w
   unfolding rounds
@@ -67,24 +66,24 @@ module _ (n : ℕ) (m : Drive) (came w : State) where
   run-turn e = ap (λ (b : Bool). elim b [ true ↦ succeeding w | false ↦ unless (roundFault m w) (failing came) (rounds n m came (rounded m w)) ]) e
 
   -- it has not, and there is no room for another start
-  pub run-full : w .sweep .ended ≡ false → length (w .starts) ≤ w .sweep .commands → rounds (suc n) m came w ≡ failing came (refuse 25)
+  pub run-full : w .sweep .ended ≡ false → length (w .buffers .starts) ≤ w .sweep .commands → rounds (suc n) m came w ≡ failing came (refuse 25)
   run-full e h = run-turn e ∙ rw (round-full m w h) (unless-fault (refuse 25) (failing came) (rounds n m came (rounded m w)) (λ z. omega arith))
 
   -- there is room for it, and the record refuses the response
-  pub run-fault : w .sweep .ended ≡ false → w .sweep .commands < length (w .starts) → (answer m w .number ≡ 0 → ⊥) → rounds (suc n) m came w ≡ failing came (answer m w)
+  pub run-fault : w .sweep .ended ≡ false → w .sweep .commands < length (w .buffers .starts) → (answer m w .number ≡ 0 → ⊥) → rounds (suc n) m came w ≡ failing came (answer m w)
   run-fault e h k = run-turn e ∙ rw (round-room m w h) (unless-fault (answer m w) (failing came) (rounds n m came (rounded m w)) k)
 
   -- or takes it: a further turn
-  pub run-round : w .sweep .ended ≡ false → w .sweep .commands < length (w .starts) → answer m w .number ≡ 0 → rounds (suc n) m came w ≡ rounds n m came (rounded m w)
+  pub run-round : w .sweep .ended ≡ false → w .sweep .commands < length (w .buffers .starts) → answer m w .number ≡ 0 → rounds (suc n) m came w ≡ rounds n m came (rounded m w)
   run-round e h k = run-turn e ∙ rw (round-room m w h) (unless-none (answer m w) (failing came) (rounds n m came (rounded m w)) k)
 
 -- ---- any refusal
 
 -- nothing is refused, or the outcome is just the refusal: both counts 0, all three buffers zero throughout
-abbrev pub Settled : (came : State) → Ending → Type 0
+abbrev pub Settled : (came : Buffers) → Ending → Type 0
 Settled came o = (o .reply .refusal .number ≡ 0) ⊎ (o ≡ failing came (o .reply .refusal))
 
-pub unless-settled : (r : Refusal) (w : State) (x : Ending) → Settled w x → Settled w (unless r (failing w) x)
+pub unless-settled : (r : Refusal) (w : Buffers) (x : Ending) → Settled w x → Settled w (unless r (failing w) x)
 unfolding failing
 unless-settled r w x s = go (r .number) refl
   where
@@ -92,7 +91,7 @@ unless-settled r w x s = go (r .number) refl
     go zero e = rw (unless-none r (failing w) x e) s
     go (suc n) e = rw (unless-fault r (failing w) x (λ z. omega arith)) (inr refl)
 
-pub run-settled : (n : ℕ) (m : Drive) (came w : State) → Settled came (rounds n m came w)
+pub run-settled : (n : ℕ) (m : Drive) (came : Buffers) (w : State) → Settled came (rounds n m came w)
 unfolding rounds failing succeeding
 run-settled zero m came w = inr refl
 run-settled (suc n) m came w = go (w .sweep .ended) refl (run-settled n m came (rounded m w))

@@ -1,49 +1,36 @@
 -- What a loop over the rounds carries: the run from where it stands, with the fuel that its commands leave. Assumes nothing.
 use mathlib.Core.Path.{_≡_, refl, sym, ap, _∙_}
 use mathlib.Core.Bool.{Bool, true, false}
-use mathlib.Core.List.{List}
 use Prim.Native.Nat.{ℕ, zero, suc, _+_, _-_, _≤_}
 use native.Mathlib.Nat.{suc-add}
 use native.Mathlib.Omega.{arith}
-use lib.Dec.{leb, ltb}
+use lib.Dec.{leb}
 use lib.ListN.{length}
-use borrow.Author.Tests.{ltb-false}
 use Rattle.text.specs.Drive.{Drive}
+use Rattle.refusal.specs.declared.Refusal.{Refusal}
 use Rattle.refusal.specs.First.{unless}
-use Rattle.refusal.proofs.First.{if-zero, orElse-zero, unless-none, unless-fault}
-use Rattle.sweep.specs.declared.Sweep.{Sweep}
-use Rattle.sweep.specs.Sweep.{openRule, takeFault, advanced, after, stepped}
-use Rattle.bench.specs.Bench.{State, Ending, failing, succeeding, reply, roundFault, rounded, rounds}
+use Rattle.refusal.proofs.First.{if-zero, unless-none, unless-fault}
+use Rattle.sweep.specs.Sweep.{takeFault, advanced, Turn, taking}
+use Rattle.sweep.proofs.Cases.{step-refusal, stepped-none, taken-facts}
+use Rattle.bench.specs.Bench.{Buffers, State, Ending, failing, succeeding, reply, roundFault, rounded, rounds}
 use Rattle.bench.proofs.Run.{run-ended, run-turn}
-
--- ---- a response that a record takes
-
--- it has 65,535 commands or fewer
-taken-few : (w : Sweep) (s : List ℕ) (n : ℕ) → takeFault w s n .number ≡ 0 → w .commands ≤ 65535
-unfolding takeFault openRule
-taken-few w s n e =
-    let o = orElse-zero _ _ (orElse-zero _ _ e .1) .0 in
-    let c = if-zero 25 (ltb 65535 (w .commands)) _ (if-zero 25 (w .ended) _ o .1) .0 in
-    ltb-false 65535 (w .commands) c
-
--- and then one more
-taken-more : (w : Sweep) (s out : List ℕ) → takeFault w s (length out) .number ≡ 0 → stepped w s out .sweep .commands ≡ w .commands + 1
-unfolding stepped after advanced
-taken-more w s out e = rw (e, after)
 
 -- ---- a round that nothing refuses
 
 module _ (m : Drive) (w : State) (f : roundFault m w .number ≡ 0) where
-  taken : takeFault (w .sweep) (reply m (w .sweep)) (length (w .collected)) .number ≡ 0
-  unfolding roundFault stepped
-  taken = if-zero 24 (leb (length (w .starts)) (w .sweep .commands)) _ f .1
+  -- the record takes the response
+  taken : takeFault (w .sweep) (reply m (w .sweep)) (length (w .buffers .collected)) .number ≡ 0
+  unfolding roundFault
+  taken = sym (ap (λ (r : Refusal). r .number) (step-refusal (w .sweep) (reply m (w .sweep)) (w .buffers .collected))) ∙ if-zero 24 (leb (length (w .buffers .starts)) (w .sweep .commands)) _ f .1
 
+  -- it has 65,535 commands or fewer
   pub round-few : w .sweep .commands ≤ 65535
-  round-few = taken-few (w .sweep) (reply m (w .sweep)) (length (w .collected)) taken
+  round-few = taken-facts (w .sweep) (reply m (w .sweep)) (length (w .buffers .collected)) taken .few
 
+  -- and then one more
   pub round-commands : rounded m w .sweep .commands ≡ w .sweep .commands + 1
-  unfolding rounded
-  round-commands = taken-more (w .sweep) (reply m (w .sweep)) (w .collected) taken
+  unfolding rounded taking advanced
+  round-commands = ap (λ (t : Turn). t .step .sweep .commands) (stepped-none (w .sweep) (reply m (w .sweep)) (w .buffers .collected) taken)
 
   pub rounded-few : rounded m w .sweep .commands ≤ 65536
   rounded-few = omega (arith, round-few, round-commands)
@@ -51,7 +38,7 @@ module _ (m : Drive) (w : State) (f : roundFault m w .number ≡ 0) where
 -- ---- the fuel is enough
 
 -- more of it changes nothing
-pub run-enough : (j n : ℕ) (m : Drive) (came w : State) → w .sweep .commands ≤ 65536 → 65537 ≤ w .sweep .commands + n → rounds (n + j) m came w ≡ rounds n m came w
+pub run-enough : (j n : ℕ) (m : Drive) (came : Buffers) (w : State) → w .sweep .commands ≤ 65536 → 65537 ≤ w .sweep .commands + n → rounds (n + j) m came w ≡ rounds n m came w
 run-enough j zero m came w h k = absurd (omega arith)
 run-enough j (suc n) m came w h k = rw suc-add (go (w .sweep .ended) refl (run-enough j n m came (rounded m w)))
   where
@@ -72,10 +59,10 @@ run-enough j (suc n) m came w h k = rw suc-add (go (w .sweep .ended) refl (run-e
 -- ---- the loop
 
 -- the run from w on, with the fuel that its commands leave
-abbrev pub onwards : (m : Drive) (came w : State) → Ending
+abbrev pub onwards : (m : Drive) (came : Buffers) (w : State) → Ending
 onwards m came w = rounds (65537 - w .sweep .commands) m came w
 
-module _ (m : Drive) (came w : State) where
+module _ (m : Drive) (came : Buffers) (w : State) where
   abbrev n : ℕ
   n = 65536 - w .sweep .commands
 

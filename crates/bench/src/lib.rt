@@ -5,8 +5,8 @@ ghost use lib.ListN.{length};
 ghost use Rattle.sheet.specs.Check.{Accepted};
 ghost use Rattle.text.specs.Response.{most};
 ghost use Rattle.sheet.specs.Meaning.{meaning};
-ghost use Rattle.bench.specs.Bench.{state, ending, benched};
-ghost use Rattle.bench.specs.inner.Loop.{openFault, cleared, Rounded, Ran};
+ghost use Rattle.bench.specs.Bench.{buffers, state, ending, failing, firstFault, benched};
+ghost use Rattle.bench.specs.inner.Loop.{Rounded, Ran};
 use refusal::Refusal;
 use sweep::Step;
 use sweep::Sweep;
@@ -20,7 +20,7 @@ pub struct Benched {
 
 // What is refused before any round, where the response buffer has so many bytes.
 fn first_fault(s: &[u8], rt: u8, a: u16, space: usize) -> Refusal
-    ensures { λ r. ⌜ r ≡ openFault (now (s .entry)) rt a space ⌝ }
+    ensures { λ r. ⌜ r ≡ firstFault (now (s .entry)) rt a space ⌝ }
 {
     let fault = sheet::check(s);
     if fault.number != 0 {
@@ -47,8 +47,8 @@ fn one_round(
     starts: &mut [u16],
 ) -> Step
     requires { ⌜ Accepted (now s) × (most (w .allocation) ≤ length (now response)) ⌝ }
-    ensures { λ r. ⌜ Rounded (meaning (now (s .entry))) (state w (now (response .entry)) (now (collected .entry)) (now (starts .entry)))
-        (r .refusal) (state (r .sweep) (now (response .exit)) (now (collected .exit)) (now (starts .exit))) ⌝ }
+    ensures { λ r. ⌜ Rounded (meaning (now (s .entry))) (state w (buffers (now (response .entry)) (now (collected .entry)) (now (starts .entry))))
+        (r .refusal) (state (r .sweep) (buffers (now (response .exit)) (now (collected .exit)) (now (starts .exit)))) ⌝ }
 {
     let at = w.commands as usize;
     if starts.len() <= at {
@@ -75,8 +75,8 @@ fn all_rounds(
     starts: &mut [u16],
 ) -> Step
     requires { ⌜ Accepted (now s) × (most (w .allocation) ≤ length (now response)) × (w .commands ≡ 0) ⌝ }
-    ensures { λ r. ⌜ Ran (meaning (now (s .entry))) (state w (now (response .entry)) (now (collected .entry)) (now (starts .entry)))
-        (r .refusal) (state (r .sweep) (now (response .exit)) (now (collected .exit)) (now (starts .exit))) ⌝ }
+    ensures { λ r. ⌜ Ran (meaning (now (s .entry))) (state w (buffers (now (response .entry)) (now (collected .entry)) (now (starts .entry))))
+        (r .refusal) (state (r .sweep) (buffers (now (response .exit)) (now (collected .exit)) (now (starts .exit)))) ⌝ }
 {
     let mut sweep = w;
     while !sweep.ended {
@@ -95,8 +95,8 @@ fn all_rounds(
 
 // A refusal: its number, both counts 0, all three buffers set to zero.
 fn refuse(fault: Refusal, response: &mut [u8], collected: &mut [u8], starts: &mut [u16]) -> Benched
-    ensures { λ r. ⌜ ending r (now (response .exit)) (now (collected .exit)) (now (starts .exit))
-        ≡ cleared fault (now (response .entry)) (now (collected .entry)) (now (starts .entry)) ⌝ }
+    ensures { λ r. ⌜ ending r (buffers (now (response .exit)) (now (collected .exit)) (now (starts .exit)))
+        ≡ failing (buffers (now (response .entry)) (now (collected .entry)) (now (starts .entry))) fault ⌝ }
 {
     lent::clear(response);
     lent::clear(collected);
@@ -117,8 +117,8 @@ pub fn bench(
     collected: &mut [u8],
     starts: &mut [u16],
 ) -> Benched
-    ensures { λ r. ⌜ ending r (now (response .exit)) (now (collected .exit)) (now (starts .exit))
-        ≡ benched (now (s .entry)) rt a (now (response .entry)) (now (collected .entry)) (now (starts .entry)) ⌝ }
+    ensures { λ r. ⌜ ending r (buffers (now (response .exit)) (now (collected .exit)) (now (starts .exit)))
+        ≡ benched (now (s .entry)) rt a (buffers (now (response .entry)) (now (collected .entry)) (now (starts .entry))) ⌝ }
 {
     let fault = first_fault(s, rt, a, response.len());
     if fault.number != 0 {

@@ -1,8 +1,6 @@
 -- Each public function's own contract, as the toolchain generates it, asks nothing and decides the whole outcome: every returned field, where a returned part lies, and
 -- every byte of lent memory. One line a function; five of the theorems stand in the function's own crate, where an edit that weakens the contract is refused by them. Assumes nothing.
 use mathlib.Core.Path.{_≡_, refl, ap}
-use mathlib.Core.List.{List}
-use Prim.Native.Nat.{ℕ}
 use Rattle.base.proofs.Decided.{Decided, DecidedAs, seen, decides, joined, _&_}
 use Rattle.fields.proofs.Parts.{same-part}
 use Rattle.lent.proofs.Laws.{same}
@@ -64,6 +62,7 @@ use Rattle.reading.proofs.complete as complete
 use Rattle.reading.proofs.held as held
 use Rattle.text.proofs.most as most
 use Rattle.listing.proofs.list as list
+use Rattle.sweep.specs.Sweep.{Turn}
 use Rattle.bench.specs.Bench as bench-specs
 use Rattle.bench.proofs.bench as bench
 use Rattle.checks.proofs.check_descriptors as check-descriptors
@@ -267,10 +266,13 @@ pub sweep-start-decided : Decided sweep-start.ended (λ M. sweep-start.clauses) 
 sweep-start-decided x = decides (x .𝓤) (λ o o′ p q. (joined p q, refl))
 
 pub sweep-take-decided : Decided sweep-take.ended (λ M. sweep-take.clauses) (λ M. sweep-take.spec)
-sweep-take-decided x = decides (x .𝓤) (λ o o′ p q. (joined (p .0) (q .0), refl & refl & joined (p .1) (q .1) & refl))
+sweep-take-decided x = decides (x .𝓤) (λ o o′ p q. (ap (λ (z : Turn). z .step) (joined p q), refl & refl & ap (λ (z : Turn). z .buffer) (joined p q) & refl))
 
 pub take-response-decided : Decided take-response.ended (λ M. take-response.clauses) (λ M. take-response.spec)
-take-response-decided x = decides (x .𝓤) (λ o o′ p q. (joined (p .0) (q .0), joined (p .1) (q .1) & refl & joined (p .2) (q .2) & refl))
+take-response-decided x = decides (x .𝓤) (λ o o′ p q. (
+  ap (λ (z : Turn). z .step .refusal) (joined p q),
+  ap (λ (z : Turn). z .step .sweep) (joined p q) & refl & ap (λ (z : Turn). z .buffer) (joined p q) & refl,
+))
 
 -- ---- listing
 
@@ -279,10 +281,19 @@ list-decided x = decides (x .𝓤) (λ o o′ p q. (same p q .0, refl & same p q
 
 -- ---- bench
 
+response : {a b : bench-specs.Buffers} → a ≡ b → a .response ≡ b .response
+response p = ap (λ (z : bench-specs.Buffers). z .response) p
+
+collected : {a b : bench-specs.Buffers} → a ≡ b → a .collected ≡ b .collected
+collected p = ap (λ (z : bench-specs.Buffers). z .collected) p
+
+starts : {a b : bench-specs.Buffers} → a ≡ b → a .starts ≡ b .starts
+starts p = ap (λ (z : bench-specs.Buffers). z .starts) p
+
 pub bench-decided : Decided bench.ended (λ M. bench.clauses) (λ M. bench.spec)
 bench-decided x = decides (x .𝓤) (λ o o′ p q. (
   ap (λ (z : bench-specs.Ending). z .reply) (joined p q),
-  refl & refl & refl & ap (λ (z : bench-specs.Ending). z .response) (joined p q) & ap (λ (z : bench-specs.Ending). z .collected) (joined p q) & ap (λ (z : bench-specs.Ending). z .starts) (joined p q) & refl,
+  refl & refl & refl & response (ap (λ (z : bench-specs.Ending). z .buffers) (joined p q)) & collected (ap (λ (z : bench-specs.Ending). z .buffers) (joined p q)) & starts (ap (λ (z : bench-specs.Ending). z .buffers) (joined p q)) & refl,
 ))
 
 -- ---- checks
@@ -342,7 +353,7 @@ gcf-sweep-take-decided x = decides (x .𝓤) (λ o o′ p q. (number (joined p q
 pub gcf-bench-decided : Decided gcf-bench.ended (λ M. gcf-bench.clauses) (λ M. gcf-bench.spec)
 gcf-bench-decided x = decides (x .𝓤) (λ o o′ p q. (
   number (joined p q),
-  refl & refl & refl & ap (λ (z : List ℕ × List ℕ × List ℕ). z .0) (buffers (joined p q)) & ap (λ (z : List ℕ × List ℕ × List ℕ). z .1) (buffers (joined p q)) & ap (λ (z : List ℕ × List ℕ × List ℕ). z .2) (buffers (joined p q)) & numbers (joined p q) & refl,
+  refl & refl & refl & response (buffers (joined p q)) & collected (buffers (joined p q)) & starts (buffers (joined p q)) & numbers (joined p q) & refl,
 ))
 
 pub gcf-check-descriptors-decided : Decided gcf-check-descriptors.ended (λ M. gcf-check-descriptors.clauses) (λ M. gcf-check-descriptors.spec)

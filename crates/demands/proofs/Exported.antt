@@ -7,8 +7,8 @@ use lib.ListN.{length, take}
 use Rattle.lent.specs.Wrote.{Wrote}
 use Rattle.lent.proofs.Laws.{room-left}
 use Rattle.refusal.specs.declared.Refusal.{Refusal}
-use Rattle.sweep.specs.declared.Step.{Step}
-use Rattle.abi.specs.Left.{left, noBuffer, recordOf}
+use Rattle.bench.specs.Bench as bench
+use Rattle.abi.specs.Left.{left, recordOf}
 use Rattle.abi.specs.Left as abi
 use Rattle.abi.proofs.gcf_check_sheet as gcf-check-sheet
 use Rattle.abi.proofs.gcf_respond as gcf-respond
@@ -53,7 +53,7 @@ gcf-respond-accepted-tied x = promises (x .𝓤) (λ o. shows _ (trusts _ _ _))
 -- ---- the driver
 
 pub gcf-read-tied : Promised gcf-read.ended (λ M. gcf-read.clauses) (λ M. gcf-read.spec)
-    (λ x o. Shows (Reads 65534 (x .args .0) (x .args .1 .0 .0) (x .args .1 .1 .0 .now)) (λ z. abi.showRead z (x .args .1 .1 .1 .0 .now)) (left (o .0) noBuffer (o .1 .1 .1 .1 .0)))
+    (λ x o. Shows (Reads 65534 (x .args .0) (x .args .1 .0 .0) (x .args .1 .1 .0 .now)) (λ z. abi.showRead z (x .args .1 .1 .1 .0 .now)) (left (o .0) tt (o .1 .1 .1 .1 .0)))
 gcf-read-tied x = promises (x .𝓤) (λ o. shows _ (reads _ _ _ _))
 
 -- A part of which P holds stands in the buffer e, which was d, as far as there is room; where the count r is below the buffer's length, it is whole.
@@ -79,32 +79,32 @@ pub gcf-most-tied : Promised gcf-most.ended (λ M. gcf-most.clauses) (λ M. gcf-
 gcf-most-tied x = promises (x .𝓤) (λ o e. e)
 
 pub gcf-sweep-start-tied : Promised gcf-sweep-start.ended (λ M. gcf-sweep-start.clauses) (λ M. gcf-sweep-start.spec)
-    (λ x o. Shows (Starts (x .args .0) (x .args .1 .0)) (λ z. abi.showStep z noBuffer (x .args .1 .1 .0 .now)) (left (o .0) noBuffer (o .1 .1 .1 .0)))
+    (λ x o. Shows (Starts (x .args .0) (x .args .1 .0)) (λ z. abi.showStep z (x .args .1 .1 .0 .now)) (left (o .0) tt (o .1 .1 .1 .0)))
 gcf-sweep-start-tied x = promises (x .𝓤) (λ o. shows _ (starts _ _))
 
 pub gcf-sweep-take-tied : Promised gcf-sweep-take.ended (λ M. gcf-sweep-take.clauses) (λ M. gcf-sweep-take.spec)
-    (λ x o. Shows {A = Step × List ℕ}
-    (λ z. Takes (recordOf (x .args .0) (x .args .1 .0) (x .args .1 .1 .0) (x .args .1 .1 .1 .0) (x .args .1 .1 .1 .1 .0) (x .args .1 .1 .1 .1 .1 .0))
-    (x .args .1 .1 .1 .1 .1 .1 .0 .now) (x .args .1 .1 .1 .1 .1 .1 .1 .0 .now) (z .0) (z .1))
-    (λ z. abi.showStep (z .0) (z .1) (x .args .1 .1 .1 .1 .1 .1 .1 .1 .0 .now))
+    (λ x o. Shows
+    (Takes (recordOf (x .args .0) (x .args .1 .0) (x .args .1 .1 .0) (x .args .1 .1 .1 .0) (x .args .1 .1 .1 .1 .0) (x .args .1 .1 .1 .1 .1 .0))
+    (x .args .1 .1 .1 .1 .1 .1 .0 .now) (x .args .1 .1 .1 .1 .1 .1 .1 .0 .now))
+    (λ z. abi.showTurn z (x .args .1 .1 .1 .1 .1 .1 .1 .1 .0 .now))
     (left (o .0) (o .1 .1 .1 .1 .1 .1 .1 .1 .0) (o .1 .1 .1 .1 .1 .1 .1 .1 .1 .0)))
 gcf-sweep-take-tied x = promises (x .𝓤) (λ o. shows _ (takes _ _ _))
 
 pub gcf-bench-tied : Promised gcf-bench.ended (λ M. gcf-bench.clauses) (λ M. gcf-bench.spec)
     (λ x o. Shows
-    (Benches (x .args .0 .now) (x .args .1 .0) (x .args .1 .1 .0) (x .args .1 .1 .1 .0 .now) (x .args .1 .1 .1 .1 .0 .now) (x .args .1 .1 .1 .1 .1 .0 .now))
+    (Benches (x .args .0 .now) (x .args .1 .0) (x .args .1 .1 .0) (bench.buffers (x .args .1 .1 .1 .0 .now) (x .args .1 .1 .1 .1 .0 .now) (x .args .1 .1 .1 .1 .1 .0 .now)))
     (λ z. abi.showBenched z (x .args .1 .1 .1 .1 .1 .1 .0 .now))
-    (left (o .0) (o .1 .1 .1 .1 .0, o .1 .1 .1 .1 .1 .0, o .1 .1 .1 .1 .1 .1 .0) (o .1 .1 .1 .1 .1 .1 .1 .0)))
-gcf-bench-tied x = promises (x .𝓤) (λ o. shows _ (benches _ _ _ _ _ _))
+    (left (o .0) (bench.buffers (o .1 .1 .1 .1 .0) (o .1 .1 .1 .1 .1 .0) (o .1 .1 .1 .1 .1 .1 .0)) (o .1 .1 .1 .1 .1 .1 .1 .0)))
+gcf-bench-tied x = promises (x .𝓤) (λ o. shows _ (benches _ _ _ _))
 
 -- ---- the checks and the import
 
 pub gcf-check-descriptors-tied : Promised gcf-check-descriptors.ended (λ M. gcf-check-descriptors.clauses) (λ M. gcf-check-descriptors.spec)
-    (λ x o. Shows (Finds (x .args .0 .now)) (λ z. abi.showFinding z (x .args .1 .0 .now)) (left (o .0) noBuffer (o .1 .1 .0)))
+    (λ x o. Shows (Finds (x .args .0 .now)) (λ z. abi.showFinding z (x .args .1 .0 .now)) (left (o .0) tt (o .1 .1 .0)))
 gcf-check-descriptors-tied x = promises (x .𝓤) (λ o. shows _ (finds _))
 
 pub gcf-check-profile-tied : Promised gcf-check-profile.ended (λ M. gcf-check-profile.clauses) (λ M. gcf-check-profile.spec)
-    (λ x o. Shows (Judges (x .args .0 .0) (x .args .1 .0 .now)) (λ z. abi.showJudged z (x .args .1 .1 .0 .now)) (left (o .0) noBuffer (o .1 .1 .1 .0)))
+    (λ x o. Shows (Judges (x .args .0 .0) (x .args .1 .0 .now)) (λ z. abi.showJudged z (x .args .1 .1 .0 .now)) (left (o .0) tt (o .1 .1 .1 .0)))
 gcf-check-profile-tied x = promises (x .𝓤) (λ o. shows _ (judges _ _))
 
 pub gcf-import-tied : Promised gcf-import.ended (λ M. gcf-import.clauses) (λ M. gcf-import.spec)

@@ -26,7 +26,7 @@ use Rattle.sheet.specs.Meaning.{desc, meaning, contents, sheetOf}
 use Rattle.sheet.proofs.Meaning.{meaning-fine}
 use Rattle.sheet.proofs.Build.{sheet-back}
 use Rattle.responder.specs.Answer as box
-use Rattle.bench.specs.Bench.{benched}
+use Rattle.bench.specs.Bench.{Buffers, benched}
 use Rattle.bench.specs.Swept.{Premises, Swept, Ended}
 use Rattle.reading.specs.Completed as completed
 use Rattle.capture.specs.Capture as capture
@@ -166,14 +166,14 @@ module _ (r : List ℕ) (b : Bytes r) (e : captureFault r .number ≡ 0) where
   demand2-own-imported = demand2-own (sheetFrom r) (from-bytes r b e) (imported-accepted r b e)
 
   -- Demand 3: a sweep of it collects each wanted descriptor once, ascending, byte for byte, in few commands.
-  pub demand3-imported : (rt a : ℕ) (response collected starts : List ℕ) → Premises (meaning (sheetFrom r)) rt a response collected starts
-      → Swept (meaning (sheetFrom r)) rt a response collected starts (benched (sheetFrom r) rt a response collected starts)
-  demand3-imported rt a response collected starts = demand3 (sheetFrom r) rt a response collected starts (from-bytes r b e) (imported-accepted r b e)
+  pub demand3-imported : (rt a : ℕ) (bs : Buffers) → Premises (meaning (sheetFrom r)) rt a bs
+      → Swept (meaning (sheetFrom r)) rt a bs (benched (sheetFrom r) rt a bs)
+  demand3-imported rt a bs = demand3 (sheetFrom r) rt a bs (from-bytes r b e) (imported-accepted r b e)
 
   -- Whatever the room, it ends with success or with 12, 23, 24 or 25.
-  pub ends-imported : (rt a : ℕ) (response collected starts : List ℕ) → rt < 2 → 8 ≤ a
-      → Ended (meaning (sheetFrom r)) rt a response collected starts (benched (sheetFrom r) rt a response collected starts)
-  ends-imported rt a response collected starts = ends (sheetFrom r) rt a response collected starts (from-bytes r b e) (imported-accepted r b e)
+  pub ends-imported : (rt a : ℕ) (bs : Buffers) → rt < 2 → 8 ≤ a
+      → Ended (meaning (sheetFrom r)) rt a bs (benched (sheetFrom r) rt a bs)
+  ends-imported rt a bs = ends (sheetFrom r) rt a bs (from-bytes r b e) (imported-accepted r b e)
 
 -- ---- which numbers import can give
 

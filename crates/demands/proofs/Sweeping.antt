@@ -20,30 +20,30 @@ use Rattle.layout.specs.Layout as layout
 use Rattle.profiles.specs.Profiles as profiles
 use Rattle.sheet.specs.Check.{Accepted, numberBefore, endBefore, flagsRule, entryRule, entryFault, counted, verdict}
 use Rattle.sheet.specs.Meaning.{desc, meaning}
-use Rattle.bench.specs.Bench.{Ending, benched}
+use Rattle.bench.specs.Bench.{Buffers, buffers, Ending, benched}
 use Rattle.bench.specs.Swept.{Premises, Swept, Ended}
 use Rattle.bench.proofs.Demand as bench
 use Rattle.demands.specs.Recorder.{sheetE}
 
-pub demand3 : (s : List ℕ) (rt a : ℕ) (response collected starts : List ℕ) → Bytes s → Accepted s → Premises (meaning s) rt a response collected starts
-    → Swept (meaning s) rt a response collected starts (benched s rt a response collected starts)
+pub demand3 : (s : List ℕ) (rt a : ℕ) (b : Buffers) → Bytes s → Accepted s → Premises (meaning s) rt a b
+    → Swept (meaning s) rt a b (benched s rt a b)
 demand3 = bench.demand3
 
 -- Without the premises on size and room, the sweep of an accepted sheet with RT 0 or 1 and an allocation length of 8 or more ends with success
 -- or with 12, 23, 24 or 25, each with its ground: with 23, the first wanted descriptor not collected yet is too long.
-pub ends : (s : List ℕ) (rt a : ℕ) (response collected starts : List ℕ) → Bytes s → Accepted s → rt < 2 → 8 ≤ a
-    → Ended (meaning s) rt a response collected starts (benched s rt a response collected starts)
+pub ends : (s : List ℕ) (rt a : ℕ) (b : Buffers) → Bytes s → Accepted s → rt < 2 → 8 ≤ a
+    → Ended (meaning s) rt a b (benched s rt a b)
 ends = bench.ended
 
 -- Both, of an outcome o.
-pub record Benches (s : List ℕ) (rt a : ℕ) (response collected starts : List ℕ) (o : Ending) : Type 0 where
-  pub exact : o ≡ benched s rt a response collected starts
-  pub sweeps : Bytes s → Accepted s → Premises (meaning s) rt a response collected starts → Swept (meaning s) rt a response collected starts o
-  pub finishes : Bytes s → Accepted s → rt < 2 → 8 ≤ a → Ended (meaning s) rt a response collected starts o
+pub record Benches (s : List ℕ) (rt a : ℕ) (b : Buffers) (o : Ending) : Type 0 where
+  pub exact : o ≡ benched s rt a b
+  pub sweeps : Bytes s → Accepted s → Premises (meaning s) rt a b → Swept (meaning s) rt a b o
+  pub finishes : Bytes s → Accepted s → rt < 2 → 8 ≤ a → Ended (meaning s) rt a b o
 
-pub benches : (s : List ℕ) (rt a : ℕ) (response collected starts : List ℕ) → Benches s rt a response collected starts (benched s rt a response collected starts)
-benches s rt a response collected starts =
-    record { exact = refl; sweeps = demand3 s rt a response collected starts; finishes = ends s rt a response collected starts }
+pub benches : (s : List ℕ) (rt a : ℕ) (b : Buffers) → Benches s rt a b (benched s rt a b)
+benches s rt a b =
+    record { exact = refl; sweeps = demand3 s rt a b; finishes = ends s rt a b }
 
 -- ---- the premises can be met: sheet E, allocation length 20
 
@@ -69,7 +69,10 @@ pub acceptedE : Accepted sheetE
 unfolding each field _if_else_ pickZero _orElse_ firstOf layout.featureCount layout.profileCount layout.number layout.flags layout.bodyLength layout.offset layout.profilesPart profiles.profileNumber profiles.profileCurrent profiles.profileLast profiles.lists profiles.recordRule profiles.recordFault profiles.recordsFault numberBefore endBefore flagsRule flags.flagsGiving entryRule entryFault counted verdict sheetE
 acceptedE = refl
 
-premisesE : Premises (meaning sheetE) 0 20 (replicate 20 0) (replicate 36 0) (replicate 4 0)
+abbrev buffersE : Buffers
+buffersE = buffers (replicate 20 0) (replicate 36 0) (replicate 4 0)
+
+premisesE : Premises (meaning sheetE) 0 20 buffersE
 unfolding each flat keep field spell profileBytes feature0 all wants selected total whole rest groups layout.featureCount layout.profileCount layout.number layout.flags layout.bodyLength layout.offset layout.profilesPart profiles.profileNumber profiles.profileCurrent profiles.listed profiles.profilesOf desc meaning sheetE
 premisesE = record {
   kind = omega arith;
@@ -80,5 +83,5 @@ premisesE = record {
   starts-room = omega arith;
 }
 
-pub sweptE : Swept (meaning sheetE) 0 20 (replicate 20 0) (replicate 36 0) (replicate 4 0) (benched sheetE 0 20 (replicate 20 0) (replicate 36 0) (replicate 4 0))
-sweptE = demand3 sheetE 0 20 (replicate 20 0) (replicate 36 0) (replicate 4 0) bytesE acceptedE premisesE
+pub sweptE : Swept (meaning sheetE) 0 20 buffersE (benched sheetE 0 20 buffersE)
+sweptE = demand3 sheetE 0 20 buffersE bytesE acceptedE premisesE

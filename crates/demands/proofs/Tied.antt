@@ -19,6 +19,7 @@ use Rattle.sweep.proofs.Sweep.start as sweep-start
 use Rattle.sweep.proofs.Sweep.take as sweep-take
 use Rattle.sweep.proofs.take_response as take-response
 use Rattle.listing.proofs.list as list
+use Rattle.sweep.specs.Sweep.{step, turn}
 use Rattle.bench.specs.Bench as bench-specs
 use Rattle.bench.proofs.bench as bench
 use Rattle.checks.specs.Judge.{said}
@@ -30,7 +31,7 @@ use Rattle.demands.proofs.Sheets.{Checks, checks}
 use Rattle.demands.proofs.Sending.{Answers, demand2, Trusts, trusts, Serves, serves}
 use Rattle.demands.proofs.Readings.{Reads, reads, Scans, scans}
 use Rattle.demands.proofs.Listings.{Lists, lists}
-use Rattle.demands.proofs.Steps.{Starts, starts, Takes, takes-by}
+use Rattle.demands.proofs.Steps.{Starts, starts, Takes, takes}
 use Rattle.demands.proofs.Sweeping.{Benches, benches}
 use Rattle.demands.proofs.Checking.{Finds, finds, Judges, judges}
 use Rattle.demands.proofs.Capturing.{Captures, captures}
@@ -76,12 +77,12 @@ pub sweep-start-tied : Promised sweep-start.ended (λ M. sweep-start.clauses) (�
 sweep-start-tied x = promises (x .𝓤) (λ o. by (Starts _ _) (starts _ _))
 
 pub sweep-take-tied : Promised sweep-take.ended (λ M. sweep-take.clauses) (λ M. sweep-take.spec)
-    (λ x o. Takes (x .args .0) (x .args .1 .0 .now) (x .args .1 .1 .0 .now) (o .0) (o .1 .1 .1 .0))
-sweep-take-tied x = promises (x .𝓤) (λ o e. takes-by _ _ _ (e .0) (e .1))
+    (λ x o. Takes (x .args .0) (x .args .1 .0 .now) (x .args .1 .1 .0 .now) (turn (o .0) (o .1 .1 .1 .0)))
+sweep-take-tied x = promises (x .𝓤) (λ o. by (Takes _ _ _) (takes _ _ _))
 
 pub take-response-tied : Promised take-response.ended (λ M. take-response.clauses) (λ M. take-response.spec)
-    (λ x o. Takes (x .args .0 .now) (x .args .1 .0 .now) (x .args .1 .1 .0 .now) record { refusal = o .0; sweep = o .1 .0 } (o .1 .1 .1 .0))
-take-response-tied x = promises (x .𝓤) (λ o e. takes-by _ _ _ (λ i. record { refusal = e .0 i; sweep = e .1 i }) (e .2))
+    (λ x o. Takes (x .args .0 .now) (x .args .1 .0 .now) (x .args .1 .1 .0 .now) (turn (step (o .0) (o .1 .0)) (o .1 .1 .1 .0)))
+take-response-tied x = promises (x .𝓤) (λ o. by (Takes _ _ _) (takes _ _ _))
 
 -- ---- listing
 
@@ -91,9 +92,9 @@ list-tied x = promises (x .𝓤) (λ o. lists)
 -- ---- bench
 
 pub bench-tied : Promised bench.ended (λ M. bench.clauses) (λ M. bench.spec)
-    (λ x o. Benches (x .args .0 .now) (x .args .1 .0) (x .args .1 .1 .0) (x .args .1 .1 .1 .0 .now) (x .args .1 .1 .1 .1 .0 .now) (x .args .1 .1 .1 .1 .1 .0 .now)
-    (bench-specs.ending (o .0) (o .1 .1 .1 .1 .0) (o .1 .1 .1 .1 .1 .0) (o .1 .1 .1 .1 .1 .1 .0)))
-bench-tied x = promises (x .𝓤) (λ o. by (Benches _ _ _ _ _ _) (benches _ _ _ _ _ _))
+    (λ x o. Benches (x .args .0 .now) (x .args .1 .0) (x .args .1 .1 .0) (bench-specs.buffers (x .args .1 .1 .1 .0 .now) (x .args .1 .1 .1 .1 .0 .now) (x .args .1 .1 .1 .1 .1 .0 .now))
+    (bench-specs.ending (o .0) (bench-specs.buffers (o .1 .1 .1 .1 .0) (o .1 .1 .1 .1 .1 .0) (o .1 .1 .1 .1 .1 .1 .0))))
+bench-tied x = promises (x .𝓤) (λ o. by (Benches _ _ _ _) (benches _ _ _ _))
 
 -- ---- checks
 

@@ -8,7 +8,7 @@ use Rattle.sheet.specs.Meaning.{meaning}
 use Rattle.lent.specs.Maker.{Outcome}
 use Rattle.responder.specs.Answer.{answered}
 use Rattle.bench.specs.Bench as Swept
-use Rattle.bench.specs.Bench.{benched}
+use Rattle.bench.specs.Bench.{buffers, benched}
 use Rattle.checks.specs.Judge.{Said, judged}
 use Rattle.demands.specs.Recorder.{sheetE, sheetE′, command}
 
@@ -27,11 +27,11 @@ asked s rt sfn a = shown (answered s (command rt sfn a) (replicate 64 0xEE))
 
 -- a bench sweep in numbers: the refusal, and the starts that were written
 unfoldable pub sweptNumbers : Swept.Ending → List ℕ
-sweptNumbers o = o .reply .refusal .number ∷ take (o .reply .commands) (o .starts)
+sweptNumbers o = o .reply .refusal .number ∷ take (o .reply .commands) (o .buffers .starts)
 
 -- the bench sweep of a sheet with RT 0, with room for 64 bytes and 8 starts
 unfoldable pub swept : (s : List ℕ) (a : ℕ) → List ℕ
-swept s a = sweptNumbers (benched s 0 a (replicate 64 0xEE) (replicate 64 0xEE) (replicate 8 0xEE))
+swept s a = sweptNumbers (benched s 0 a (buffers (replicate 64 0xEE) (replicate 64 0xEE) (replicate 8 0xEE)))
 
 -- a judgement in numbers: the number, whether it conforms, and the missing feature if one is named
 unfoldable pub judgedNumbers : Said → List ℕ

@@ -1,67 +1,54 @@
 -- A step case by case: what a refusal leaves, what an accepted response says and leaves. Assumes nothing.
-use mathlib.Core.Path.{_≡_, refl, sym, ap}
+use mathlib.Core.Path.{_≡_, refl, ap, sym, _∙_}
 use mathlib.Core.Bool.{Bool, true, false, _&&_}
-use mathlib.Core.List.{List, _++_}
-use Prim.Native.Nat.{ℕ, zero, suc, _+_, _≤_}
+use mathlib.Core.List.{List}
+use Prim.Native.Nat.{ℕ, zero, suc, _+_, _≤_, _<_}
 use native.Mathlib.Omega.{arith}
 use lib.Dec.{ltb, eqb}
-use lib.ListN.{length, take, drop}
+use lib.ListN.{length}
 use borrow.Author.Tests.{ltb-false, eqb-false}
 use Rattle.base.specs.Lists.{flat}
 use Rattle.refusal.specs.declared.Refusal.{Refusal}
-use Rattle.refusal.specs.First.{_orElse_}
+use Rattle.refusal.specs.First.{refuse, accept, _if_else_, _orElse_}
 use Rattle.text.specs.Response.{bytes, most}
 use Rattle.text.specs.Reading.{readFault, lastNumber}
-use Rattle.refusal.proofs.First.{if-zero, orElse-assoc, orElse-zero}
+use Rattle.refusal.proofs.First.{if-zero, orElse-none, orElse-fault, orElse-assoc, orElse-zero, unless-none, unless-fault}
 use Rattle.sweep.specs.declared.Sweep.{Sweep}
-use Rattle.sweep.specs.Sweep.{startRule, notStarted, fresh, started, cut, empty, wholesOf, openRule, roomRule, takeFault, advanced, endedNow, after, stepped, collecting, refusedStep}
+use Rattle.sweep.specs.Sweep.{step, startRule, fresh, started, cut, wholesOf, takeFault, endedNow, leftBy, turn, taking, stepped}
 use Rattle.sweep.specs.inner.Numbers.{closedRule}
+use Rattle.sweep.proofs.Numbers.{start-fault, start-fresh}
 
 -- ---- starting
 
 -- what holds of a fresh record and of one that has ended with all numbers 0 holds of a started one
-pub started-cases : (rt a : ℕ) (P : Sweep → Type 0) → P (fresh rt a) → P notStarted → P (started rt a .sweep)
-unfolding started
-started-cases rt a P p q = go (startRule rt a .number)
+pub started-cases : (rt a : ℕ) (P : Sweep → Type 0) → P (fresh rt a) → P (endedNow (fresh 0 0)) → P (started rt a .sweep)
+started-cases rt a P p q = go (startRule rt a .number) refl
   where
-    go : (n : ℕ) → P (elim n [ zero ↦ fresh rt a | suc e ↦ notStarted ])
-    go zero = p
-    go (suc n) = q
+    go : (n : ℕ) → startRule rt a .number ≡ n → P (started rt a .sweep)
+    go zero e = rw (← start-fresh rt a (startRule rt a) refl e) p
+    go (suc n) e = rw (← start-fault rt a (startRule rt a) refl (λ z. omega arith)) q
 
--- ---- a refusal
+-- ---- a response
 
-module _ (r : Refusal) (w : Sweep) (s : List ℕ) (h : r .number ≡ 0 → ⊥) where
-  after-fault : after r w s ≡ refusedStep r w .sweep
-  unfolding refusedStep after
-  after-fault = go (r .number) h
+module _ (w : Sweep) (s out : List ℕ) where
+  -- refused
+  pub stepped-fault : (takeFault w s (length out) .number ≡ 0 → ⊥) → stepped w s out ≡ turn (step (takeFault w s (length out)) (leftBy (takeFault w s (length out)) w)) out
+  unfolding stepped
+  stepped-fault h = unless-fault (takeFault w s (length out)) _ _ h
+
+  -- accepted
+  pub stepped-none : takeFault w s (length out) .number ≡ 0 → stepped w s out ≡ taking w s (wholesOf w s) out
+  unfolding stepped
+  stepped-none h = unless-none (takeFault w s (length out)) _ _ h
+
+  -- the refusal, whatever comes of it
+  pub step-refusal : stepped w s out .step .refusal ≡ takeFault w s (length out)
+  unfolding taking
+  step-refusal = go (takeFault w s (length out) .number) refl
     where
-      go : (n : ℕ) → (n ≡ 0 → ⊥) → elim n [ zero ↦ advanced w s (wholesOf w s) | suc e ↦ refusedStep r w .sweep ] ≡ refusedStep r w .sweep
-      go zero k = absurd (k refl)
-      go (suc n) k = refl
-
-module _ (w : Sweep) (s out : List ℕ) (h : takeFault w s (length out) .number ≡ 0 → ⊥) where
-  pub stepped-fault : stepped w s out ≡ refusedStep (takeFault w s (length out)) w
-  unfolding stepped refusedStep
-  stepped-fault = ap (λ (v : Sweep). record { refusal = takeFault w s (length out); sweep = v }) (after-fault (takeFault w s (length out)) w s h)
-
-  pub collecting-fault : collecting w s out ≡ out
-  unfolding collecting
-  collecting-fault = go (takeFault w s (length out) .number) h
-    where
-      go : (n : ℕ) → (n ≡ 0 → ⊥) → elim n [ zero ↦ take (w .collected) out ++ flat bytes (wholesOf w s) ++ drop (w .collected + length (flat bytes (wholesOf w s))) out | suc e ↦ out ] ≡ out
-      go zero k = absurd (k refl)
-      go (suc n) k = refl
-
--- ---- an accepted response
-
-module _ (w : Sweep) (s out : List ℕ) (h : takeFault w s (length out) .number ≡ 0) where
-  pub stepped-none : stepped w s out ≡ record { refusal = takeFault w s (length out); sweep = advanced w s (wholesOf w s) }
-  unfolding stepped after
-  stepped-none = rw (h, after)
-
-  pub collecting-none : collecting w s out ≡ take (w .collected) out ++ flat bytes (wholesOf w s) ++ drop (w .collected + length (flat bytes (wholesOf w s))) out
-  unfolding collecting
-  collecting-none = rw (h, collecting)
+      go : (n : ℕ) → takeFault w s (length out) .number ≡ n → stepped w s out .step .refusal ≡ takeFault w s (length out)
+      go zero e = rw (stepped-none e) (ap refuse (sym e))
+      go (suc n) e = rw (stepped-fault (λ z. omega arith)) refl
 
 -- what its acceptance says
 pub record Taken (w : Sweep) (s : List ℕ) (room : ℕ) : Type 0 where
@@ -69,26 +56,25 @@ pub record Taken (w : Sweep) (s : List ℕ) (room : ℕ) : Type 0 where
   pub few : w .commands ≤ 65535
   pub read : readFault (most (w .allocation)) (w .rt) (w .next .0) s .number ≡ 0
   pub full : cut s ≡ true → most (w .allocation) ≤ length s
-  pub some : cut s ≡ true → empty (wholesOf w s) ≡ false
+  pub some : cut s ≡ true → 0 < length (wholesOf w s)
   pub below : cut s ≡ true → lastNumber (wholesOf w s) ≡ 65535 → ⊥
   pub fits : w .collected + length (flat bytes (wholesOf w s)) ≤ room
 
 pub taken-facts : (w : Sweep) (s : List ℕ) (room : ℕ) → takeFault w s room .number ≡ 0 → Taken w s room
-unfolding takeFault openRule roomRule
+unfolding takeFault
 taken-facts w s room h =
-    let a = orElse-zero _ _ h in
-    let b = orElse-zero _ _ (a .1) in
+    let a = if-zero _ _ _ (orElse-zero _ _ h .1) in
+    let b = if-zero _ _ _ (a .1) in
     let c = orElse-zero _ _ (b .1) in
-    let d = if-zero _ _ _ (b .0) in
     let e = if-zero _ _ _ (c .1) in
     let f = if-zero _ _ _ (e .1) in
     let g = if-zero _ _ _ (f .1) in
     record {
-      going = d .0;
-      few = ltb-false 65535 (w .commands) (if-zero _ _ _ (d .1) .0);
+      going = a .0;
+      few = ltb-false 65535 (w .commands) (b .0);
       read = c .0;
       full = λ q. ltb-false (length s) (most (w .allocation)) (only (ltb (length s) (most (w .allocation))) q (e .0));
-      some = λ q. only (empty (wholesOf w s)) q (f .0);
+      some = λ q. omega (arith, eqb-false (length (wholesOf w s)) 0 (only (eqb (length (wholesOf w s)) 0) q (f .0)));
       below = λ q. eqb-false (lastNumber (wholesOf w s)) 65535 (only (eqb (lastNumber (wholesOf w s)) 65535) q (g .0));
       fits = ltb-false room (w .collected + length (flat bytes (wholesOf w s))) (if-zero _ _ _ (g .1) .0);
     }
@@ -99,22 +85,37 @@ taken-facts w s room h =
 -- ---- what holds of a refused step, whether or not it ends the sweep, and of an accepted one, holds of every step
 
 module _ (w : Sweep) (s out : List ℕ) (P : ℕ → Sweep → Type 0) where
-  pub step-cases : ((e : ℕ) → P (suc e) w) → ((e : ℕ) → P (suc e) (endedNow w)) → (takeFault w s (length out) .number ≡ 0 → P 0 (advanced w s (wholesOf w s)))
-      → P (stepped w s out .refusal .number) (stepped w s out .sweep)
-  unfolding refusedStep
+  pub step-cases : ((e : ℕ) → P (suc e) w) → ((e : ℕ) → P (suc e) (endedNow w)) → (takeFault w s (length out) .number ≡ 0 → P 0 (taking w s (wholesOf w s) out .step .sweep))
+      → P (stepped w s out .step .refusal .number) (stepped w s out .step .sweep)
+  unfolding leftBy taking
   step-cases stays ends accepts = go (takeFault w s (length out) .number) refl
     where
       mark : (n : ℕ) (b : Bool) → P (suc n) (elim b [ true ↦ endedNow w | false ↦ w ])
       mark n true = ends n
       mark n false = stays n
 
-      go : (n : ℕ) → takeFault w s (length out) .number ≡ n → P (stepped w s out .refusal .number) (stepped w s out .sweep)
-      go zero e = rw (stepped-none w s out e, e) (accepts e)
+      go : (n : ℕ) → takeFault w s (length out) .number ≡ n → P (stepped w s out .step .refusal .number) (stepped w s out .step .sweep)
+      go zero e = rw (stepped-none w s out e) (accepts e)
       go (suc n) e = rw (stepped-fault w s out (λ z. omega arith), e) (mark n (eqb (suc n) 23))
 
--- ---- the record's own refusals come first
+-- ---- the chain in parts: the record's own refusals come first, then the reading's, then those of the room
+
+-- 28, 23, 27, 24
+abbrev pub roomRule : (w : Sweep) (s : List ℕ) (room : ℕ) → Refusal
+roomRule w s room =
+    refuse 28 if cut s && ltb (length s) (most (w .allocation)) else
+    refuse 23 if cut s && eqb (length (wholesOf w s)) 0 else
+    refuse 27 if cut s && eqb (lastNumber (wholesOf w s)) 65535 else
+    refuse 24 if ltb room (w .collected + length (flat bytes (wholesOf w s))) else
+    accept
+
+open-first : (a b : Bool) (z : Refusal) → ((refuse 26 if a else refuse 26 if b else accept) orElse z) ≡ (refuse 26 if a else refuse 26 if b else z)
+unfolding _if_else_
+open-first true b z = orElse-fault (refuse 26) z (λ e. omega arith)
+open-first false true z = orElse-fault (refuse 26) z (λ e. omega arith)
+open-first false false z = orElse-none accept z refl
 
 pub closed-first : (w : Sweep) (s : List ℕ) (room : ℕ)
-    → takeFault w s room ≡ (closedRule w orElse readFault (most (w .allocation)) (w .rt) (w .next .0) s orElse roomRule w s (wholesOf w s) room)
+    → takeFault w s room ≡ (closedRule w orElse readFault (most (w .allocation)) (w .rt) (w .next .0) s orElse roomRule w s room)
 unfolding takeFault closedRule
-closed-first w s room = sym (orElse-assoc _ _ _)
+closed-first w s room = sym (orElse-assoc _ _ _ ∙ ap (λ (r : Refusal). startRule (w .rt) (w .allocation) orElse r) (open-first (w .ended) (ltb 65535 (w .commands)) _))

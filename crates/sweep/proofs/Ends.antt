@@ -3,33 +3,33 @@
 use mathlib.Core.Path.{_≡_, refl, sym, ap, _∙_}
 use mathlib.Core.Bool.{Bool, true, false, true≢false}
 use mathlib.Core.List.{List, [], _∷_}
-use Prim.Native.Nat.{ℕ, zero, suc, _+_, _≤_, _<_}
+use Prim.Native.Nat.{ℕ, suc, _+_, _≤_, _<_}
 use native.Mathlib.Omega.{arith}
-use lib.Dec.{ltb}
+use lib.Dec.{ltb, eqb}
 use lib.ListN.{length}
-use borrow.Author.Tests.{not-false}
+use borrow.Author.Tests.{not-false, ne-eqb}
 use Rattle.base.specs.Lists.{All, Bytes}
 use Rattle.refusal.specs.declared.Refusal.{Refusal}
 use Rattle.refusal.specs.First.{refuse, accept, _if_else_, pickZero, _orElse_}
-use Rattle.text.specs.Drive.{Desc, Good, Asc}
+use Rattle.text.specs.Drive.{Desc, bit, Good, Asc}
 use Rattle.text.specs.Reading.{lastNumber}
 use Rattle.refusal.proofs.First.{if-true, orElse-fault}
 use Rattle.text.proofs.Again.{walked-asc, walked-good}
 use Rattle.sweep.specs.declared.Sweep.{Sweep}
 use Rattle.sweep.specs.declared.Step.{Step}
-use Rattle.sweep.specs.Sweep.{startRule, notStarted, fresh, started, cut, empty, wholesOf, openRule, takeFault, advanced, endedNow, stepped, refusedStep}
+use Rattle.sweep.specs.Sweep.{step, startRule, fresh, started, cut, wholesOf, takeFault, leftBy, advanced, endedNow, Turn, turn, taking, stepped}
 use Rattle.sweep.specs.inner.Numbers.{closedRule}
-use Rattle.sweep.specs.Run.{Offer, Received, taking, sweepOver, ifNone, acceptedOf}
-use Rattle.sweep.proofs.Numbers.{refusing-stays}
+use Rattle.sweep.specs.Run.{Offer, Received, stepWith, sweepOver, acceptedOf}
+use Rattle.sweep.proofs.Numbers.{left-same}
 use Rattle.sweep.proofs.Cases.{started-cases, step-cases, stepped-fault, Taken, taken-facts, closed-first}
 
 -- ---- the last of some ascending descriptors
 
-last-from : (lo : ℕ) (ds : List Desc) → Asc lo ds → empty ds ≡ false → lo ≤ lastNumber ds
-unfolding empty lastNumber
-last-from lo [] a e = absurd (true≢false e)
+last-from : (lo : ℕ) (ds : List Desc) → Asc lo ds → 0 < length ds → lo ≤ lastNumber ds
+unfolding lastNumber
+last-from lo [] a e = absurd (omega arith)
 last-from lo (d ∷ []) a e = a .0
-last-from lo (d ∷ c ∷ ds) a e = omega (arith, a .0, last-from (1 + d .number) (c ∷ ds) (a .1) refl)
+last-from lo (d ∷ c ∷ ds) a e = omega (arith, a .0, last-from (1 + d .number) (c ∷ ds) (a .1) (omega arith))
 
 last-low : (ds : List Desc) → All Good ds → lastNumber ds < 65536
 unfolding lastNumber
@@ -45,8 +45,8 @@ pub record Within (w : Sweep) : Type 0 where
   pub most : w .commands ≤ 65536
 
 module _ (w : Sweep) (s out : List ℕ) (b : Bytes s) (i : Within w) where
-  advanced-within : takeFault w s (length out) .number ≡ 0 → Within (advanced w s (wholesOf w s))
-  unfolding advanced wholesOf
+  advanced-within : takeFault w s (length out) .number ≡ 0 → Within (taking w s (wholesOf w s) out .step .sweep)
+  unfolding taking advanced wholesOf
   advanced-within h =
       let t : Taken w s (length out) = taken-facts w s (length out) h in
       let g : (w .commands ≤ w .next .0) × (w .next .0 ≤ 65535) = i .going (t .going) in
@@ -59,7 +59,7 @@ module _ (w : Sweep) (s out : List ℕ) (b : Bytes s) (i : Within w) where
         most = omega arith;
       }
 
-  stepped-within : Within (stepped w s out .sweep)
+  stepped-within : Within (stepped w s out .step .sweep)
   unfolding endedNow
   stepped-within =
       step-cases w s out (λ n v. Within v)
@@ -70,29 +70,32 @@ module _ (w : Sweep) (s out : List ℕ) (b : Bytes s) (i : Within w) where
 -- ---- all steps
 
 pub run-within : (w : Sweep) (os : List Offer) → All Received os → Within w → Within (sweepOver w os)
-unfolding sweepOver taking
+unfolding sweepOver
 run-within w [] a i = i
-run-within w (o ∷ os) a i = run-within (taking w o) os (a .1) (stepped-within w (o .response) (o .buffer) (a .0) i)
+run-within w (o ∷ os) a i = run-within (stepWith w o .sweep) os (a .1) (stepped-within w (o .response) (o .buffer) (a .0) i)
 
 pub started-within : (rt a : ℕ) → Within (started rt a .sweep)
-unfolding notStarted fresh
+unfolding endedNow fresh
 started-within rt a =
     started-cases rt a Within
     record { going = λ e. (omega arith, omega arith); most = omega arith }
     record { going = λ e. absurd (true≢false e); most = omega arith }
 
 -- the record's count is that of the accepted responses
-step-commands : (w : Sweep) (s out : List ℕ) → stepped w s out .sweep .commands ≡ w .commands + ifNone (stepped w s out .refusal .number)
-unfolding ifNone advanced endedNow
-step-commands w s out = step-cases w s out (λ n v. v .commands ≡ w .commands + ifNone n) (λ e. omega arith) (λ e. omega arith) (λ h. refl)
+step-commands : (w : Sweep) (s out : List ℕ) → stepped w s out .step .sweep .commands ≡ w .commands + bit (eqb (stepped w s out .step .refusal .number) 0)
+unfolding taking advanced endedNow
+step-commands w s out = step-cases w s out (λ n v. v .commands ≡ w .commands + bit (eqb n 0)) none none (λ h. refl)
+  where
+    none : (e : ℕ) → w .commands ≡ w .commands + bit (eqb (suc e) 0)
+    none e = rw (ne-eqb (suc e) 0 (λ z. omega arith)) (omega arith)
 
 pub run-commands : (w : Sweep) (os : List Offer) → sweepOver w os .commands ≡ w .commands + acceptedOf w os
-unfolding sweepOver acceptedOf taking
+unfolding sweepOver acceptedOf
 run-commands w [] = omega arith
-run-commands w (o ∷ os) = omega (arith, run-commands (taking w o) os, step-commands w (o .response) (o .buffer))
+run-commands w (o ∷ os) = omega (arith, run-commands (stepWith w o .sweep) os, step-commands w (o .response) (o .buffer))
 
 started-commands : (rt a : ℕ) → started rt a .sweep .commands ≡ 0
-unfolding notStarted fresh
+unfolding endedNow fresh
 started-commands rt a = started-cases rt a (λ w. w .commands ≡ 0) refl refl
 
 -- ---- the theorem
@@ -123,31 +126,24 @@ ended-numbers true b = (λ e. omega arith, λ e. omega arith)
 ended-numbers false true = (λ e. omega arith, λ e. omega arith)
 ended-numbers false false = (λ e. omega arith, λ e. omega arith)
 
-ifNone-fault : (n : ℕ) → (n ≡ 0 → ⊥) → ifNone n ≡ 0
-unfolding ifNone
-ifNone-fault zero h = absurd (h refl)
-ifNone-fault (suc n) h = refl
-
 module _ (w : Sweep) (h : w .ended ≡ true) where
   ended-refuses : (closedRule w .number ≡ 0 → ⊥) × (closedRule w .number ≡ 23 → ⊥)
-  unfolding closedRule startRule openRule
+  unfolding closedRule startRule
   ended-refuses = rw (h, if-true) (ended-numbers (ltb 1 (w .rt)) (ltb (w .allocation) 8))
 
   -- it refuses every response and stays as it is
-  pub ended-step : (s out : List ℕ) → record { refusal = closedRule w; sweep = w } ≡ stepped w s out
+  pub ended-step : (s out : List ℕ) → turn (step (closedRule w) w) out ≡ stepped w s out
   ended-step s out =
       let f : takeFault w s (length out) ≡ closedRule w = closed-first w s (length out) ∙ orElse-fault _ _ (ended-refuses .0) in
-      refusing-stays (closedRule w) w (ended-refuses .1)
-      ∙ ap (λ (r : Refusal). refusedStep r w) (sym f) ∙ sym (stepped-fault w s out (rw f (ended-refuses .0)))
+      ap (λ (t : Step). turn t out) (left-same (closedRule w) w (ended-refuses .1) ∙ ap (λ (r : Refusal). step r (leftBy r w)) (sym f))
+      ∙ sym (stepped-fault w s out (rw f (ended-refuses .0)))
 
   -- it accepts nothing more, whatever it is handed
   pub ended-accepts-none : (os : List Offer) → (acceptedOf w os ≡ 0) × (sweepOver w os ≡ w)
-  unfolding acceptedOf sweepOver taking
+  unfolding acceptedOf sweepOver
   ended-accepts-none [] = (refl, refl)
   ended-accepts-none (o ∷ os) =
-      let e : stepped w (o .response) (o .buffer) ≡ record { refusal = closedRule w; sweep = w } = sym (ended-step (o .response) (o .buffer)) in
-      let v : taking w o ≡ w = ap (λ (t : Step). t .sweep) e in
-      let n : ifNone (stepped w (o .response) (o .buffer) .refusal .number) ≡ 0 =
-      ap (λ (t : Step). ifNone (t .refusal .number)) e ∙ ifNone-fault (closedRule w .number) (ended-refuses .0) in
+      let e : stepWith w o ≡ step (closedRule w) w = ap (λ (t : Turn). t .step) (sym (ended-step (o .response) (o .buffer))) in
+      let n : eqb (closedRule w .number) 0 ≡ false = ne-eqb (closedRule w .number) 0 (ended-refuses .0) in
       let rest : (acceptedOf w os ≡ 0) × (sweepOver w os ≡ w) = ended-accepts-none os in
-      (omega (arith, ap (λ (x : Sweep). acceptedOf x os) v), ap (λ (x : Sweep). sweepOver x os) v ∙ rest .1)
+      rw (e, n) (omega arith, rest .1)

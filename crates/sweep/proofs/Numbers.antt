@@ -1,14 +1,17 @@
 -- The rules and records in the numbers of a scan, case by case. Assumes nothing.
-use mathlib.Core.Path.{_≡_, refl, ap}
-use mathlib.Core.Bool.{true, false}
+use mathlib.Core.Path.{_≡_, refl, sym, ap, _∙_}
+use mathlib.Core.Bool.{true, false, not}
 use Prim.Native.Nat.{ℕ, zero, suc, _+_, _≤_, _<_}
+use native.Mathlib.Omega.{arith}
 use borrow.Author.Tests.{lt-ltb, le-ltb, eq-eqb, ne-eqb}
 use Rattle.refusal.specs.declared.Refusal.{Refusal}
-use Rattle.refusal.specs.First.{refuse, accept, _if_else_}
+use Rattle.refusal.specs.First.{refuse, accept, _if_else_, unless}
+use Rattle.refusal.proofs.First.{unless-none, unless-fault}
 use Rattle.reading.specs.declared.Scanned.{Scanned}
 use Rattle.sweep.specs.declared.Sweep.{Sweep}
-use Rattle.sweep.specs.Sweep.{startRule, notStarted, fresh, started, endedNow, refusedStep}
-use Rattle.sweep.specs.inner.Numbers.{spaceRule, moved}
+use Rattle.sweep.specs.declared.Step.{Step}
+use Rattle.sweep.specs.Sweep.{step, startRule, fresh, started, endedNow, leftBy, advanced}
+use Rattle.sweep.specs.inner.Numbers.{spaceRule}
 
 -- ---- the rules
 
@@ -24,36 +27,42 @@ module _ (collected size room : ℕ) where
 -- ---- starting
 
 module _ (rt a : ℕ) (r : Refusal) (q : r ≡ startRule rt a) where
-  pub start-fault : (r .number ≡ 0 → ⊥) → record { refusal = r; sweep = notStarted } ≡ started rt a
+  opens : started rt a ≡ unless r (λ k. step k (endedNow (fresh 0 0))) (step accept (fresh rt a))
   unfolding started
-  start-fault h = rw (← q) (ap (λ (w : Sweep). record { refusal = r; sweep = w }) (go (r .number) h))
-    where
-      go : (n : ℕ) → (n ≡ 0 → ⊥) → notStarted ≡ elim n [ zero ↦ fresh rt a | suc e ↦ notStarted ]
-      go zero k = absurd (k refl)
-      go (suc n) k = refl
+  opens = rw q
 
-  pub start-fresh : r .number ≡ 0 → record { refusal = r; sweep = fresh rt a } ≡ started rt a
-  unfolding started
-  start-fresh h = rw (← q, h)
+  pub start-fault : (r .number ≡ 0 → ⊥) → step r (endedNow (fresh 0 0)) ≡ started rt a
+  start-fault h = sym (opens ∙ unless-fault r _ _ h)
+
+  pub start-fresh : r .number ≡ 0 → step r (fresh rt a) ≡ started rt a
+  start-fresh h = ap (λ (n : ℕ). step (refuse n) (fresh rt a)) h ∙ sym (opens ∙ unless-none r _ _ h)
+
+-- the refusal, whatever record it comes with
+pub start-refusal : (rt a : ℕ) → started rt a .refusal ≡ startRule rt a
+start-refusal rt a = go (startRule rt a .number) refl
+  where
+    go : (n : ℕ) → startRule rt a .number ≡ n → started rt a .refusal ≡ startRule rt a
+    go zero e = ap (λ (t : Step). t .refusal) (sym (start-fresh rt a (startRule rt a) refl e))
+    go (suc n) e = ap (λ (t : Step). t .refusal) (sym (start-fault rt a (startRule rt a) refl (λ z. omega arith)))
 
 -- ---- the record afterwards
 
 module _ (r : Refusal) (w : Sweep) where
-  pub refusing-ends : r .number ≡ 23 → record { refusal = r; sweep = endedNow w } ≡ refusedStep r w
-  unfolding refusedStep
-  refusing-ends h = rw (eq-eqb (r .number) 23 h, refusedStep)
+  pub left-ended : r .number ≡ 23 → step r (endedNow w) ≡ step r (leftBy r w)
+  unfolding leftBy
+  left-ended h = rw (eq-eqb (r .number) 23 h, leftBy)
 
-  pub refusing-stays : (r .number ≡ 23 → ⊥) → record { refusal = r; sweep = w } ≡ refusedStep r w
-  unfolding refusedStep
-  refusing-stays h = rw (ne-eqb (r .number) 23 h, refusedStep)
+  pub left-same : (r .number ≡ 23 → ⊥) → step r w ≡ step r (leftBy r w)
+  unfolding leftBy
+  left-same h = rw (ne-eqb (r .number) 23 h, leftBy)
 
 module _ (w : Sweep) (x : Scanned) (collected : ℕ) where
   pub moved-complete : x .reading .complete ≡ true
-      → record { rt = w .rt; allocation = w .allocation; next = w .next; commands = w .commands + 1; collected = collected; ended = x .reading .complete } ≡ moved w x collected
-  unfolding moved
-  moved-complete h = rw (h, moved)
+      → record { rt = w .rt; allocation = w .allocation; next = w .next; commands = w .commands + 1; collected = collected; ended = x .reading .complete } ≡ advanced w (not (x .reading .complete)) (x .last .0) collected
+  unfolding advanced
+  moved-complete h = rw (h, advanced)
 
   pub moved-cut : x .reading .complete ≡ false
-      → record { rt = w .rt; allocation = w .allocation; next = record { 0 = x .last .0 + 1 }; commands = w .commands + 1; collected = collected; ended = x .reading .complete } ≡ moved w x collected
-  unfolding moved
-  moved-cut h = rw (h, moved)
+      → record { rt = w .rt; allocation = w .allocation; next = record { 0 = x .last .0 + 1 }; commands = w .commands + 1; collected = collected; ended = x .reading .complete } ≡ advanced w (not (x .reading .complete)) (x .last .0) collected
+  unfolding advanced
+  moved-cut h = rw (h, advanced)

@@ -1,12 +1,11 @@
 -- What the code decides from the numbers of a scan is the step: refused by the record, refused by the response, or taken. Assumes nothing.
 use mathlib.Core.Path.{_≡_, refl, sym, ap, ap₂, _∙_}
 use mathlib.Core.Bool.{Bool, true, false, not}
-use mathlib.Core.List.{List, [], _∷_}
-use Prim.Native.Nat.{ℕ, suc, _+_, _-_, _≤_, _<_}
+use mathlib.Core.List.{List}
+use Prim.Native.Nat.{ℕ, _+_, _-_, _≤_, _<_}
 use native.Mathlib.Omega.{arith}
 use lib.Dec.{ltb, eqb}
 use lib.ListN.{length, take, drop}
-use borrow.Author.Tests.{ne-eqb}
 use Rattle.base.specs.Lists.{flat, Bytes}
 use Rattle.lent.specs.Wrote.{Wrote}
 use Rattle.lent.proofs.Laws.{placed}
@@ -23,16 +22,11 @@ use Rattle.reading.specs.declared.Scanned.{Scanned}
 use Rattle.reading.specs.Scan.{scanned}
 use Rattle.sweep.specs.declared.Sweep.{Sweep}
 use Rattle.sweep.specs.declared.Step.{Step}
-use Rattle.sweep.specs.Sweep.{cut, empty, wholesOf, roomRule, takeFault, advanced, stepped, collecting, refusedStep}
-use Rattle.sweep.specs.inner.Numbers.{closedRule, cutRule, spaceRule, scanRule, moved}
-use Rattle.sweep.proofs.Cases.{stepped-fault, collecting-fault, stepped-none, collecting-none, Taken, taken-facts, closed-first}
+use Rattle.sweep.specs.Sweep.{step, cut, wholesOf, takeFault, leftBy, advanced, turn, taking, stepped}
+use Rattle.sweep.specs.inner.Numbers.{closedRule, cutRule, spaceRule, scanRule}
+use Rattle.sweep.proofs.Cases.{stepped-fault, stepped-none, Taken, taken-facts, roomRule, closed-first}
 
 -- ---- the rules of a scan are those of the definition
-
-empty-count : (ds : List Desc) → eqb (length ds) 0 ≡ empty ds
-unfolding empty
-empty-count [] = refl
-empty-count (d ∷ ds) = ne-eqb (suc (length ds)) 0 (λ e. omega arith)
 
 chain : (a b c : Bool) (z : Refusal)
     → ((refuse 28 if a else refuse 23 if b else refuse 27 if c else accept) orElse z) ≡ (refuse 28 if a else refuse 23 if b else refuse 27 if c else z)
@@ -43,52 +37,48 @@ chain false false true z = orElse-fault (refuse 27) z (λ e. omega arith)
 chain false false false z = orElse-none accept z refl
 
 module _ (w : Sweep) (s : List ℕ) (room : ℕ) where
-  cut-space : (ds : List Desc) (b : Bool) → eqb (length s) (statedEnd s) ≡ b
-      → (cutRule b (length s) (most (w .allocation)) (length ds) (lastNumber ds) orElse spaceRule (w .collected) (length (flat bytes ds)) room) ≡ roomRule w s ds room
-  unfolding roomRule cutRule spaceRule cut _if_else_
-  cut-space ds true e = rw (e, roomRule) (orElse-none accept (refuse 24 if ltb room (w .collected + length (flat bytes ds)) else accept) refl)
-  cut-space ds false e =
-      rw (e, roomRule, ← empty-count ds)
-      (chain (ltb (length s) (most (w .allocation))) (eqb (length ds) 0) (eqb (lastNumber ds) 65535) (refuse 24 if ltb room (w .collected + length (flat bytes ds)) else accept))
+  cut-space : (b : Bool) → eqb (length s) (statedEnd s) ≡ b
+      → (cutRule b (length s) (most (w .allocation)) (length (wholesOf w s)) (lastNumber (wholesOf w s)) orElse spaceRule (w .collected) (length (flat bytes (wholesOf w s))) room) ≡ roomRule w s room
+  unfolding cutRule spaceRule cut _if_else_
+  cut-space true e = rw (e, cut) (orElse-none accept (refuse 24 if ltb room (w .collected + length (flat bytes (wholesOf w s))) else accept) refl)
+  cut-space false e =
+      rw (e, cut)
+      (chain (ltb (length s) (most (w .allocation))) (eqb (length (wholesOf w s)) 0) (eqb (lastNumber (wholesOf w s)) 65535) (refuse 24 if ltb room (w .collected + length (flat bytes (wholesOf w s))) else accept))
 
   -- the reading's refusal, then those of the room
   scan-room : scanRule w (scanned (most (w .allocation)) (w .rt) (w .next .0) s) (length s) room
-      ≡ (readFault (most (w .allocation)) (w .rt) (w .next .0) s orElse roomRule w s (wholesOf w s) room)
+      ≡ (readFault (most (w .allocation)) (w .rt) (w .next .0) s orElse roomRule w s room)
   unfolding scanRule scanned nothingRead taken wholesOf
   scan-room =
       reading-cases (most (w .allocation)) (w .rt) (w .next .0) s
       (λ r ds.
       (r .refusal orElse cutRule (r .complete) (length s) (most (w .allocation)) (r .count) (lastNumber ds) orElse spaceRule (w .collected) (r .end - 8) room)
-      ≡ (readFault (most (w .allocation)) (w .rt) (w .next .0) s orElse roomRule w s (wholesOf w s) room))
+      ≡ (readFault (most (w .allocation)) (w .rt) (w .next .0) s orElse roomRule w s room))
       (λ k. orElse-fault _ _ k ∙ sym (orElse-fault _ _ k))
       (λ k.
       let n : 8 + length (flat bytes (wholesOf w s)) - 8 ≡ length (flat bytes (wholesOf w s)) = omega arith in
-      rw n (orElse-none _ _ refl ∙ cut-space (wholesOf w s) (eqb (length s) (statedEnd s)) refl ∙ sym (orElse-none _ _ k)))
+      rw n (orElse-none _ _ refl ∙ cut-space (eqb (length s) (statedEnd s)) refl ∙ sym (orElse-none _ _ k)))
 
 -- ---- what a scan shows of an accepted response with the whole descriptors ds
 
 unfoldable seen : List ℕ → List Desc → Scanned
 seen s ds = record { reading = taken s ds; last = record { 0 = lastNumber ds } }
 
-seen-moved : (w : Sweep) (s : List ℕ) (ds : List Desc) (n : ℕ) → n ≡ w .collected + length (flat bytes ds) → moved w (seen s ds) n ≡ advanced w s ds
-unfolding seen taken moved advanced cut
-seen-moved w s ds n e = rw e (go (eqb (length s) (statedEnd s)) refl)
-  where
-    go : (b : Bool) → eqb (length s) (statedEnd s) ≡ b → moved w (seen s ds) (w .collected + length (flat bytes ds)) ≡ advanced w s ds
-    go true q = rw (q, moved, advanced)
-    go false q = rw (q, moved, advanced)
+seen-moved : (w : Sweep) (s : List ℕ) (ds : List Desc) (n : ℕ)
+    → advanced w (not (seen s ds .reading .complete)) (seen s ds .last .0) n ≡ advanced w (cut s) (lastNumber ds) n
+unfolding seen taken cut
+seen-moved w s ds n = refl
 
 -- ---- the step
 
 module _ (w : Sweep) (s out : List ℕ) where
-  refused-step : (r : Refusal) (t : Step) → r ≡ takeFault w s (length out) → (r .number ≡ 0 → ⊥) → t ≡ refusedStep r w → (t ≡ stepped w s out) × (out ≡ collecting w s out)
+  refused-step : (r : Refusal) (t : Step) → r ≡ takeFault w s (length out) → (r .number ≡ 0 → ⊥) → t ≡ step r (leftBy r w) → turn t out ≡ stepped w s out
   refused-step r t q h p =
-      let k : takeFault w s (length out) .number ≡ 0 → ⊥ = rw (← q) h in
-      (p ∙ ap (λ (x : Refusal). refusedStep x w) q ∙ sym (stepped-fault w s out k), sym (collecting-fault w s out k))
+      ap (λ (x : Step). turn x out) (p ∙ ap (λ (x : Refusal). step x (leftBy x w)) q) ∙ sym (stepped-fault w s out (rw (← q) h))
 
   module _ (r : Refusal) (q : r ≡ closedRule w) where
     -- the record refuses every response
-    pub take-closed : (r .number ≡ 0 → ⊥) → (t : Step) → t ≡ refusedStep r w → (t ≡ stepped w s out) × (out ≡ collecting w s out)
+    pub take-closed : (r .number ≡ 0 → ⊥) → (t : Step) → t ≡ step r (leftBy r w) → turn t out ≡ stepped w s out
     take-closed h t p = refused-step r t (q ∙ sym (closed-first w s (length out) ∙ orElse-fault _ _ (rw (← q) h))) h p
 
     -- it is open, and the response is scanned
@@ -103,7 +93,7 @@ module _ (w : Sweep) (s out : List ℕ) where
           ∙ sym (closed-first w s (length out) ∙ orElse-none _ _ (rw (← q) k))
 
       -- the response is refused
-      pub take-refused : (f .number ≡ 0 → ⊥) → (t : Step) → t ≡ refusedStep f w → (t ≡ stepped w s out) × (out ≡ collecting w s out)
+      pub take-refused : (f .number ≡ 0 → ⊥) → (t : Step) → t ≡ step f (leftBy f w) → turn t out ≡ stepped w s out
       take-refused h t e = refused-step f t fault-is h e
 
       -- it is accepted
@@ -138,10 +128,12 @@ module _ (w : Sweep) (s out : List ℕ) where
           part-fits : w .collected + length part ≤ length out
           part-fits = rw (← part-found) (facts .fits)
 
-          pub take-taken : (v : Sweep) → v ≡ moved w x n → (record { refusal = f; sweep = v } ≡ stepped w s out) × (e ≡ collecting w s out)
+          pub take-taken : (v : Sweep) → v ≡ advanced w (not (x .reading .complete)) (x .last .0) n → turn (step f v) e ≡ stepped w s out
+          unfolding taking
           take-taken v t =
               let y : n ≡ w .collected + length (flat bytes (wholesOf w s)) = omega (arith, ap length part-found, part-fits, o .next) in
-              let z : v ≡ advanced w s (wholesOf w s) = t ∙ ap (λ (c : Scanned). moved w c n) scan-seen ∙ seen-moved w s (wholesOf w s) n y in (
-                ap₂ (λ (a : Refusal) (c : Sweep). record { refusal = a; sweep = c }) fault-is z ∙ sym (stepped-none w s out fault-zero),
-                rw (← part-found) at (placed o part-fits) ∙ sym (collecting-none w s out fault-zero),
-              )
+              let z : v ≡ advanced w (cut s) (lastNumber (wholesOf w s)) (w .collected + length (flat bytes (wholesOf w s))) =
+              t ∙ ap (λ (c : Scanned). advanced w (not (c .reading .complete)) (c .last .0) n) scan-seen ∙ seen-moved w s (wholesOf w s) n ∙ ap (advanced w (cut s) (lastNumber (wholesOf w s))) y in
+              ap₂ (λ (a : ℕ) (c : Sweep). turn (step (refuse a) c) e) h z
+              ∙ ap (turn _) (rw (← part-found) at (placed o part-fits))
+              ∙ sym (stepped-none w s out fault-zero)

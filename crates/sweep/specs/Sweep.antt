@@ -1,104 +1,101 @@
 -- The sweep: starting one, and what it makes of a response. Assumes nothing: these are definitions.
 use mathlib.Core.Bool.{Bool, true, false, not, _&&_}
-use mathlib.Core.List.{List, [], _∷_, _++_}
-use Prim.Native.Nat.{ℕ, zero, suc, _+_}
+use mathlib.Core.List.{List, _++_}
+use Prim.Native.Nat.{ℕ, _+_}
 use lib.Dec.{ltb, eqb}
 use lib.ListN.{length, take, drop}
 use Rattle.base.specs.Lists.{flat}
 use Rattle.refusal.specs.declared.Refusal.{Refusal}
-use Rattle.refusal.specs.First.{refuse, accept, _if_else_, _orElse_}
+use Rattle.refusal.specs.First.{refuse, accept, _if_else_, _orElse_, unless}
 use Rattle.text.specs.Drive.{Desc}
-use Rattle.text.specs.Response.{bytes, most}
+use Rattle.text.specs.Response.{bytes, headerLength, most}
 use Rattle.text.specs.Reading.{statedEnd, walked, readFault, lastNumber}
 use Rattle.sweep.specs.declared.Sweep.{Sweep}
 use Rattle.sweep.specs.declared.Step.{Step}
+
+abbrev pub step : Refusal → Sweep → Step
+step r w = record { refusal = r; sweep = w }
+
+-- ---- starting
 
 -- 21: RT over 1. 22: allocation length under 8
 unfoldable pub startRule : (rt a : ℕ) → Refusal
 startRule rt a =
     refuse 21 if ltb 1 rt else
-    refuse 22 if ltb a 8 else
+    refuse 22 if ltb a headerLength else
     accept
 
--- a record that has ended, with all numbers 0; and a fresh one
-unfoldable pub notStarted : Sweep
-notStarted = record { rt = 0; allocation = 0; next = record { 0 = 0 }; commands = 0; collected = 0; ended = true }
-
+-- a fresh record; and a record with the mark that it has ended
 unfoldable pub fresh : (rt a : ℕ) → Sweep
 fresh rt a = record { rt = rt; allocation = a; next = record { 0 = 0 }; commands = 0; collected = 0; ended = false }
 
--- starting a sweep
-unfoldable pub started : (rt a : ℕ) → Step
-started rt a = record {
-  refusal = startRule rt a;
-  sweep = elim (startRule rt a .number) [ zero ↦ fresh rt a | suc e ↦ notStarted ];
-}
+unfoldable pub endedNow : Sweep → Sweep
+endedNow w = record { rt = w .rt; allocation = w .allocation; next = w .next; commands = w .commands; collected = w .collected; ended = true }
 
--- the response is cut; it has no whole descriptor
+-- a fresh record; on a refusal one that has ended, with all numbers 0
+unfoldable pub started : (rt a : ℕ) → Step
+started rt a = unless (startRule rt a) (λ r. step r (endedNow (fresh 0 0))) (step accept (fresh rt a))
+
+-- ---- a response
+
+-- it is cut
 unfoldable pub cut : List ℕ → Bool
 cut s = not (eqb (length s) (statedEnd s))
-
-unfoldable pub empty : List Desc → Bool
-empty [] = true
-empty (d ∷ ds) = false
 
 -- the whole descriptors of a response to the record's next command
 unfoldable pub wholesOf : Sweep → List ℕ → List Desc
 wholesOf w s = walked (w .rt) (w .next .0) s .found
 
--- 26: it had ended, or has more than 65,535 commands
-unfoldable pub openRule : Sweep → Refusal
-openRule w =
-    refuse 26 if w .ended else
-    refuse 26 if ltb 65535 (w .commands) else
-    accept
-
--- 28: cut, of fewer than C bytes. 23: cut, with no whole descriptor. 27: cut after a whole FFFFh. 24: no room behind what was collected
-unfoldable pub roomRule : (w : Sweep) (s : List ℕ) (ds : List Desc) (room : ℕ) → Refusal
-roomRule w s ds room =
-    refuse 28 if cut s && ltb (length s) (most (w .allocation)) else
-    refuse 23 if cut s && empty ds else
-    refuse 27 if cut s && eqb (lastNumber ds) 65535 else
-    refuse 24 if ltb room (w .collected + length (flat bytes ds)) else
-    accept
-
--- the first refusal of a response s with any record: 21, 22, 26, the reading's, then 28, 23, 27, 24
+-- the first refusal of a response s with any record, where the collecting buffer has `room` bytes
 unfoldable pub takeFault : (w : Sweep) (s : List ℕ) (room : ℕ) → Refusal
 takeFault w s room =
+    -- 21, 22
     startRule (w .rt) (w .allocation) orElse
-    openRule w orElse
+    -- 26: it had ended, or has more than 65,535 commands
+    refuse 26 if w .ended else
+    refuse 26 if ltb 65535 (w .commands) else
+    -- the reading's
     readFault (most (w .allocation)) (w .rt) (w .next .0) s orElse
-    roomRule w s (wholesOf w s) room
+    -- 28: cut, of fewer than C bytes
+    refuse 28 if cut s && ltb (length s) (most (w .allocation)) else
+    -- 23: cut, with no whole descriptor
+    refuse 23 if cut s && eqb (length (wholesOf w s)) 0 else
+    -- 27: cut after a whole FFFFh
+    refuse 27 if cut s && eqb (lastNumber (wholesOf w s)) 65535 else
+    -- 24: no room behind what was collected
+    refuse 24 if ltb room (w .collected + length (flat bytes (wholesOf w s))) else
+    accept
 
--- the record afterwards: on 23 only the mark that it has ended changes, on any other refusal nothing; else the descriptors count, a complete
--- response ends it, a cut one sets the next start to the last number plus 1
-unfoldable pub advanced : Sweep → List ℕ → List Desc → Sweep
-advanced w s ds = record {
+-- what a refusal leaves of the record: on 23 only the mark that it has ended changes, on any other nothing
+unfoldable pub leftBy : Refusal → Sweep → Sweep
+leftBy r w = elim (eqb (r .number) 23) [ true ↦ endedNow w | false ↦ w ]
+
+-- the record after an accepted response, with so many bytes collected: a complete one ends it, one that is cut sets the next start to the last
+-- number plus 1
+unfoldable pub advanced : Sweep → (cut : Bool) (last collected : ℕ) → Sweep
+advanced w cut last collected = record {
   rt = w .rt;
   allocation = w .allocation;
-  next = elim (cut s) [ true ↦ record { 0 = lastNumber ds + 1 } | false ↦ w .next ];
+  next = elim cut [ true ↦ record { 0 = last + 1 } | false ↦ w .next ];
   commands = w .commands + 1;
-  collected = w .collected + length (flat bytes ds);
-  ended = not (cut s);
+  collected = collected;
+  ended = not cut;
 }
 
-unfoldable pub endedNow : Sweep → Sweep
-endedNow w = record { rt = w .rt; allocation = w .allocation; next = w .next; commands = w .commands; collected = w .collected; ended = true }
+-- what comes of a response: the answer, and the collecting buffer afterwards
+pub record Turn : Type 0 where
+  pub step : Step
+  pub buffer : List ℕ
 
--- what a refusal hands back: on 23 only the mark that it has ended changes, on any other nothing
-unfoldable pub refusedStep : Refusal → Sweep → Step
-refusedStep r w = record { refusal = r; sweep = elim (eqb (r .number) 23) [ true ↦ endedNow w | false ↦ w ] }
+abbrev pub turn : Step → List ℕ → Turn
+turn t out = record { step = t; buffer = out }
 
-unfoldable pub after : Refusal → Sweep → List ℕ → Sweep
-after r w s = elim (r .number) [ zero ↦ advanced w s (wholesOf w s) | suc e ↦ elim (eqb (r .number) 23) [ true ↦ endedNow w | false ↦ w ] ]
+-- accepted, with the whole descriptors ds: their bytes stand behind those collected, the buffer's only change
+unfoldable pub taking : Sweep → (s : List ℕ) → List Desc → (out : List ℕ) → Turn
+taking w s ds out =
+    turn (step accept (advanced w (cut s) (lastNumber ds) (w .collected + length (flat bytes ds))))
+    (take (w .collected) out ++ flat bytes ds ++ drop (w .collected + length (flat bytes ds)) out)
 
--- what is handed back, and the collecting buffer afterwards: the whole descriptors behind those collected, its only change
-unfoldable pub stepped : (w : Sweep) (s out : List ℕ) → Step
-stepped w s out = record { refusal = takeFault w s (length out); sweep = after (takeFault w s (length out)) w s }
-
-unfoldable pub collecting : (w : Sweep) (s out : List ℕ) → List ℕ
-collecting w s out =
-    elim (takeFault w s (length out) .number) [
-      | zero ↦ take (w .collected) out ++ flat bytes (wholesOf w s) ++ drop (w .collected + length (flat bytes (wholesOf w s))) out
-      | suc e ↦ out
-    ]
+-- a response s with the collecting buffer out; a refusal changes nothing there
+unfoldable pub stepped : (w : Sweep) (s out : List ℕ) → Turn
+stepped w s out = unless (takeFault w s (length out)) (λ r. turn (step r (leftBy r w)) out) (taking w s (wholesOf w s) out)

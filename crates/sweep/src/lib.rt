@@ -1,10 +1,10 @@
 // The driver's sweep: one response at a time.
 ghost use mathlib.Core.Path.{_≡_};
-ghost use mathlib.Core.Bool.{false};
+ghost use mathlib.Core.Bool.{false, not};
 ghost use Prim.Native.Nat.{_-_, _<_};
-ghost use Rattle.sweep.specs.Sweep.{startRule, openRule, started, stepped, collecting, refusedStep};
-ghost use Rattle.sweep.specs.inner.Numbers.{closedRule, cutRule, spaceRule, scanRule, moved};
-ghost use Rattle.text.specs.Response.{most};
+ghost use Rattle.text.specs.Response.{headerLength};
+ghost use Rattle.sweep.specs.Sweep.{step, startRule, started, leftBy, advanced, turn, stepped};
+ghost use Rattle.sweep.specs.inner.Numbers.{closedRule, cutRule, spaceRule, scanRule};
 use reading::Scanned;
 use refusal::Refusal;
 use text::Feature;
@@ -77,7 +77,7 @@ fn space_rule(collected: usize, size: usize, room: usize) -> Refusal
 
 // How many bytes stand behind the header, up to end.
 fn behind_header(end: usize) -> usize
-    ensures { λ r. ⌜ r ≡ end - 8 ⌝ }
+    ensures { λ r. ⌜ r ≡ end - headerLength ⌝ }
 {
     if end < Header::LENGTH {
         return 0;
@@ -89,18 +89,6 @@ impl Sweep {
     // The most responses that a started sweep accepts.
     pub const MOST_COMMANDS: u32 = 65536;
 
-    fn open_rule(self) -> Refusal
-        ensures { λ r. ⌜ r ≡ openRule self ⌝ }
-    {
-        if self.ended {
-            return refusal::SWEEP_ENDED;
-        }
-        if self.commands >= Sweep::MOST_COMMANDS {
-            return refusal::SWEEP_ENDED;
-        }
-        refusal::ACCEPTED
-    }
-
     // What a record refuses whatever the response.
     fn closed_rule(self) -> Refusal
         ensures { λ r. ⌜ r ≡ closedRule self ⌝ }
@@ -109,7 +97,13 @@ impl Sweep {
         if fault.number != 0 {
             return fault;
         }
-        self.open_rule()
+        if self.ended {
+            return refusal::SWEEP_ENDED;
+        }
+        if self.commands >= Sweep::MOST_COMMANDS {
+            return refusal::SWEEP_ENDED;
+        }
+        refusal::ACCEPTED
     }
 
     // What an open record refuses of a scan.
@@ -137,7 +131,7 @@ impl Sweep {
 
     // A refusal. A cut response with no whole descriptor ends the sweep, any other refusal leaves it as it was.
     fn refused(self, fault: Refusal) -> Step
-        ensures { λ r. ⌜ r ≡ refusedStep fault self ⌝ }
+        ensures { λ r. ⌜ r ≡ step fault (leftBy fault self) ⌝ }
     {
         let mut sweep = self;
         if fault.number == refusal::NONE_WHOLE.number {
@@ -157,7 +151,7 @@ impl Sweep {
     // Asks: fewer than 65,536 commands, and a cut response that does not end at FFFFh, which 26 and 27 have shown before.
     fn moved_on(self, scan: Scanned, collected: usize) -> Sweep
         requires { ⌜ (self .commands < 65536) × (scan .reading .complete ≡ false → scan .last .0 ≡ 65535 → ⊥) ⌝ }
-        ensures { λ r. ⌜ r ≡ moved self scan collected ⌝ }
+        ensures { λ r. ⌜ r ≡ advanced self (not (scan .reading .complete)) (scan .last .0) collected ⌝ }
     {
         let reading = scan.reading;
         let last = scan.last;
@@ -206,8 +200,7 @@ impl Sweep {
 
     // Takes the response to the sweep's next command: its whole descriptors are added behind those collected.
     pub fn take(self, response: &[u8], out: &mut [u8]) -> Step
-        ensures { λ r. ⌜ (r ≡ stepped self (now (response .entry)) (now (out .entry)))
-            × (now (out .exit) ≡ collecting self (now (response .entry)) (now (out .entry))) ⌝ }
+        ensures { λ r. ⌜ turn r (now (out .exit)) ≡ stepped self (now (response .entry)) (now (out .entry)) ⌝ }
     {
         let fault = self.closed_rule();
         if fault.number != 0 {
@@ -230,9 +223,7 @@ impl Sweep {
 
 // The driver's entry with the record lent: the step on what it holds, and the record from then on put back.
 pub fn take_response(record: &mut Sweep, response: &[u8], out: &mut [u8]) -> Refusal
-    ensures { λ r. ⌜ (r ≡ stepped (now («record» .entry)) (now (response .entry)) (now (out .entry)) .refusal)
-        × (now («record» .exit) ≡ stepped (now («record» .entry)) (now (response .entry)) (now (out .entry)) .sweep)
-        × (now (out .exit) ≡ collecting (now («record» .entry)) (now (response .entry)) (now (out .entry))) ⌝ }
+    ensures { λ r. ⌜ turn (step r (now («record» .exit))) (now (out .exit)) ≡ stepped (now («record» .entry)) (now (response .entry)) (now (out .entry)) ⌝ }
 {
     let step = (*record).take(response, out);
     *record = step.sweep;

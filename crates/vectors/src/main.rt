@@ -37,7 +37,7 @@
 //
 // A line of output for each: the title and `ok`, or `WRONG` and what was got, or `UNREADABLE`; last, how many of how many are ok.
 ghost use mathlib.Core.Path.{_≡_};
-ghost use Rattle.sweep.specs.Sweep.{stepped, collecting};
+ghost use Rattle.sweep.specs.Sweep.{turn, stepped};
 use checks::Judgement;
 use libc::STDIN_FILENO;
 use libc::STDOUT_FILENO;
@@ -553,8 +553,7 @@ fn record(n: [u64; 8]) -> Sweep {
 
 // The step by the entry that is lent the record.
 fn lent_step(start: Sweep, response: &[u8], out: &mut [u8]) -> Step
-    ensures { λ r. ⌜ (r ≡ stepped start (now (response .entry)) (now (out .entry)))
-        × (now (out .exit) ≡ collecting start (now (response .entry)) (now (out .entry))) ⌝ }
+    ensures { λ r. ⌜ turn r (now (out .exit)) ≡ stepped start (now (response .entry)) (now (out .entry)) ⌝ }
 {
     let mut record = start;
     let refusal = sweep::take_response(&mut record, response, out);

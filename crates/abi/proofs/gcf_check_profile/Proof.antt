@@ -1,6 +1,6 @@
 -- `abi::gcf_check_profile` meets its contract: each case of the judgement, told. Assumes nothing.
 use Rattle.abi.proofs.Laws.{leaves}
-use Rattle.abi.specs.Left.{showJudged, missingNumbers}
+use Rattle.abi.specs.Left.{showJudged}
 use Rattle.checks.specs.Judge.{said}
 use denote.Ref.{now}
 use mathlib.Core.Path.{ap, sym, _∙_}
@@ -9,15 +9,15 @@ use Rattle.abi.proofs.gcf_check_profile.Statement.{statement}
 use Rattle.abi.proofs.gcf_check_profile.Tie as tie
 
 returns : tie.Need-returns
-unfolding showJudged missingNumbers
+unfolding showJudged
 returns c = leaves (c .before .before .tell2 .ensures) (ap (λ x. showJudged x (now (c .before .before .before .before .before .before .before .before .before .args .numbers))) (ap said (sym (c .before .before .before .before .enum-told .given .1)) ∙ c .before .before .before .before .before .before .check-profile .ensures))
 
 returns-2 : tie.Need-returns-2
-unfolding showJudged missingNumbers
+unfolding showJudged
 returns-2 c = leaves (c .before .before .tell22 .ensures) (ap (λ x. showJudged x (now (c .before .before .before .before .before .before .before .before .before .before .before .args .numbers))) (ap said (sym (c .before .before .before .before .before .before .judgement .given .1)) ∙ c .before .before .before .before .before .before .before .before .check-profile .ensures))
 
 returns-3 : tie.Need-returns-3
-unfolding showJudged missingNumbers
+unfolding showJudged
 returns-3 c = leaves (c .before .before .tell23 .ensures) (ap (λ x. showJudged x (now (c .before .before .before .before .before .before .before .before .before .before .args .numbers))) (ap said (sym (c .before .before .before .before .before .judgement2 .given .1)) ∙ c .before .before .before .before .before .before .before .check-profile .ensures))
 
 pub gcf-check-profile-spec : {M : Type 1} → statement M

@@ -1,13 +1,13 @@
 -- `bench::all_rounds` meets its contract: the loop carries the run from where it stands; a refused round, or the mark that it has ended, ends it.
 use Prim.Native.Nat.{_-_}
 use Rattle.sheet.specs.Meaning.{meaning}
-use Rattle.bench.specs.Bench.{state}
+use Rattle.bench.specs.Bench.{buffers, state}
 use Rattle.bench.proofs.Loop.{Standing, standing-start, standing-room, standing-kept, standing-fault, standing-again, standing-less, standing-ended}
 use Rattle.bench.proofs.all_rounds.Statement.{statement}
 use Rattle.bench.proofs.all_rounds.Tie as tie
 
 abbrev Inv-loop : tie.InvT-loop
-Inv-loop s response₀ collected₀ starts₀ sweep₀ response collected starts sweep = Standing (meaning s) (state sweep₀ response₀ collected₀ starts₀) (state sweep response collected starts)
+Inv-loop s response₀ collected₀ starts₀ sweep₀ response collected starts sweep = Standing (meaning s) (state sweep₀ (buffers response₀ collected₀ starts₀)) (state sweep (buffers response collected starts))
 
 abbrev μ-loop : tie.MeasureT-loop
 μ-loop s response₀ collected₀ starts₀ sweep₀ response collected starts sweep = 65537 - sweep .commands

@@ -3,6 +3,7 @@ use mathlib.Core.Path.{_≡_, sym}
 use native.Mathlib.Omega.{arith}
 use lib.ListN.{length}
 use lib.Seq.{length-take-le}
+use Rattle.bench.specs.Bench.{buffers}
 use Rattle.bench.proofs.Loop.{asked-room, round-short, round-asked}
 use borrow.Author.Needs.{needs}
 use Rattle.bench.proofs.one_round.Statement.{statement}
@@ -28,7 +29,7 @@ returns-2 c =
     let o = c .before .before .before .before .before .before .before .before .before .before .before .before .before .before .before .before .before .before .before .before .before .before .before .before in
     let a = o .args in
     let l : length (c .before .before .take .last .1 .1 .0) ≡ length (a .collected .now) = search needs in
-    round-asked (a .s .now) (a .w) (a .response .now) (a .collected .now) (a .starts .now) (λ i. omega (arith, c .before .before .before .before .before .before .before .before .before .before .before .before .before .before .before .before .before .before .before .before .before .before .before .shared-slice-known .given i)) (o .pre .0) (o .pre .1) (c .before .before .before .before .before .before .before .before .before .before .before .before .before .before .before .before .before .before .if1 .left) (c .before .before .before .before .before .before .before .before .before .before .before .before .before .before .before .note .ensures) (c .before .before .before .before .before .before .before .before .before .before .before .clear .ensures) (c .before .before .before .before .before .before .before .send .ensures) (c .before .before .take .ensures) l
+    round-asked (a .s .now) (a .w) (buffers (a .response .now) (a .collected .now) (a .starts .now)) (λ i. omega (arith, c .before .before .before .before .before .before .before .before .before .before .before .before .before .before .before .before .before .before .before .before .before .before .before .shared-slice-known .given i)) (o .pre .0) (o .pre .1) (c .before .before .before .before .before .before .before .before .before .before .before .before .before .before .before .before .before .before .if1 .left) (c .before .before .before .before .before .before .before .before .before .before .before .before .before .before .before .note .ensures) (c .before .before .before .before .before .before .before .before .before .before .before .clear .ensures) (c .before .before .before .before .before .before .before .send .ensures) (c .before .before .take .ensures) l
 
 pub one-round-spec : {M : Type 1} → statement M
 one-round-spec =

@@ -42,7 +42,7 @@ use denote.Exit.{yes}
 use Rattle.refusal.specs.declared.Refusal.{Refusal}
 use Rattle.sweep.specs.declared.Sweep.{Sweep}
 use Rattle.sweep.specs.declared.Step.{Step}
-use Rattle.sweep.specs.Sweep.{stepped, collecting}
+use Rattle.sweep.specs.Sweep.{Turn, turn, stepped}
 use Rattle.sweep.proofs.Sweep as T
 use Rattle.sweep.proofs.Sweep.Laws as T′
 use Rattle.sweep.proofs.Step as N
@@ -104,12 +104,9 @@ module _ {M : Type 1} (𝓤 : URA M) (H : Heap 𝓤) (A : Atoms 𝓤) (W : Given
   abbrev toks : Item 𝓤
   toks = ‵ (flft κ′ q′) ⊛ ‵ (flft κ″ q″) ⊛ ‵ ftrue
 
-  -- what `take` gives, and what it leaves in the slice
-  abbrev given : Step
+  -- what `take` gives and leaves in the slice
+  abbrev given : Turn
   given = stepped h (x .now) (y .now)
-
-  abbrev left : List ℕ
-  left = collecting h (x .now) (y .now)
 
   -- what `take`'s triple binds outside
   abbrev to-take : Take 𝓤 H A at-mem run .Ghost
@@ -120,12 +117,12 @@ module _ {M : Type 1} (𝓤 : URA M) (H : Heap 𝓤) (A : Atoms 𝓤) (W : Given
       qed W (toks ∷ ‵ OwnX ∷ ‵ OwnY ∷ []) ∵ nothing ! $ move ! (3 ∷ 0 ∷ []) $ fjoin ! $ move ! (2 ∷ 0 ∷ []) $ fjoin ! $
       owned ! T.the-row (Is T.the-row) (LL.makes T.the-type T′.the-plain 𝓤 H A) h _ was $ fjoin ! $ move ! (1 ∷ 0 ∷ []) $ join ! $ frame ! $ done !
 
-  exits : (r : Step) (zs : List ℕ) → (r ≡ given) × (zs ≡ left) → length zs ≡ length (y .now) → Is E.the-row (r .refusal) (answered (r .refusal) ∷ [])
+  exits : (r : Step) (zs : List ℕ) → turn r zs ≡ given → length zs ≡ length (y .now) → Is E.the-row (r .refusal) (answered (r .refusal) ∷ [])
       → ent 𝓤 (⋆ 𝓤 H A (‵ (fobs γ (T.the-row .coded .code (r .sweep))) ∷ ‵ (fbor κ (Body (mem T.the-row) b o γ)) ∷ ‵ (flft κ q) ∷ toks ∷ ‵ OwnX ∷ ‵ (finally u8 (y .name) zs) ∷ [])) (Post (answered (r .refusal)))
   exits r zs e l is =
       qed W (‵ (fobs γ (T.the-row .coded .code (r .sweep))) ∷ ‵ (fbor κ (Body (mem T.the-row) b o γ)) ∷ ‵ (flft κ q) ∷ toks ∷ ‵ OwnX ∷ ‵ (finally u8 (y .name) zs) ∷ []) ∵
       suffices ! _ (ends-at 𝓤 H A f.ended stayed (f.clauses 𝓤 H A at-mem run) W (((κ, (κ′, (κ″, tt))), (q, (q′, (q″, tt))), tt, a, vals), tt) (answered (r .refusal)) (r .refusal) (r .sweep, (tt, (zs, tt))) (tt, (tt, (l, tt)))) $
-      says ! (ap (λ (t : Step). t .refusal) (e .0), ap (λ (t : Step). t .sweep) (e .0), e .1) $
+      says ! e $
       -- [obs; the borrow; the token; the other tokens; response's; the last list]
       move ! (2 ∷ 3 ∷ []) $ join ! $ frame ! $ feqI ! (List Val) (vptr b o ∷ []) (vptr b o ∷ []) refl $ fjoin3 ! $
       -- [record's; response's; the last list]
@@ -155,8 +152,8 @@ module _ {M : Type 1} (𝓤 : URA M) (H : Heap 𝓤) (A : Atoms 𝓤) (W : Given
         calls-at ! fm (Take 𝓤 H A at-mem run) known to-take (and-then ! (load ! (from ! (stop !)) (look ! 11 refl)) (and-then ! (load ! (from ! (stop !)) (look ! 17 refl)) (and-then ! (load ! (from ! (stop !)) (look ! 7 refl)) (no-more !)))) (λ w.
         use1 W (later (some (λ (r : Step). (toks ⊛ ‵ (N.the-row .own r (w ∷ []))) ⊛ raw (ensured 𝓤 H A take.ended (take.clauses 𝓤 H A at-mem run) (κ′, (κ″, tt)) (h, (x, (y, tt))) tt r)))) (id⊢ 𝓤 _) $ await ! tt $ pick ! (λ r.
         -- what `take` ensures, at some last list
-        split ! $ move ! (1 ∷ []) $ use1 W (some (λ (zs : Unit {0} × (Unit {0} × (List ℕ × Unit {0}))). ‵ (lasts take.ended (κ′, (κ″, tt)) (h, (x, (y, tt))) zs) ⊛ raw (fact 𝓤 ((r ≡ given) × (zs .1 .1 .0 ≡ left))))) (id⊢ 𝓤 _) $ pick ! (λ zs.
-        split ! $ move ! (1 ∷ []) $ heard ! ((r ≡ given) × (zs .1 .1 .0 ≡ left)) (λ e. fsplit ! $ drop ! $ fsplit ! $ drop ! $ fsplit ! $ fsplit ! $ move ! (1 ∷ []) $ feqL ! (λ l.
+        split ! $ move ! (1 ∷ []) $ use1 W (some (λ (zs : Unit {0} × (Unit {0} × (List ℕ × Unit {0}))). ‵ (lasts take.ended (κ′, (κ″, tt)) (h, (x, (y, tt))) zs) ⊛ raw (fact 𝓤 (turn r (zs .1 .1 .0) ≡ given)))) (id⊢ 𝓤 _) $ pick ! (λ zs.
+        split ! $ move ! (1 ∷ []) $ heard ! (turn r (zs .1 .1 .0) ≡ given) (λ e. fsplit ! $ drop ! $ fsplit ! $ drop ! $ fsplit ! $ fsplit ! $ move ! (1 ∷ []) $ feqL ! (λ l.
         move ! (2 ∷ []) $ split ! $ move ! (1 ∷ []) $ peeks ! N.the-row (Is N.the-row) (shows 𝓤 H A N.the-row) r (w ∷ []) (λ is.
         let fields = LL.owed N.the-type N′.the-laws r _ is in
         -- [what a step owns; the other tokens; the last list; true; the record's cell; the open borrow; obs; auth; true; response's; _7; …; _6; …; _5; …; _4; …; _3; …; _2; …; _1; …; room for _0; …]

@@ -1,17 +1,21 @@
 -- A step in the numbers of a scan. Assumes nothing: these are definitions.
-use mathlib.Core.Bool.{Bool, true, false}
+use mathlib.Core.Bool.{Bool}
 use Prim.Native.Nat.{ℕ, _+_, _-_}
 use lib.Dec.{ltb, eqb}
 use Rattle.refusal.specs.declared.Refusal.{Refusal}
-use Rattle.text.specs.Response.{most}
+use Rattle.text.specs.Response.{headerLength, most}
 use Rattle.refusal.specs.First.{refuse, accept, _if_else_, _orElse_}
 use Rattle.reading.specs.declared.Scanned.{Scanned}
 use Rattle.sweep.specs.declared.Sweep.{Sweep}
-use Rattle.sweep.specs.Sweep.{startRule, openRule}
+use Rattle.sweep.specs.Sweep.{startRule}
 
 -- 21, 22, 26: what a record refuses whatever the response
 unfoldable pub closedRule : Sweep → Refusal
-closedRule w = startRule (w .rt) (w .allocation) orElse openRule w
+closedRule w =
+    startRule (w .rt) (w .allocation) orElse
+    refuse 26 if w .ended else
+    refuse 26 if ltb 65535 (w .commands) else
+    accept
 
 -- 28, 23, 27: a cut response of so many bytes, with so many whole descriptors, the last numbered last
 unfoldable pub cutRule : (complete : Bool) (received most count last : ℕ) → Refusal
@@ -31,15 +35,4 @@ unfoldable pub scanRule : Sweep → Scanned → (received room : ℕ) → Refusa
 scanRule w x received room =
     x .reading .refusal orElse
     cutRule (x .reading .complete) received (most (w .allocation)) (x .reading .count) (x .last .0) orElse
-    spaceRule (w .collected) (x .reading .end - 8) room
-
--- the record that an accepted scan gives, with so many bytes collected
-unfoldable pub moved : Sweep → Scanned → (collected : ℕ) → Sweep
-moved w x collected = record {
-  rt = w .rt;
-  allocation = w .allocation;
-  next = elim (x .reading .complete) [ true ↦ w .next | false ↦ record { 0 = x .last .0 + 1 } ];
-  commands = w .commands + 1;
-  collected = collected;
-  ended = x .reading .complete;
-}
+    spaceRule (w .collected) (x .reading .end - headerLength) room

@@ -43,9 +43,8 @@ use denote.Triple.Table.{entered, cited}
 use denote.Triple.Walked.{says, Stays, stay-none, stay-none-slice, gave-slice, walkOf, AllGo, goes-none, goes-none-slice, goes-gave-slice, Walks, ends-at, walked, walk-meets}
 use denote.Exit.{yes}
 use Rattle.refusal.specs.declared.Refusal.{Refusal}
-use Rattle.sweep.specs.Sweep.{stepped, collecting}
+use Rattle.sweep.specs.Sweep.{step, Turn, turn, stepped}
 use Rattle.sweep.specs.declared.Sweep.{Sweep}
-use Rattle.sweep.specs.declared.Step.{Step}
 use Rattle.sweep.proofs.Sweep as T
 use Rattle.sweep.proofs.Sweep.Laws as T′
 use Rattle.sweep.proofs.Step as N
@@ -132,12 +131,9 @@ module _ {M : Type 1} (𝓤 : URA M) (H : Heap 𝓤) (A : Atoms 𝓤) (W : Given
   abbrev toks : Item 𝓤
   toks = ‵ (flft κ q) ⊛ ‵ (flft κ′ q′) ⊛ ‵ ftrue
 
-  -- what the callee gives, and what it leaves in the slice
-  abbrev found : Step
+  -- what the callee gives and leaves in the slice
+  abbrev found : Turn
   found = stepped h (x .now) (y .now)
-
-  abbrev left : List ℕ
-  left = collecting h (x .now) (y .now)
 
   -- what the callee's triple binds outside: the local l lent for ν, under the name γ
   abbrev to-lent : ℕ → ℕ → GName → Lent 𝓤 H A at-mem run .Ghost
@@ -146,12 +142,12 @@ module _ {M : Type 1} (𝓤 : URA M) (H : Heap 𝓤) (A : Atoms 𝓤) (W : Given
   goes-lent : (l ν : ℕ) (γ : GName) → ent 𝓤 (⋆ 𝓤 H A ((‵ (flft (ν ∷ []) fullShare) ⊛ toks) ∷ ‵ (owns (MutRef (named 0) (ν ∷ []) T.the-row ∷ ShrSlice (named 1) κ u8 ∷ MutSlice (named 2) κ′ u8 ∷ []) (to-lent l ν γ .0 .3) (to-lent l ν γ .0 .4)) ∷ [])) (Lent 𝓤 H A at-mem run .pre (to-lent l ν γ))
   goes-lent l ν γ = qed W ((‵ (flft (ν ∷ []) fullShare) ⊛ toks) ∷ ‵ (owns (MutRef (named 0) (ν ∷ []) T.the-row ∷ ShrSlice (named 1) κ u8 ∷ MutSlice (named 2) κ′ u8 ∷ []) (to-lent l ν γ .0 .3) (to-lent l ν γ .0 .4)) ∷ []) ∵ join ! $ frame ! $ done !
 
-  exits : (r : Refusal) (s : Sweep) (zs : List ℕ) → (r ≡ found .refusal) × (s ≡ found .sweep) × (zs ≡ left) → length zs ≡ length (y .now) → Is T.the-row h (mach h ∷ []) → Is E.the-row r (answered r ∷ []) → Is T.the-row s (mach s ∷ [])
+  exits : (r : Refusal) (s : Sweep) (zs : List ℕ) → turn (step r s) zs ≡ found → length zs ≡ length (y .now) → Is T.the-row h (mach h ∷ []) → Is E.the-row r (answered r ∷ []) → Is T.the-row s (mach s ∷ [])
       → ent 𝓤 (⋆ 𝓤 H A (toks ∷ ‵ OwnX ∷ ‵ (finally u8 (y .name) zs) ∷ [])) (Post (LL.val N.the-type N′.the-laws (record { refusal = r; sweep = s })))
   exits r s zs e l was is now-is =
       qed W (toks ∷ ‵ OwnX ∷ ‵ (finally u8 (y .name) zs) ∷ []) ∵
       suffices ! _ (ends-at 𝓤 H A f.ended stayed (f.clauses 𝓤 H A at-mem run) W (((κ, (κ′, tt)), (q, (q′, tt)), tt, a, vals), tt) (LL.val N.the-type N′.the-laws (record { refusal = r; sweep = s })) (record { refusal = r; sweep = s }) (tt, (tt, (zs, tt))) (tt, (tt, (l, tt)))) $
-      says ! (λ i. record { refusal = e .0 i; sweep = e .1 i }, e .2) $ frame ! $
+      says ! e $ frame ! $
       -- [response's; the last list]
       nothing ! $ move ! (2 ∷ 0 ∷ []) $ fjoin ! $ move ! (1 ∷ 0 ∷ []) $ fjoin ! $ owned ! T.the-row (Is T.the-row) (LL.makes T.the-type T′.the-plain 𝓤 H A) h _ was $ fjoin ! $ frame ! $
       owned ! N.the-row (Is N.the-row) (LL.makes N.the-type N′.the-plain 𝓤 H A) (record { refusal = r; sweep = s }) _ (LL.owes N.the-type N′.the-laws (record { refusal = r; sweep = s }) (is, (now-is, tt))) $ done !
@@ -177,8 +173,8 @@ module _ {M : Type 1} (𝓤 : URA M) (H : Heap 𝓤) (A : Atoms 𝓤) (W : Given
         calls-at ! fm (Lent 𝓤 H A at-mem run) known (to-lent l₄ ν γ) (and-then ! (load ! (from ! (stop !)) (look ! 9 refl)) (and-then ! (load ! (from ! (stop !)) (look ! 16 refl)) (and-then ! (load ! (from ! (stop !)) (look ! 5 refl)) (no-more !)))) (λ w.
         use1 W (later (some (λ (r : Refusal). ((‵ (flft (ν ∷ []) fullShare) ⊛ toks) ⊛ ‵ (E.the-row .own r (w ∷ []))) ⊛ raw (ensured 𝓤 H A g.ended (g.clauses 𝓤 H A at-mem run) (ν ∷ [], (κ, (κ′, tt))) (ref 𝓤 H A W l₄ ν γ h, (x, (y, tt))) tt r)))) (id⊢ 𝓤 _) $ await ! tt $ pick ! (λ r.
         -- what the callee ensures, at some last record and last list
-        split ! $ move ! (1 ∷ []) $ use1 W (some (λ (ws : Sweep × (Unit {0} × (List ℕ × Unit {0}))). ‵ (lasts g.ended (ν ∷ [], (κ, (κ′, tt))) (ref 𝓤 H A W l₄ ν γ h, (x, (y, tt))) ws) ⊛ raw (fact 𝓤 ((r ≡ found .refusal) × (ws .0 ≡ found .sweep) × (ws .1 .1 .0 ≡ left))))) (id⊢ 𝓤 _) $ pick ! (λ ws.
-        split ! $ move ! (1 ∷ []) $ heard ! ((r ≡ found .refusal) × (ws .0 ≡ found .sweep) × (ws .1 .1 .0 ≡ left)) (λ e. fsplit ! $ move ! (1 ∷ []) $ fsplit ! $ drop ! $ fsplit ! $ fsplit ! $ move ! (1 ∷ []) $ feqL ! (λ l.
+        split ! $ move ! (1 ∷ []) $ use1 W (some (λ (ws : Sweep × (Unit {0} × (List ℕ × Unit {0}))). ‵ (lasts g.ended (ν ∷ [], (κ, (κ′, tt))) (ref 𝓤 H A W l₄ ν γ h, (x, (y, tt))) ws) ⊛ raw (fact 𝓤 (turn (step r (ws .0)) (ws .1 .1 .0) ≡ found)))) (id⊢ 𝓤 _) $ pick ! (λ ws.
+        split ! $ move ! (1 ∷ []) $ heard ! (turn (step r (ws .0)) (ws .1 .1 .0) ≡ found) (λ e. fsplit ! $ move ! (1 ∷ []) $ fsplit ! $ drop ! $ fsplit ! $ fsplit ! $ move ! (1 ∷ []) $ feqL ! (λ l.
         move ! (3 ∷ []) $ split ! $ move ! (1 ∷ []) $ peeks ! E.the-row (Is E.the-row) (shows 𝓤 H A E.the-row) r (w ∷ []) (λ was-given.
         let is : Is E.the-row r (answered r ∷ []) = rw (LL.tells E.the-type E′.the-laws r _ was-given) at was-given in
         -- [the refusal; the tokens; the last list; true; the last record; the loan; response's; _9; …; _8; …; _7; …; _6; …; _5; …; what frees _4; _3; …; _2; …; _1; …; room for _0; …]
