@@ -36,14 +36,11 @@ pub stored : (d : List ℕ) (at x : ℕ) → at < length d → Wrote d at (x ∷
 stored d at x h = record { next = omega arith; holds = refl }
 
 -- a block b that has room, as a copy into the part of d that it fills leaves it
-pub copied : (d b e : List ℕ) (at : ℕ) → at + length b ≤ length d
-    → e ≡ take (length b) b ++ drop (length b) (take (at + length b - at) (drop at d))
+pub copied : (d b e : List ℕ) (at : ℕ) → at + length b ≤ length d → e ≡ b
     → Wrote d at b (at + length b) (take at d ++ (e ++ drop (at + length b - at) (drop at d)))
 copied d b e at h k =
     let n : at + length b - at ≡ length b = omega arith in
-    let l : length (take (length b) (drop at d)) ≤ length b = omega (arith, length-take (length b) (drop at d)) in
-    let s : e ≡ b = k ∙ rw (n, take-length, drop-of-length-le (take (length b) (drop at d)) l) (append-nil b) in
-    record { next = omega arith; holds = rw (s, n, drop-drop, sets-eq b d at h) (sym (append-assoc (take at d) b (drop (at + length b) d))) }
+    record { next = omega arith; holds = rw (k, n, drop-drop, sets-eq b d at h) (sym (append-assoc (take at d) b (drop (at + length b) d))) }
 
 -- ---- what a writing leaves
 

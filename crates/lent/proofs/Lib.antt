@@ -3,3 +3,4 @@ pub mod Sets
 pub mod Laws
 pub mod Decides
 pub mod Maker
+pub mod Copying

@@ -2,10 +2,14 @@
 // index behind what it wrote.
 ghost use mathlib.Core.Path.{_≡_};
 ghost use mathlib.Core.List.{[], _∷_};
+ghost use Prim.Native.Nat.{_+_, _≤_};
 ghost use lib.ListN.{length, replicate};
 ghost use Rattle.fields.specs.Field.{spell};
 ghost use Rattle.lent.specs.Wrote.{Wrote};
 ghost use Rattle.lent.specs.Maker.{refused, written};
+
+mod blocks;
+
 use refusal::Refusal;
 
 // What a maker answers, a function that writes into lent memory or refuses: the refusal or none, and how many bytes it wrote.
@@ -63,7 +67,18 @@ pub fn put4(out: &mut [u8], at: usize, v: u32) -> usize
     put2(out, a, (v % 65536) as u16)
 }
 
-// Copies a part of something else, by blocks.
+// Copies a part of something else to where there is room for it.
+// Asks: room for all of the part; whoever copies has looked at the buffer's length.
+pub fn place(out: &mut [u8], at: usize, part: &[u8]) -> usize
+    requires { ⌜ at + length (now part) ≤ length (now out) ⌝ }
+    ensures { λ r. ⌜ Wrote (now (out .entry)) at (now (part .entry)) r (now (out .exit)) ⌝ }
+{
+    let end = at + part.len();
+    blocks::fill(part, &mut out[at..end]);
+    end
+}
+
+// Copies a part of something else.
 pub fn copy(out: &mut [u8], at: usize, part: &[u8]) -> usize
     ensures { λ r. ⌜ Wrote (now (out .entry)) at (now (part .entry)) r (now (out .exit)) ⌝ }
 {
@@ -71,9 +86,7 @@ pub fn copy(out: &mut [u8], at: usize, part: &[u8]) -> usize
         return at;
     }
     let block = fields::part(part, 0, out.len() - at);
-    let end = at + block.len();
-    bytes::copy(block, &mut out[at..end]);
-    end
+    place(out, at, block)
 }
 
 // Notes a sixteen-bit number in a list of them.

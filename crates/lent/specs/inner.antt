@@ -1,0 +1,2 @@
+-- What only the copying by blocks speaks of.
+pub mod Same

@@ -1,0 +1,108 @@
+// Copying by blocks. A block goes through a local array, so that all of it is read before any of it is written: the compiler then moves it through a register,
+// and need not look whether the two overlap.
+ghost use mathlib.Core.Path.{_≡_};
+ghost use Prim.Native.Nat.{_+_, _≤_};
+ghost use lib.ListN.{length};
+ghost use Rattle.lent.specs.inner.Same.{Same};
+
+// Copies the 4 bytes of s from index i on to the same place.
+// Asks: a buffer as long as s that agrees with it up to i, and 4 bytes left, which the walk has shown before.
+fn block4(s: &[u8], i: usize, out: &mut [u8])
+    requires { ⌜ Same (now s) i (now out) × (i + 4 ≤ length (now s)) ⌝ }
+    ensures { λ _. ⌜ Same (now (s .entry)) (i + 4) (now (out .exit)) ⌝ }
+{
+    let mut block = [0u8; 4];
+    let end = i + 4;
+    bytes::copy(&s[i..end], &mut block);
+    bytes::copy(&block, &mut out[i..end]);
+}
+
+// Copies the 16 bytes of s from index i on to the same place.
+// Asks: a buffer as long as s that agrees with it up to i, and 16 bytes left, which the walk has shown before.
+fn block16(s: &[u8], i: usize, out: &mut [u8])
+    requires { ⌜ Same (now s) i (now out) × (i + 16 ≤ length (now s)) ⌝ }
+    ensures { λ _. ⌜ Same (now (s .entry)) (i + 16) (now (out .exit)) ⌝ }
+{
+    let mut block = [0u8; 16];
+    let end = i + 16;
+    bytes::copy(&s[i..end], &mut block);
+    bytes::copy(&block, &mut out[i..end]);
+}
+
+// Copies the 64 bytes of s from index i on to the same place.
+// Asks: a buffer as long as s that agrees with it up to i, and 64 bytes left, which the walk has shown before.
+fn block64(s: &[u8], i: usize, out: &mut [u8])
+    requires { ⌜ Same (now s) i (now out) × (i + 64 ≤ length (now s)) ⌝ }
+    ensures { λ _. ⌜ Same (now (s .entry)) (i + 64) (now (out .exit)) ⌝ }
+{
+    let second = i + 16;
+    let third = second + 16;
+    let fourth = third + 16;
+    block16(s, i, out);
+    block16(s, second, out);
+    block16(s, third, out);
+    block16(s, fourth, out);
+}
+
+// Copies s over a buffer of its length, 4 bytes at a time. The last ones may be copied once more.
+// Asks: a buffer of that length, and 4 bytes or more; `fill` has looked at the length.
+fn by4(s: &[u8], out: &mut [u8])
+    requires { ⌜ (length (now out) ≡ length (now s)) × (4 ≤ length (now s)) ⌝ }
+    ensures { λ _. ⌜ now (out .exit) ≡ now (s .entry) ⌝ }
+{
+    let mut i = 0;
+    while 4 < s.len() - i {
+        block4(s, i, out);
+        i += 4;
+    }
+    block4(s, s.len() - 4, out);
+}
+
+// Copies s over a buffer of its length, 16 bytes at a time.
+// Asks: a buffer of that length, and 16 bytes or more; `fill` has looked at the length.
+fn by16(s: &[u8], out: &mut [u8])
+    requires { ⌜ (length (now out) ≡ length (now s)) × (16 ≤ length (now s)) ⌝ }
+    ensures { λ _. ⌜ now (out .exit) ≡ now (s .entry) ⌝ }
+{
+    let mut i = 0;
+    while 16 < s.len() - i {
+        block16(s, i, out);
+        i += 16;
+    }
+    block16(s, s.len() - 16, out);
+}
+
+// Copies s over a buffer of its length, 64 bytes at a time.
+// Asks: a buffer of that length, and 64 bytes or more; `fill` has looked at the length.
+fn by64(s: &[u8], out: &mut [u8])
+    requires { ⌜ (length (now out) ≡ length (now s)) × (64 ≤ length (now s)) ⌝ }
+    ensures { λ _. ⌜ now (out .exit) ≡ now (s .entry) ⌝ }
+{
+    let mut i = 0;
+    while 64 < s.len() - i {
+        block64(s, i, out);
+        i += 64;
+    }
+    block64(s, s.len() - 64, out);
+}
+
+// Copies s over a buffer of its length, by blocks as large as there are bytes for.
+// Asks: a buffer of that length; `place` cuts it so.
+pub fn fill(s: &[u8], out: &mut [u8])
+    requires { ⌜ length (now out) ≡ length (now s) ⌝ }
+    ensures { λ _. ⌜ now (out .exit) ≡ now (s .entry) ⌝ }
+{
+    if s.len() < 4 {
+        bytes::copy(s, out);
+        return;
+    }
+    if s.len() < 16 {
+        by4(s, out);
+        return;
+    }
+    if s.len() < 64 {
+        by16(s, out);
+        return;
+    }
+    by64(s, out);
+}
