@@ -1,6 +1,6 @@
-// Big-endian fields of a slice, read. A byte behind the end reads as 0, so every read is total.
+// Big-endian fields of a slice, read. A byte behind the end reads as 0; the accessors named `inside` are for a slice that has the bytes, and look at no end.
 ghost use mathlib.Core.Path.{_≡_};
-ghost use Prim.Native.Nat.{_-_, _<_};
+ghost use Prim.Native.Nat.{_+_, _-_, _≤_, _<_};
 ghost use lib.ListN.{length, getD, take, drop};
 ghost use Rattle.fields.specs.Field.{field};
 ghost use Rattle.fields.specs.Part.{PartOf};
@@ -15,14 +15,36 @@ pub fn byte(s: &[u8], at: usize) -> u8
     0
 }
 
-// The byte at an index that the slice has.
-// Asks: an index that the slice has; the bytes left were counted before.
-fn inside(s: &[u8], at: usize) -> u8
+// ---- of a slice that has the bytes
+
+// Asks: an index that the slice has; whoever reads has looked at its length.
+pub fn inside(s: &[u8], at: usize) -> u8
     requires { ⌜ at < length (now s) ⌝ }
     ensures { λ r. ⌜ r ≡ getD (now (s .entry)) at 0 ⌝ }
 {
     s[at]
 }
+
+// Asks: a slice that has the two bytes; whoever reads has looked at its length.
+pub fn inside2(s: &[u8], at: usize) -> u16
+    requires { ⌜ at + 2 ≤ length (now s) ⌝ }
+    ensures { λ r. ⌜ r ≡ field 2 (now (s .entry)) at ⌝ }
+{
+    inside(s, at) as u16 * 256 + inside(s, at + 1) as u16
+}
+
+// Asks: a slice that has the four bytes; whoever reads has looked at its length.
+pub fn inside4(s: &[u8], at: usize) -> u32
+    requires { ⌜ at + 4 ≤ length (now s) ⌝ }
+    ensures { λ r. ⌜ r ≡ field 4 (now (s .entry)) at ⌝ }
+{
+    inside(s, at) as u32 * 16777216
+        + inside(s, at + 1) as u32 * 65536
+        + inside(s, at + 2) as u32 * 256
+        + inside(s, at + 3) as u32
+}
+
+// ---- of any slice
 
 // How many bytes there are from an index on.
 fn left(s: &[u8], at: usize) -> usize
@@ -39,7 +61,7 @@ pub fn get2(s: &[u8], at: usize) -> u16
     ensures { λ r. ⌜ r ≡ field 2 (now (s .entry)) at ⌝ }
 {
     if 2 <= left(s, at) {
-        return inside(s, at) as u16 * 256 + inside(s, at + 1) as u16;
+        return inside2(s, at);
     }
     // the last byte lies behind the end, and so in the wider fields
     byte(s, at) as u16 * 256
@@ -62,10 +84,7 @@ pub fn get4(s: &[u8], at: usize) -> u32
     ensures { λ r. ⌜ r ≡ field 4 (now (s .entry)) at ⌝ }
 {
     if 4 <= left(s, at) {
-        return inside(s, at) as u32 * 16777216
-            + inside(s, at + 1) as u32 * 65536
-            + inside(s, at + 2) as u32 * 256
-            + inside(s, at + 3) as u32;
+        return inside4(s, at);
     }
     get3(s, at) * 256
 }

@@ -34,7 +34,7 @@ fn listed(b: &[u8], number: Profile, n: usize) -> bool
 {
     let mut i = 0;
     while i < n {
-        if fields::get2(b, 4 * i) == number.0 {
+        if fields::inside2(b, 4 * i) == number.0 {
             return true;
         }
         i += 1;
@@ -47,10 +47,10 @@ fn record_fault(b: &[u8], i: usize) -> Refusal
     requires { ⌜ i < length (now b) / 4 ⌝ }
     ensures { λ r. ⌜ r ≡ recordFault (now (b .entry)) i ⌝ }
 {
-    let number = Profile(fields::get2(b, 4 * i));
+    let number = Profile(fields::inside2(b, 4 * i));
     let before = listed(b, number, i);
-    let current = fields::byte(b, 4 * i + 2);
-    let last = fields::byte(b, 4 * i + 3);
+    let current = fields::inside(b, 4 * i + 2);
+    let last = fields::inside(b, 4 * i + 3);
     rule(number, before, current, last)
 }
 
@@ -77,8 +77,8 @@ pub fn current(b: &[u8]) -> Profile
     let n = b.len() / 4;
     let mut i = 0;
     while i < n {
-        if fields::byte(b, 4 * i + 2) % 2 == 1 {
-            return Profile(fields::get2(b, 4 * i));
+        if fields::inside(b, 4 * i + 2) % 2 == 1 {
+            return Profile(fields::inside2(b, 4 * i));
         }
         i += 1;
     }

@@ -1,12 +1,9 @@
--- `fields::get2` meets its contract: byte by byte where the slice has all of them, else by the law of a field whose last byte lies behind the end.
-use Rattle.fields.proofs.Laws.{field-one, field-last, field-short}
+-- `fields::get2` meets its contract: where the slice has not all of the bytes, by the law of a field whose last byte lies behind the end.
+use Rattle.fields.proofs.Laws.{field-one, field-short}
 use native.Mathlib.Omega.{arith}
 use borrow.Author.Needs.{needs}
 use Rattle.fields.proofs.get2.Statement.{statement}
 use Rattle.fields.proofs.get2.Tie as tie
-
-returns : tie.Need-returns
-returns c = let a = c .before .before .before .before .before .args in omega (arith, field-last 1 (a .s .now) (a .at), field-one (a .s .now) (a .at))
 
 returns-2 : tie.Need-returns-2
 returns-2 c = let a = c .before .before .before .before .args in omega (arith, field-short 1 (a .s .now) (a .at) (omega arith), field-one (a .s .now) (a .at))
@@ -14,4 +11,4 @@ returns-2 c = let a = c .before .before .before .before .args in omega (arith, f
 pub get2-spec : {M : Type 1} → statement M
 get2-spec =
     tie.close
-    (tie.spec (λ c κs. search needs) (λ c κs. search needs) (λ c. search needs) (λ c. search needs) (λ c. search needs) (λ c κs. search needs) (λ c. search needs) (λ c. search needs) returns (λ c κs. search needs) (λ c. search needs) (λ c. search needs) returns-2)
+    (tie.spec (λ c κs. search needs) (λ c κs. search needs) (λ c. search needs) (λ c κs. search needs) (λ c. search needs) (λ c. search needs) returns-2)
