@@ -18,7 +18,7 @@ use Rattle.reading.specs.Places.{nextAt}
 use Rattle.reading.specs.Completed.{completed}
 use Rattle.layout.specs.Layout as layout
 use Rattle.sheet.specs.Check.{flagsRule, endBefore}
-use Rattle.sheet.specs.Search.{firstFrom}
+use Rattle.sheet.specs.inner.Search.{firstFrom}
 use Rattle.fields.proofs.byte as byte
 use Rattle.fields.proofs.get2 as get2
 use Rattle.fields.proofs.get3 as get3

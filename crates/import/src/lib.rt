@@ -18,7 +18,7 @@ fn put_entry(sheet: &mut [u8], at: usize, s: &[u8], place: usize, offset: u32) -
     let body = reading::body_at(s, place);
     let number = reading::number_at(s, place);
     let flags = reading::flags_at(s, place);
-    layout::put_entry(sheet, at, number, flags.0, body.len() as u8, offset)
+    layout::put_entry(sheet, at, number, flags, body.len() as u8, offset)
 }
 
 // The entries of the descriptors from a place on, and their bodies: both in one pass.

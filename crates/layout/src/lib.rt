@@ -1,9 +1,13 @@
 // Where a drive sheet's fields stand, read and written: nothing above this crate knows the layout of an entry. A field behind the sheet's end reads as 0.
 ghost use mathlib.Core.Path.{_≡_};
+ghost use Prim.Native.Nat.{_+_, _≤_};
+ghost use lib.ListN.{length};
 ghost use Rattle.fields.specs.Part.{PartOf};
 ghost use Rattle.lent.specs.Wrote.{Wrote};
-ghost use Rattle.layout.specs.Layout.{featureCount, profileCount, profilesBehind, bodiesAt, profilesAt, number, flags, bodyLength, offset, countsBytes, entryBytes, profilesPart};
+ghost use Rattle.layout.specs.Layout.{featureCount, profileCount, profilesBehind, entryAt, bodiesAt, profilesAt, number, flags, bodyLength, offset, countsBytes, entryBytes, profilesPart};
+ghost use Rattle.layout.specs.inner.Entry.{entryOf, headPart};
 use text::Feature;
+use text::Flags;
 
 pub fn feature_count(s: &[u8]) -> u16
     ensures { λ r. ⌜ r ≡ featureCount (now (s .entry)) ⌝ }
@@ -31,6 +35,48 @@ pub fn bodies_at(s: &[u8]) -> usize
     4 + 8 * (feature_count(s) as usize) + 4 * (profile_count(s) as usize)
 }
 
+// ---- an entry
+
+pub struct Entry {
+    pub number: Feature,
+    pub flags: Flags,
+    pub length: u8,
+    pub offset: u32,
+}
+
+// Where entry i ends.
+pub fn entry_end(i: u16) -> usize
+    ensures { λ r. ⌜ r ≡ entryAt i + 8 ⌝ }
+{
+    4 + 8 * (i as usize) + 8
+}
+
+// Entry i, with no look at the sheet's end.
+// Asks: a sheet that has the entry; its length was held to `entry_end` or `bodies_at` before.
+pub fn entry_in(s: &[u8], i: u16) -> Entry
+    requires { ⌜ entryAt i + 8 ≤ length (now s) ⌝ }
+    ensures { λ r. ⌜ r ≡ entryOf (now (s .entry)) i ⌝ }
+{
+    let at = 4 + 8 * (i as usize);
+    Entry {
+        number: Feature(fields::inside2(s, at)),
+        flags: Flags(fields::inside(s, at + 2)),
+        length: fields::inside(s, at + 3),
+        offset: fields::inside4(s, at + 4),
+    }
+}
+
+// Number, flags and body length of entry i as they stand, which is how a descriptor starts.
+// Asks: a sheet that has the entry; its length was held to `entry_end` before.
+pub fn head_part(s: &[u8], i: u16) -> &[u8]
+    requires { ⌜ entryAt i + 8 ≤ length (now s) ⌝ }
+    ensures { λ r. ⌜ PartOf (s .entry) (entryAt i) (headPart (now (s .entry)) i) r × (length (now r) ≡ 4) ⌝ }
+{
+    let at = 4 + 8 * (i as usize);
+    let end = at + 4;
+    &s[at..end]
+}
+
 // The feature number of entry i.
 pub fn feature_at(s: &[u8], i: u16) -> Feature
     ensures { λ r. ⌜ r .0 ≡ number (now (s .entry)) i ⌝ }
@@ -38,10 +84,10 @@ pub fn feature_at(s: &[u8], i: u16) -> Feature
     Feature(fields::get2(s, 4 + 8 * (i as usize)))
 }
 
-pub fn flags_at(s: &[u8], i: u16) -> u8
-    ensures { λ r. ⌜ r ≡ flags (now (s .entry)) i ⌝ }
+pub fn flags_at(s: &[u8], i: u16) -> Flags
+    ensures { λ r. ⌜ r .0 ≡ flags (now (s .entry)) i ⌝ }
 {
-    fields::byte(s, 4 + 8 * (i as usize) + 2)
+    Flags(fields::byte(s, 4 + 8 * (i as usize) + 2))
 }
 
 pub fn length_at(s: &[u8], i: u16) -> u8
@@ -69,14 +115,14 @@ pub fn put_entry(
     out: &mut [u8],
     at: usize,
     number: Feature,
-    flags: u8,
+    flags: Flags,
     len: u8,
     offset: u32,
 ) -> usize
-    ensures { λ r. ⌜ Wrote (now (out .entry)) at (entryBytes (number .0) flags len offset) r (now (out .exit)) ⌝ }
+    ensures { λ r. ⌜ Wrote (now (out .entry)) at (entryBytes (number .0) (flags .0) len offset) r (now (out .exit)) ⌝ }
 {
     let a = lent::put2(out, at, number.0);
-    let b = lent::put(out, a, flags);
+    let b = lent::put(out, a, flags.0);
     let c = lent::put(out, b, len);
     lent::put4(out, c, offset)
 }

@@ -3,8 +3,7 @@ use mathlib.Core.Path.{_≡_, refl, sym, ap, _∙_}
 use mathlib.Core.Logic.{⊎-elim}
 use mathlib.Core.Bool.{Bool, true, false, not, _&&_, true≢false, and-eq-true-iff}
 use mathlib.Core.List.{List, [], _∷_, append-nil}
-use Prim.Native.Nat.{ℕ, zero, suc, _+_, _-_, _%_, _≤_, _<_}
-use native.Mathlib.Nat.{mod-lt}
+use Prim.Native.Nat.{ℕ, zero, suc, _+_, _-_, _≤_, _<_}
 use native.Mathlib.Omega.{arith}
 use lib.Dec.{ltb, eqb}
 use borrow.Author.Tests.{le-leb, eq-eqb, ne-eqb, lt-ltb, ltb-true, eqb-true}
@@ -35,14 +34,13 @@ skips-none rt f h = rw (ne-eqb rt 1 h)
 passes-all : (rt : ℕ) (d : Desc) → (rt ≡ 1 → ⊥) → true ≡ passes rt d
 passes-all rt d h = ap not (sym (skips-none rt (d .flags) h))
 
-two-cases : (n : ℕ) → n < 2 → eqb n 1 ≡ not (eqb n 0)
-two-cases zero h = refl
-two-cases (suc zero) h = refl
-two-cases (suc (suc n)) h = absurd (omega arith)
+twice : (b : Bool) → b ≡ not (not b)
+twice true = refl
+twice false = refl
 
 passes-current : (d : Desc) → eqb (text.current (d .flags)) 1 ≡ passes 1 d
 unfolding skips
-passes-current d = two-cases (d .flags % 2) (mod-lt (d .flags) (omega arith))
+passes-current d = twice (eqb (text.current (d .flags)) 1)
 
 -- ---- the bytes of the entries in a range
 

@@ -18,8 +18,7 @@ use Rattle.sheet.specs.Facts.{Facts}
 use Rattle.sheet.specs.Meaning.{meaning}
 use Rattle.sheet.proofs.Accepted.{facts}
 use Rattle.sheet.proofs.Meaning.{meaning-fine}
-use Rattle.responder.specs.inner.Index.{wantedEnd, pieces, zeroPart, takenFrom, takenTo, takenSize, fullBytes}
-use Rattle.responder.specs.Trusting.{foundBytes}
+use Rattle.responder.specs.inner.Index.{wantedEnd, pieces, zeroPart, takenFrom, takenTo, takenSize, fullBytes, foundBytes}
 use Rattle.sheet.proofs.Bisection.{First, first-from}
 use Rattle.responder.proofs.Zero.{zero-bytes, current-from}
 use Rattle.responder.proofs.Chosen.{chosen-ordered, chosen-within, chosen}

@@ -1,16 +1,20 @@
 -- The response by index, case by case and turn by turn: what the box's functions and loops need. Assumes nothing.
-use mathlib.Core.Path.{_≡_, refl, ap, _∙_}
-use mathlib.Core.Bool.{true, false}
+use mathlib.Core.Path.{_≡_, refl, sym, ap, _∙_}
+use mathlib.Core.Bool.{Bool, true, false, _&&_, and-eq-true-iff}
 use mathlib.Core.List.{List, [], _++_}
 use Prim.Native.Nat.{ℕ, zero, suc, _+_, _-_, _*_, _≤_, _<_}
 use native.Mathlib.Nat.{add-zero, add-suc}
 use native.Mathlib.Omega.{arith}
-use lib.ListN.{length}
-use borrow.Author.Tests.{lt-ltb, le-ltb, eq-eqb, ne-eqb}
+use lib.Dec.{leb}
+use lib.ListN.{length, take, drop, length-take}
+use borrow.Author.Tests.{leb-true, lt-ltb, le-ltb, eq-eqb, ne-eqb}
 use Rattle.base.specs.Lists.{Bytes}
 use Rattle.fields.proofs.Laws.{field-lt}
 use Rattle.lent.specs.Wrote.{Wrote}
 use Rattle.lent.proofs.Laws.{nowhere, then}
+use Rattle.layout.specs.declared.Entry.{Entry}
+use Rattle.layout.specs.inner.Entry.{entryOf, headPart}
+use Rattle.layout.proofs.Laws.{head-spelt}
 use Rattle.layout.specs.Layout.{featureCount, profileCount, entryAt, number, flags, bodyLength, offset}
 use Rattle.sheet.specs.Check.{endBefore}
 use Rattle.responder.specs.inner.Index.{wantedEnd, skips, descBytes, piece, pieces, pieceSize, piecesSize, span, entriesSize, zeroBytes, zeroPart, zeroSize}
@@ -33,6 +37,24 @@ module _ (rt : ℕ) (s : List ℕ) (i : ℕ) where
   pub size-some : skips rt (flags s i) ≡ false → pieceSize rt s i ≡ 4 + bodyLength s i
   unfolding pieceSize
   size-some e = rw (e, pieceSize)
+
+-- where it fits, an entry is there and its descriptor has room
+pub fits-both : (s : List ℕ) (i room : ℕ) {r : Bool} → r ≡ (leb (entryAt i + 8) (length s) && leb (4 + bodyLength s i) room) → r ≡ true
+    → (entryAt i + 8 ≤ length s) × (4 + bodyLength s i ≤ room)
+fits-both s i room p q =
+    let e = and-eq-true-iff (leb (entryAt i + 8) (length s)) (leb (4 + bodyLength s i) room) .0 (sym p ∙ q) in
+    (leb-true (entryAt i + 8) (length s) (e .0), leb-true (4 + bodyLength s i) room (e .1))
+
+module _ (s : List ℕ) (i : ℕ) (e : Entry) (body : List ℕ) (h : e ≡ entryOf s i) (r : body ≡ take (e .length) (drop (e .offset) s)) where
+  -- the body of an entry that was read is no longer than the entry says
+  pub body-short : length body ≤ bodyLength s i
+  unfolding entryOf
+  body-short = omega (arith, ap length r, length-take (e .length) (drop (e .offset) s), ap (λ (e : Entry). e .length) h)
+
+  -- and behind the head as it stands it is the descriptor
+  pub whole-bytes : (head : List ℕ) → Bytes s → entryAt i + 8 ≤ length s → head ≡ headPart s i → head ++ body ≡ descBytes s i
+  unfolding descBytes entryOf
+  whole-bytes head k l q j = (q ∙ sym (head-spelt s i k l)) j ++ (r ∙ ap (λ (e : Entry). take (e .length) (drop (e .offset) s)) h) j
 
 -- ---- a loop over entries, at index i from `from` on
 

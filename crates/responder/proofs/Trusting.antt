@@ -27,8 +27,8 @@ use Rattle.sheet.specs.Check.{verdict, Accepted}
 use Rattle.sheet.specs.Meaning.{meaning}
 use Rattle.responder.specs.declared.Plan.{Plan}
 use Rattle.responder.specs.Answer.{due, requested, commanded, answered}
-use Rattle.responder.specs.inner.Index.{plan, fullBytes}
-use Rattle.responder.specs.Trusting.{foundBytes, limit, trusting, trustingCommand}
+use Rattle.responder.specs.inner.Index.{plan, fullBytes, foundBytes, limit}
+use Rattle.responder.specs.Trusting.{trusting, trustingCommand}
 use Rattle.responder.proofs.Full.{found-length, found-full}
 
 -- ---- sending from a plan

@@ -1,24 +1,13 @@
 -- What a box answers that does not check its sheet: defined for any bytes, by index of the sheet's entries. From an accepted sheet it is the answer of
 -- `Answer` (`trusting-accepted`). Assumes nothing: these are definitions.
 use mathlib.Core.List.{List}
-use Prim.Native.Nat.{ℕ, _+_, _%_, _^_, min}
+use Prim.Native.Nat.{ℕ}
 use lib.Dec.{ltb}
 use lib.ListN.{length, take}
 use Rattle.refusal.specs.First.{refuse, accept, _if_else_, unless}
 use Rattle.lent.specs.Maker.{Outcome, refusing, making}
 use Rattle.text.specs.Command.{commandFault, rtOf, sfnOf, allocationOf}
-use Rattle.text.specs.Response.{currentProfile}
-use Rattle.profiles.specs.Profiles.{profilesOf}
-use Rattle.layout.specs.Layout.{profilesPart}
-use Rattle.responder.specs.inner.Index.{fullBytes, takenFrom, takenTo, takenSize}
-
--- the response that the sheet's counts, numbers and offsets give; Data Length keeps its four bytes
-unfoldable pub foundBytes : (s : List ℕ) (rt sfn : ℕ) → List ℕ
-foundBytes s rt sfn = fullBytes s rt sfn (takenFrom s sfn) (takenTo s rt sfn) ((takenSize s rt sfn + 4) % 2 ^ 32) (currentProfile (profilesOf (profilesPart s)))
-
--- how many bytes of it are due
-unfoldable pub limit : (s : List ℕ) (rt sfn a : ℕ) → ℕ
-limit s rt sfn a = min (min a 65534) (8 + takenSize s rt sfn)
+use Rattle.responder.specs.inner.Index.{foundBytes, limit}
 
 -- the answer to a request: 12 where the buffer is shorter than what is due, else what is due, or all there is where that is less
 unfoldable pub trusting : (s : List ℕ) (rt sfn a : ℕ) (d : List ℕ) → Outcome

@@ -1,15 +1,20 @@
 // The box: a sheet, a command and a lent buffer in; the refusal or the count of bytes sent out.
 ghost use mathlib.Core.Path.{_≡_};
+ghost use mathlib.Core.Bool.{_&&_};
 ghost use Prim.Native.Nat.{_+_, _-_, _*_, _%_, _^_, _≤_, _<_, min};
+ghost use lib.Dec.{leb};
+ghost use lib.ListN.{length};
+ghost use Rattle.layout.specs.Layout.{entryAt, bodyLength};
 ghost use Rattle.lent.specs.Wrote.{Wrote};
 ghost use Rattle.text.specs.Response.{header};
 ghost use Rattle.lent.specs.Maker.{outcome};
 ghost use Rattle.responder.specs.Answer.{answered};
 ghost use Rattle.responder.specs.Trusting.{trusting, trustingCommand};
-ghost use Rattle.responder.specs.inner.Index.{wantedEnd, skips, descBytes, piece, pieces, pieceSize, piecesSize, span, entriesSize, zeroBytes, zeroPart, zeroSize, plan, fullBytes};
+ghost use Rattle.responder.specs.inner.Index.{wantedEnd, skips, descOf, descBytes, piece, pieces, pieceSize, piecesSize, span, entriesSize, zeroBytes, zeroPart, zeroSize, plan, fullBytes};
 use lent::Made;
 use text::Command;
 use text::Feature;
+use text::Flags;
 use text::Header;
 
 // ---- which entries are wanted
@@ -32,13 +37,13 @@ fn wanted_end(s: &[u8], rt: u8, n: u16, sfn: Feature, from: u16) -> u16
 }
 
 // RT 1 passes over what is not current.
-fn skipped(rt: u8, flags: u8) -> bool
-    ensures { λ r. ⌜ r ≡ skips rt flags ⌝ }
+fn skipped(rt: u8, flags: Flags) -> bool
+    ensures { λ r. ⌜ r ≡ skips rt (flags .0) ⌝ }
 {
     if rt != 1 {
         return false;
     }
-    flags % 2 == 0
+    !flags.current()
 }
 
 // ---- how many bytes they are
@@ -126,25 +131,77 @@ fn planned(s: &[u8], rt: u8, sfn: Feature) -> Plan
 
 // ---- the bytes, as far as the buffer has room
 
-fn put_entry(out: &mut [u8], at: usize, s: &[u8], i: u16) -> usize
-    ensures { λ r. ⌜ Wrote (now (out .entry)) at (descBytes (now (s .entry)) i) r (now (out .exit)) ⌝ }
+// A descriptor, field by field.
+fn put_fields(
+    out: &mut [u8],
+    at: usize,
+    number: Feature,
+    flags: Flags,
+    length: u8,
+    body: &[u8],
+) -> usize
+    ensures { λ r. ⌜ Wrote (now (out .entry)) at (descOf (number .0) (flags .0) length (now (body .entry))) r (now (out .exit)) ⌝ }
 {
-    let feature = layout::feature_at(s, i);
-    let length = layout::length_at(s, i);
-    let body = fields::part(s, layout::offset_at(s, i) as usize, length as usize);
-    let a = lent::put2(out, at, feature.0);
-    let b = lent::put(out, a, layout::flags_at(s, i));
+    let a = lent::put2(out, at, number.0);
+    let b = lent::put(out, a, flags.0);
     let c = lent::put(out, b, length);
     lent::copy(out, c, body)
 }
 
-fn put_piece(out: &mut [u8], at: usize, s: &[u8], rt: u8, i: u16) -> usize
+// An entry's descriptor, whatever the sheet has of the entry and the buffer of room.
+fn put_entry(out: &mut [u8], at: usize, s: &[u8], i: u16) -> usize
+    ensures { λ r. ⌜ Wrote (now (out .entry)) at (descBytes (now (s .entry)) i) r (now (out .exit)) ⌝ }
+{
+    let feature = layout::feature_at(s, i);
+    let flags = layout::flags_at(s, i);
+    let length = layout::length_at(s, i);
+    let body = fields::part(s, layout::offset_at(s, i) as usize, length as usize);
+    put_fields(out, at, feature, flags, length, body)
+}
+
+fn put_slowly(out: &mut [u8], at: usize, s: &[u8], rt: u8, i: u16) -> usize
     ensures { λ r. ⌜ Wrote (now (out .entry)) at (piece rt (now (s .entry)) i) r (now (out .exit)) ⌝ }
 {
     if skipped(rt, layout::flags_at(s, i)) {
         return at;
     }
     put_entry(out, at, s, i)
+}
+
+// Whether the sheet has the entry, and so many bytes are room for its descriptor.
+fn fits(s: &[u8], i: u16, room: usize) -> bool
+    ensures { λ r. ⌜ r ≡ (leb (entryAt i + 8) (length (now (s .entry))) && leb (4 + bodyLength (now (s .entry)) i) room) ⌝ }
+{
+    if s.len() < layout::entry_end(i) {
+        return false;
+    }
+    let e = layout::entry_in(s, i);
+    4 + e.length as usize <= room
+}
+
+// The descriptor as it stands in the sheet, head and body, with no further look at the room.
+// Asks: an entry that the sheet has, and room for its descriptor, which `fits` has shown before.
+fn put_whole(out: &mut [u8], at: usize, s: &[u8], i: u16) -> usize
+    requires { ⌜ (entryAt i + 8 ≤ length (now s)) × (4 + bodyLength (now s) i ≤ length (now out) - at) ⌝ }
+    ensures { λ r. ⌜ Wrote (now (out .entry)) at (descBytes (now (s .entry)) i) r (now (out .exit)) ⌝ }
+{
+    let e = layout::entry_in(s, i);
+    let body = fields::part(s, e.offset as usize, e.length as usize);
+    let a = lent::place(out, at, layout::head_part(s, i));
+    lent::place(out, a, body)
+}
+
+fn put_piece(out: &mut [u8], at: usize, s: &[u8], rt: u8, i: u16) -> usize
+    ensures { λ r. ⌜ Wrote (now (out .entry)) at (piece rt (now (s .entry)) i) r (now (out .exit)) ⌝ }
+{
+    if !fits(s, i, difference(out.len(), at)) {
+        return put_slowly(out, at, s, rt, i);
+    }
+    let e = layout::entry_in(s, i);
+    if skipped(rt, e.flags) {
+        return at;
+    }
+    put_whole(out, at, s, i)
 }
 
 // Stops where the buffer is full.
@@ -168,10 +225,8 @@ fn put_zero(out: &mut [u8], at: usize, s: &[u8]) -> usize
     ensures { λ r. ⌜ Wrote (now (out .entry)) at (zeroBytes (now (s .entry))) r (now (out .exit)) ⌝ }
 {
     let length = 4 * (layout::profile_count(s) as usize) % 256;
-    let a = lent::put2(out, at, 0);
-    let b = lent::put(out, a, 3);
-    let c = lent::put(out, b, length as u8);
-    lent::copy(out, c, layout::profiles_part(s))
+    let body = layout::profiles_part(s);
+    put_fields(out, at, Feature(0), Flags(3), length as u8, body)
 }
 
 fn put_zero_part(out: &mut [u8], at: usize, s: &[u8], sfn: Feature) -> usize

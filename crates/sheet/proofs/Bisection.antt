@@ -7,7 +7,7 @@ use native.Mathlib.Omega.{arith}
 use borrow.Author.Tests.{lt-ltb, le-ltb}
 use Rattle.layout.specs.Layout.{number}
 use Rattle.sheet.specs.declared.Range.{Range}
-use Rattle.sheet.specs.Search.{middle, half, closing, firstFrom}
+use Rattle.sheet.specs.inner.Search.{middle, half, closing, firstFrom}
 
 -- ---- one turn
 

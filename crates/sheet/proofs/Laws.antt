@@ -2,17 +2,15 @@
 use mathlib.Core.Path.{_≡_, refl, ap, _∙_}
 use mathlib.Core.List.{List}
 use Prim.Native.Nat.{ℕ, zero, suc, _+_, _-_, _≤_}
+use native.Mathlib.Numerals.{add-one}
 use native.Mathlib.Omega.{arith}
 use lib.ListN.{length}
 use Rattle.refusal.specs.declared.Refusal.{Refusal}
 use Rattle.refusal.proofs.First.{tests}
-use Rattle.layout.specs.Layout.{featureCount, profileCount, bodiesAt, number, flags, offset, bodyLength}
+use Rattle.layout.specs.declared.Entry.{Entry}
+use Rattle.layout.specs.Layout.{featureCount, profileCount, bodiesAt, offset, bodyLength}
+use Rattle.layout.specs.inner.Entry.{entryOf}
 use Rattle.sheet.specs.Check.{numberBefore, endBefore, entryRule, entryFault, counted, verdict}
-
-pub number-before : (s : List ℕ) (i : ℕ) → (i ≡ 0 → ⊥) → numberBefore s i ≡ number s (i - 1)
-unfolding numberBefore
-number-before s zero h = absurd (h refl)
-number-before s (suc i) h = ap (number s) (omega arith)
 
 pub end-before : (s : List ℕ) (i : ℕ) → (i ≡ 0 → ⊥) → endBefore s i ≡ offset s (i - 1) + bodyLength s (i - 1)
 unfolding endBefore
@@ -24,8 +22,17 @@ pub verdict-counted : (s : List ℕ) → 4 ≤ length s → bodiesAt s ≤ lengt
 unfolding verdict
 verdict-counted s h k = search tests
 
--- the rule at what was carried along from the entry before is the rule at the entry
-pub carried : (s : List ℕ) (i before end : ℕ) (r : Refusal) → before ≡ numberBefore s i → end ≡ endBefore s i
-    → r ≡ entryRule (number s i) before (flags s i) (bodyLength s i) (offset s i) end → r ≡ entryFault s i
-unfolding entryFault
-carried s i before end r p q h = h ∙ (λ j. entryRule (number s i) (p j) (flags s i) (bodyLength s i) (offset s i) (q j))
+-- the rule at entry i as it was read, and at what was carried along from the one before
+pub carried : (s : List ℕ) (i before end : ℕ) (e : Entry) (r : Refusal) → before ≡ numberBefore s i → end ≡ endBefore s i → e ≡ entryOf s i
+    → r ≡ entryRule (e .number .0) before (e .flags .0) (e .length) (e .offset) end → r ≡ entryFault s i
+unfolding entryFault entryOf
+carried s i before end e r p q h k = k ∙ (λ j. entryRule (h j .number .0) (p j) (h j .flags .0) (h j .length) (h j .offset) (q j))
+
+-- what it leaves for the next one
+pub next-number : (s : List ℕ) (i : ℕ) (e : Entry) → e ≡ entryOf s i → e .number .0 ≡ numberBefore s (i + 1)
+unfolding numberBefore entryOf
+next-number s i e h = rw add-one (λ j. h j .number .0)
+
+pub next-end : (s : List ℕ) (i : ℕ) (e : Entry) → e ≡ entryOf s i → e .offset + e .length ≡ endBefore s (i + 1)
+unfolding endBefore entryOf
+next-end s i e h = rw add-one (λ j. h j .offset + h j .length)

@@ -1,10 +1,11 @@
 // The check of a drive sheet, and the search for an entry.
 ghost use mathlib.Core.Path.{_≡_};
-ghost use Prim.Native.Nat.{_<_};
-ghost use Rattle.layout.specs.Layout.{number, flags, bodyLength, offset};
+ghost use Prim.Native.Nat.{_≤_, _<_};
+ghost use lib.ListN.{length};
+ghost use Rattle.layout.specs.Layout.{entryAt};
 ghost use Rattle.refusal.specs.First.{firstOf};
-ghost use Rattle.sheet.specs.Check.{numberBefore, endBefore, flagsRule, entryRule, entryFault, counted, verdict};
-ghost use Rattle.sheet.specs.Search.{half, firstFrom};
+ghost use Rattle.sheet.specs.Check.{endBefore, flagsRule, entryRule, entryFault, counted, verdict};
+ghost use Rattle.sheet.specs.inner.Search.{half, firstFrom};
 use refusal::Refusal;
 use text::Feature;
 use text::Flags;
@@ -49,16 +50,6 @@ fn entry_rule(
 
 // ---- the rules, at each entry
 
-// The feature number before entry i, 0 at the first.
-fn number_before(s: &[u8], i: u16) -> Feature
-    ensures { λ r. ⌜ r .0 ≡ numberBefore (now (s .entry)) i ⌝ }
-{
-    if i == 0 {
-        return Feature(0);
-    }
-    layout::feature_at(s, i - 1)
-}
-
 // Where the body before that of entry i ends.
 pub fn end_before(s: &[u8], i: u16) -> usize
     ensures { λ r. ⌜ r ≡ endBefore (now (s .entry)) i ⌝ }
@@ -69,37 +60,24 @@ pub fn end_before(s: &[u8], i: u16) -> usize
     layout::offset_at(s, i - 1) as usize + layout::length_at(s, i - 1) as usize
 }
 
-// The refusal of entry i, behind an entry with this number and a body that ends here.
-fn entry_fault(s: &[u8], i: u16, before: Feature, end: usize) -> Refusal
-    ensures { λ r. ⌜ r ≡ entryRule (number (now (s .entry)) i) (before .0) (flags (now (s .entry)) i) (bodyLength (now (s .entry)) i) (offset (now (s .entry)) i) end ⌝ }
-{
-    let feature = layout::feature_at(s, i);
-    let flags = Flags(layout::flags_at(s, i));
-    entry_rule(
-        feature,
-        before,
-        flags,
-        layout::length_at(s, i),
-        layout::offset_at(s, i),
-        end,
-    )
-}
-
-// The first refusal of the first n entries. What an entry leaves for the next one is carried along, so that no field is looked up twice.
+// The first refusal of the first n entries. Each is read once; what it leaves for the next one is carried along.
+// Asks: a sheet that has the entries; the check has looked at its length.
 fn entries_fault(s: &[u8], n: u16) -> Refusal
+    requires { ⌜ entryAt n ≤ length (now s) ⌝ }
     ensures { λ r. ⌜ r ≡ firstOf (entryFault (now (s .entry))) 0 n ⌝ }
 {
     let mut i: u16 = 0;
     let mut before = Feature(0);
     let mut end = layout::bodies_at(s);
     while i < n {
-        let fault = entry_fault(s, i, before, end);
+        let e = layout::entry_in(s, i);
+        let fault = entry_rule(e.number, before, e.flags, e.length, e.offset, end);
         if fault.number != 0 {
             return fault;
         }
         i += 1;
-        before = number_before(s, i);
-        end = end_before(s, i);
+        before = e.number;
+        end = e.offset as usize + e.length as usize;
     }
     refusal::ACCEPTED
 }
@@ -107,7 +85,9 @@ fn entries_fault(s: &[u8], n: u16) -> Refusal
 // ---- the check
 
 // The check of a sheet that has room for n entries and p profiles.
+// Asks: a sheet that has the entries; the check has looked at its length.
 fn counted_fault(s: &[u8], n: u16, p: u16) -> Refusal
+    requires { ⌜ entryAt n ≤ length (now s) ⌝ }
     ensures { λ r. ⌜ r ≡ counted (now (s .entry)) n p ⌝ }
 {
     if 63 < p {

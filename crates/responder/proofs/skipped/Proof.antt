@@ -1,4 +1,5 @@
 -- `responder::skipped` meets its contract.
+use borrow.Author.Needs.{needs}
 use Rattle.refusal.proofs.First.{tests}
 use Rattle.responder.specs.inner.Index.{skips}
 use Rattle.responder.proofs.skipped.Statement.{statement}
@@ -10,7 +11,7 @@ returns c = search tests
 
 returns-2 : tie.Need-returns-2
 unfolding skips
-returns-2 c = search tests
+returns-2 c = search (tests, ← c .current .ensures)
 
 pub skipped-spec : {M : Type 1} → statement M
-skipped-spec = tie.close (tie.spec returns returns-2)
+skipped-spec = tie.close (tie.spec returns (λ c κs. search needs) returns-2)

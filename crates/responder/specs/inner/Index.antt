@@ -1,15 +1,16 @@
 -- The response by index of the sheet's entries: what the box's inner functions find, add up and write. Assumes nothing: these are definitions.
-use mathlib.Core.Bool.{Bool, true, false, _&&_}
+use mathlib.Core.Bool.{Bool, true, false, not, _&&_}
 use mathlib.Core.List.{List, [], _∷_, _++_}
-use Prim.Native.Nat.{ℕ, zero, suc, _+_, _-_, _*_, _%_}
+use Prim.Native.Nat.{ℕ, zero, suc, _+_, _-_, _*_, _%_, _^_, min}
 use lib.Dec.{ltb, eqb}
 use lib.ListN.{take, drop}
 use Rattle.fields.specs.Field.{spell}
 use Rattle.text.specs.Flags as text
-use Rattle.text.specs.Response.{header}
+use Rattle.text.specs.Response.{header, currentProfile}
+use Rattle.profiles.specs.Profiles.{profilesOf}
 use Rattle.layout.specs.Layout.{featureCount, profileCount, number, flags, bodyLength, offset, profilesPart}
 use Rattle.sheet.specs.Check.{endBefore}
-use Rattle.sheet.specs.Search.{firstFrom}
+use Rattle.sheet.specs.inner.Search.{firstFrom}
 use Rattle.responder.specs.declared.Plan.{Plan}
 
 -- the end of the wanted entries that start at r: all n, or with RT 2 only entry r if it has the number asked for
@@ -20,11 +21,14 @@ wantedEnd (suc (suc rt)) s n sfn r = elim (ltb r n && eqb (number s r) sfn) [ tr
 
 -- RT 1 passes over what is not current
 unfoldable pub skips : (rt f : ℕ) → Bool
-skips rt f = eqb rt 1 && eqb (text.current f) 0
+skips rt f = eqb rt 1 && not (eqb (text.current f) 1)
 
--- the bytes of entry i's descriptor
+-- a descriptor's bytes from its fields, whatever length it names; those of entry i's
+abbrev pub descOf : (number flags len : ℕ) (body : List ℕ) → List ℕ
+descOf number flags len body = spell 2 number ++ (flags ∷ []) ++ (len ∷ []) ++ body
+
 unfoldable pub descBytes : List ℕ → ℕ → List ℕ
-descBytes s i = spell 2 (number s i) ++ (flags s i ∷ []) ++ (bodyLength s i ∷ []) ++ take (bodyLength s i) (drop (offset s i) s)
+descBytes s i = descOf (number s i) (flags s i) (bodyLength s i) (take (bodyLength s i) (drop (offset s i) s))
 
 unfoldable pub piece : (rt : ℕ) (s : List ℕ) (i : ℕ) → List ℕ
 piece rt s i = elim (skips rt (flags s i)) [ true ↦ [] | false ↦ descBytes s i ]
@@ -51,7 +55,7 @@ entriesSize rt s from to = elim (eqb rt 1) [ true ↦ piecesSize rt s from (to -
 
 -- feature 0, and how many bytes it is: it is sent where SFN is 0
 unfoldable pub zeroBytes : List ℕ → List ℕ
-zeroBytes s = spell 2 0 ++ (3 ∷ []) ++ (4 * profileCount s % 256 ∷ []) ++ profilesPart s
+zeroBytes s = descOf 0 3 (4 * profileCount s % 256) (profilesPart s)
 
 unfoldable pub zeroPart : (s : List ℕ) (sfn : ℕ) → List ℕ
 zeroPart s sfn = elim (eqb sfn 0) [ true ↦ zeroBytes s | false ↦ [] ]
@@ -75,3 +79,11 @@ plan s rt sfn = record { from = takenFrom s sfn; to = takenTo s rt sfn; size = t
 -- a whole response
 unfoldable pub fullBytes : (s : List ℕ) (rt sfn from to len profile : ℕ) → List ℕ
 fullBytes s rt sfn from to len profile = header len profile ++ zeroPart s sfn ++ pieces rt s from (to - from)
+
+-- the response that the sheet's counts, numbers and offsets give; Data Length keeps its four bytes
+unfoldable pub foundBytes : (s : List ℕ) (rt sfn : ℕ) → List ℕ
+foundBytes s rt sfn = fullBytes s rt sfn (takenFrom s sfn) (takenTo s rt sfn) ((takenSize s rt sfn + 4) % 2 ^ 32) (currentProfile (profilesOf (profilesPart s)))
+
+-- how many bytes of it are due
+unfoldable pub limit : (s : List ℕ) (rt sfn a : ℕ) → ℕ
+limit s rt sfn a = min (min a 65534) (8 + takenSize s rt sfn)

@@ -6,7 +6,7 @@ use native.Mathlib.Omega.{arith}
 use Rattle.refusal.specs.First.{firstOf}
 use Rattle.refusal.proofs.First.{rest, first-start, first-stop, first-go, first-none}
 use Rattle.sheet.specs.Check.{numberBefore, endBefore, entryFault}
-use Rattle.sheet.proofs.Laws.{carried}
+use Rattle.sheet.proofs.Laws.{carried, next-number, next-end}
 use Rattle.sheet.proofs.entries_fault.Statement.{statement}
 use Rattle.sheet.proofs.entries_fault.Tie as tie
 
@@ -25,7 +25,7 @@ returns : tie.Need-returns Inv-loop μ-loop
 returns c = search (first-stop, carried)
 
 loop-again : tie.Need-loop-again Inv-loop μ-loop
-loop-again c = (omega arith, search (first-go, carried), search, search)
+loop-again c = (omega arith, search (first-go, carried), search next-number, search next-end)
 
 returns-2 : tie.Need-returns-2 Inv-loop μ-loop
 returns-2 c = search first-none
@@ -33,4 +33,4 @@ returns-2 c = search first-none
 pub entries-fault-spec : {M : Type 1} → statement M
 entries-fault-spec =
     tie.close
-    (tie.spec Inv-loop μ-loop (λ c κs. search needs) loop-holds (λ c κs. search needs) returns (λ c. search needs) (λ c κs. search needs) (λ c κs. search needs) (λ c. search needs) loop-again returns-2)
+    (tie.spec Inv-loop μ-loop (λ c κs. search needs) loop-holds (λ c κs. search needs) (λ c κs. search needs) returns (λ c. search needs) (λ c. search needs) (λ c. search needs) (λ c. search needs) (λ c. search needs) loop-again returns-2)

@@ -1,0 +1,2 @@
+-- Laws of the layout.
+pub mod Laws
