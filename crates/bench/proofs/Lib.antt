@@ -7,4 +7,5 @@ pub mod Rounds
 pub mod Ends
 pub mod Honest
 pub mod Demand
+pub mod Carried
 pub mod Loop

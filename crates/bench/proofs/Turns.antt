@@ -19,7 +19,7 @@ use Rattle.bench.proofs.Run.{run-ended, run-turn}
 
 module _ (m : Drive) (w : State) (f : roundFault m w .number ≡ 0) where
   -- the record takes the response
-  taken : takeFault (w .sweep) (reply m (w .sweep)) (length (w .buffers .collected)) .number ≡ 0
+  pub taken : takeFault (w .sweep) (reply m (w .sweep)) (length (w .buffers .collected)) .number ≡ 0
   unfolding roundFault
   taken = sym (ap (λ (r : Refusal). r .number) (step-refusal (w .sweep) (reply m (w .sweep)) (w .buffers .collected))) ∙ if-zero 24 (leb (length (w .buffers .starts)) (w .sweep .commands)) _ f .1
 

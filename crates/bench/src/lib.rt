@@ -6,7 +6,7 @@ ghost use Rattle.sheet.specs.Check.{Accepted};
 ghost use Rattle.text.specs.Response.{most};
 ghost use Rattle.sheet.specs.Meaning.{meaning};
 ghost use Rattle.bench.specs.Bench.{buffers, state, ending, failing, firstFault, benched};
-ghost use Rattle.bench.specs.inner.Loop.{Rounded, Ran};
+ghost use Rattle.bench.specs.inner.Loop.{wantedSize, Clean, Rounded, Ran};
 use refusal::Refusal;
 use sweep::Step;
 use sweep::Sweep;
@@ -38,15 +38,17 @@ fn first_fault(s: &[u8], rt: u8, a: u16, space: usize) -> Refusal
 }
 
 // One round against a sheet that is accepted: the start is noted, the box is asked, the driver takes just the bytes sent.
-// Asks: an accepted sheet and a response buffer of C bytes or more, which the sheet's numbers and 12 have shown before.
+// Asks: an accepted sheet and a response buffer of C bytes or more, which the sheet's numbers and 12 have shown before; the bytes that are left, and how many of the buffer can be dirty, which the rounds before leave.
 fn one_round(
     s: &[u8],
     w: Sweep,
+    left: usize,
+    dirty: usize,
     response: &mut [u8],
     collected: &mut [u8],
     starts: &mut [u16],
 ) -> Step
-    requires { ⌜ Accepted (now s) × (most (w .allocation) ≤ length (now response)) ⌝ }
+    requires { ⌜ Accepted (now s) × (most (w .allocation) ≤ length (now response)) × (left ≡ wantedSize (meaning (now s)) w) × Clean dirty (now response) ⌝ }
     ensures { λ r. ⌜ Rounded (meaning (now (s .entry))) (state w (buffers (now (response .entry)) (now (collected .entry)) (now (starts .entry))))
         (r .refusal) (state (r .sweep) (buffers (now (response .exit)) (now (collected .exit)) (now (starts .exit)))) ⌝ }
 {
@@ -59,13 +61,14 @@ fn one_round(
     }
     let next = w.next;
     lent::note(starts, at, next.0);
-    lent::clear(response);
-    let reply = responder::send(s, w.rt, next, w.allocation, response);
+    lent::clear(&mut response[..dirty]);
+    let reply = responder::send_sized(s, w.rt, next, w.allocation, left, response);
     let count = reply.count;
     w.take(&response[..count], collected)
 }
 
-// Round after round, until the sweep has ended or a round is refused.
+// Round after round, until the sweep has ended or a round is refused. What is left of the size, and how many bytes of the response buffer can be
+// dirty, go along, so that a round costs what it sends.
 // Asks: an accepted sheet, a response buffer of C bytes or more and a sweep that has just started; the sheet's numbers, 12 and the start come before.
 fn all_rounds(
     s: &[u8],
@@ -78,14 +81,20 @@ fn all_rounds(
     ensures { λ r. ⌜ Ran (meaning (now (s .entry))) (state w (buffers (now (response .entry)) (now (collected .entry)) (now (starts .entry))))
         (r .refusal) (state (r .sweep) (buffers (now (response .exit)) (now (collected .exit)) (now (starts .exit)))) ⌝ }
 {
+    let most = text::most(w.allocation);
     let mut sweep = w;
+    let mut left = responder::size(s, w.rt, w.next);
+    let mut dirty = response.len();
     while !sweep.ended {
-        let step = one_round(s, sweep, response, collected, starts);
+        let step = one_round(s, sweep, left, dirty, response, collected, starts);
         let fault = step.refusal;
         if fault.number != 0 {
             return step;
         }
-        sweep = step.sweep;
+        let next = step.sweep;
+        left -= next.collected - sweep.collected;
+        dirty = most;
+        sweep = next;
     }
     Step {
         refusal: refusal::ACCEPTED,

@@ -49,6 +49,8 @@ use Rattle.sheet.proofs.flags_rule as flags-rule
 use Rattle.sheet.proofs.first_from as first-from
 use Rattle.sheet.proofs.check as check
 use Rattle.responder.proofs.send as send
+use Rattle.responder.proofs.size as size
+use Rattle.responder.proofs.send_sized as send-sized
 use Rattle.responder.proofs.respond_accepted as respond-accepted
 use Rattle.responder.proofs.respond as respond
 use Rattle.reading.proofs.number_at as number-at
@@ -221,6 +223,12 @@ check-decided = sheet-decides.check-decided
 
 pub send-decided : Decided send.ended (λ M. send.clauses) (λ M. send.spec)
 send-decided x = decides (x .𝓤) (λ o o′ p q. (ap (λ (z : Outcome). z .made) (joined p q), refl & refl & refl & refl & ap (λ (z : Outcome). z .buffer) (joined p q) & refl))
+
+pub size-decided : Decided size.ended (λ M. size.clauses) (λ M. size.spec)
+size-decided x = decides (x .𝓤) (λ o o′ p q. (joined p q, refl))
+
+pub send-sized-decided : Decided send-sized.ended (λ M. send-sized.clauses) (λ M. send-sized.spec)
+send-sized-decided x = decides (x .𝓤) (λ o o′ p q. (ap (λ (z : Outcome). z .made) (joined p q), refl & refl & refl & refl & refl & ap (λ (z : Outcome). z .buffer) (joined p q) & refl))
 
 pub respond-accepted-decided : Decided respond-accepted.ended (λ M. respond-accepted.clauses) (λ M. respond-accepted.spec)
 respond-accepted-decided x = decides (x .𝓤) (λ o o′ p q. (ap (λ (z : Outcome). z .made) (joined p q), refl & refl & ap (λ (z : Outcome). z .buffer) (joined p q) & refl))

@@ -6,16 +6,16 @@ use mathlib.Core.List.{List, []}
 use Prim.Native.Nat.{ℕ, _-_, _^_, _≤_, _<_, min}
 use native.Mathlib.Omega.{arith}
 use lib.ListN.{length, take}
-use Rattle.base.specs.Lists.{Bytes}
+use Rattle.base.specs.Lists.{flat, Bytes}
 use Rattle.fields.specs.Field.{field, spell}
 use Rattle.refusal.specs.declared.Refusal.{Refusal}
 use Rattle.refusal.specs.First.{refuse, accept}
 use Rattle.text.specs.Command.{opcodeOf, rtOf, sfnOf, allocationOf, commandFault}
-use Rattle.text.specs.Response.{selected, currentProfile, dataLength, full, sent}
+use Rattle.text.specs.Response.{bytes, selected, currentProfile, dataLength, full, sent}
 use Rattle.refusal.proofs.First.{orElse-none, orElse-fault, unless-none}
 use Rattle.lent.specs.Maker.{Outcome, refusing, making, makes}
 use Rattle.lent.proofs.Maker.{makes-made, makes-short, makes-fault}
-use Rattle.text.proofs.Sizes.{dataLength-full, dataLength-low}
+use Rattle.text.proofs.Sizes.{length-full, dataLength-full, dataLength-low}
 use Rattle.text.proofs.Profiles.{Off, FirstOn, current-cases}
 use Rattle.text.proofs.Sent.{sent-prefix, length-sent, sent-dataLength, sent-field, sent-profile, sent-none, sent-65532, sent-65536}
 use Rattle.sheet.specs.Check.{verdict, Accepted}
@@ -23,6 +23,10 @@ use Rattle.sheet.specs.Meaning.{meaning}
 use Rattle.sheet.proofs.Meaning.{meaning-fine}
 use Rattle.responder.specs.Answer.{due, requested, commanded, answered}
 use Rattle.responder.specs.Trusting.{trusting, trustingCommand}
+use Rattle.responder.specs.Sized.{sized}
+use Rattle.responder.specs.inner.Index.{takenSize}
+use Rattle.responder.proofs.Full.{found-length}
+use Rattle.responder.proofs.Sized.{sized-trusting}
 use Rattle.responder.proofs.Trusting.{trusting-accepted, trusting-commanded, answered-after}
 use Rattle.base.proofs.Promise.{by}
 
@@ -76,6 +80,30 @@ pub serves : (s : List ℕ) (rt sfn a : ℕ) (d : List ℕ) → Serves s rt sfn 
 serves s rt sfn a d = record {
   exact = refl;
   sends = λ b ok. by (Sends (sent rt sfn a (meaning s)) d) (request s rt sfn a d) (trusting-accepted s b ok rt sfn a d);
+}
+
+-- How many bytes stand behind the header: from an accepted sheet those of the descriptors that are wanted.
+pub record Sizes (s : List ℕ) (rt sfn n : ℕ) : Type 0 where
+  pub exact : n ≡ takenSize s rt sfn
+  pub wanted : Bytes s → Accepted s → n ≡ length (flat bytes (selected rt sfn (meaning s)))
+
+pub sizes : (s : List ℕ) (rt sfn : ℕ) → Sizes s rt sfn (takenSize s rt sfn)
+sizes s rt sfn = record {
+  exact = refl;
+  wanted = λ b ok. omega (arith, length-full rt sfn (meaning s), found-length s rt sfn b ok);
+}
+
+-- Told that number, the same is sent.
+pub record ServesSized (s : List ℕ) (rt sfn a n : ℕ) (d : List ℕ) (o : Outcome) : Type 0 where
+  pub exact : o ≡ sized s rt sfn a n d
+  pub sends : Bytes s → Accepted s → n ≡ length (flat bytes (selected rt sfn (meaning s))) → Sends (sent rt sfn a (meaning s)) d o
+
+pub serves-sized : (s : List ℕ) (rt sfn a n : ℕ) (d : List ℕ) → ServesSized s rt sfn a n d (sized s rt sfn a n d)
+serves-sized s rt sfn a n d = record {
+  exact = refl;
+  sends = λ b ok e.
+      by (Sends (sent rt sfn a (meaning s)) d) (serves s rt sfn a d .sends b ok)
+      (ap (λ (k : ℕ). sized s rt sfn a k d) (e ∙ sym (sizes s rt sfn .wanted b ok)) ∙ sized-trusting s rt sfn a d);
 }
 
 -- ---- beside it

@@ -9,6 +9,8 @@ use Rattle.reading.proofs.Promised as reading-promised
 use Rattle.sheet.proofs.check as check
 use Rattle.lent.specs.Maker.{outcome}
 use Rattle.responder.proofs.send as send
+use Rattle.responder.proofs.size as size
+use Rattle.responder.proofs.send_sized as send-sized
 use Rattle.responder.proofs.respond_accepted as respond-accepted
 use Rattle.responder.proofs.respond as respond
 use Rattle.reading.proofs.scan as scan
@@ -28,7 +30,7 @@ use Rattle.checks.proofs.check_profile as check-profile
 use Rattle.capture.proofs.check as capture-check
 use Rattle.import.proofs.import as import
 use Rattle.demands.proofs.Sheets.{Checks, checks}
-use Rattle.demands.proofs.Sending.{Answers, demand2, Trusts, trusts, Serves, serves}
+use Rattle.demands.proofs.Sending.{Answers, demand2, Trusts, trusts, Serves, serves, Sizes, sizes, ServesSized, serves-sized}
 use Rattle.demands.proofs.Readings.{Reads, reads, Scans, scans}
 use Rattle.demands.proofs.Listings.{Lists, lists}
 use Rattle.demands.proofs.Steps.{Starts, starts, Takes, takes}
@@ -47,6 +49,14 @@ check-tied x = promises (x .𝓤) (λ o. by (Checks _) (checks _))
 pub send-tied : Promised send.ended (λ M. send.clauses) (λ M. send.spec)
     (λ x o. Serves (x .args .0 .now) (x .args .1 .0) (x .args .1 .1 .0 .0) (x .args .1 .1 .1 .0) (x .args .1 .1 .1 .1 .0 .now) (outcome (o .0) (o .1 .1 .1 .1 .1 .0)))
 send-tied x = promises (x .𝓤) (λ o. by (Serves _ _ _ _ _) (serves _ _ _ _ _))
+
+pub size-tied : Promised size.ended (λ M. size.clauses) (λ M. size.spec) (λ x o. Sizes (x .args .0 .now) (x .args .1 .0) (x .args .1 .1 .0 .0) (o .0))
+size-tied x = promises (x .𝓤) (λ o. by (Sizes _ _ _) (sizes _ _ _))
+
+pub send-sized-tied : Promised send-sized.ended (λ M. send-sized.clauses) (λ M. send-sized.spec)
+    (λ x o. ServesSized (x .args .0 .now) (x .args .1 .0) (x .args .1 .1 .0 .0) (x .args .1 .1 .1 .0) (x .args .1 .1 .1 .1 .0) (x .args .1 .1 .1 .1 .1 .0 .now)
+    (outcome (o .0) (o .1 .1 .1 .1 .1 .1 .0)))
+send-sized-tied x = promises (x .𝓤) (λ o. by (ServesSized _ _ _ _ _ _) (serves-sized _ _ _ _ _ _))
 
 pub respond-accepted-tied : Promised respond-accepted.ended (λ M. respond-accepted.clauses) (λ M. respond-accepted.spec)
     (λ x o. Trusts (x .args .0 .now) (x .args .1 .0 .now) (x .args .1 .1 .0 .now) (outcome (o .0) (o .1 .1 .1 .0)))

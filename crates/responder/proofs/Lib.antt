@@ -6,3 +6,4 @@ pub mod Chosen
 pub mod Sizes
 pub mod Full
 pub mod Trusting
+pub mod Sized

@@ -1,3 +1,4 @@
 pub mod Answer
 pub mod Trusting
+pub mod Sized
 pub mod inner

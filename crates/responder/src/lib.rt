@@ -10,7 +10,8 @@ ghost use Rattle.text.specs.Response.{header};
 ghost use Rattle.lent.specs.Maker.{outcome};
 ghost use Rattle.responder.specs.Answer.{answered};
 ghost use Rattle.responder.specs.Trusting.{trusting, trustingCommand};
-ghost use Rattle.responder.specs.inner.Index.{wantedEnd, skips, descOf, descBytes, piece, pieces, pieceSize, piecesSize, span, entriesSize, zeroBytes, zeroPart, zeroSize, plan, fullBytes};
+ghost use Rattle.responder.specs.Sized.{sized};
+ghost use Rattle.responder.specs.inner.Index.{wantedEnd, skips, descOf, descBytes, piece, pieces, pieceSize, piecesSize, span, entriesSize, zeroBytes, zeroPart, zeroSize, takenSize, plan, fullBytes};
 use lent::Made;
 use text::Command;
 use text::Feature;
@@ -289,6 +290,32 @@ pub fn send(s: &[u8], rt: u8, sfn: Feature, a: u16, out: &mut [u8]) -> Made
     let profile = profiles::current(layout::profiles_part(s));
     let header = Header::new(data_length(plan.size), profile);
     let count = put_full(&mut out[..limit], s, rt, sfn, plan.from, plan.to, header);
+    Made::written(count)
+}
+
+// How many bytes stand behind the header of the full response to a request.
+pub fn size(s: &[u8], rt: u8, sfn: Feature) -> usize
+    ensures { λ r. ⌜ r ≡ takenSize (now (s .entry)) rt (sfn .0) ⌝ }
+{
+    let found = planned(s, rt, sfn);
+    found.size
+}
+
+// Answers a request with no look at the entries to add up what `size` gives: told that, what `send` answers.
+pub fn send_sized(s: &[u8], rt: u8, sfn: Feature, a: u16, size: usize, out: &mut [u8]) -> Made
+    ensures { λ r. ⌜ outcome r (now (out .exit)) ≡ sized (now (s .entry)) rt (sfn .0) a size (now (out .entry)) ⌝ }
+{
+    let most = text::most(a);
+    let due = least(most, Header::LENGTH + least(size, most));
+    if out.len() < due {
+        return Made::refused(refusal::BUFFER_SHORT);
+    }
+    let n = layout::feature_count(s);
+    let first = sheet::first_from(s, n, sfn);
+    let to = wanted_end(s, rt, n, sfn, first);
+    let profile = profiles::current(layout::profiles_part(s));
+    let header = Header::new(data_length(size), profile);
+    let count = put_full(&mut out[..due], s, rt, sfn, first, to, header);
     Made::written(count)
 }
 

@@ -10,7 +10,7 @@ use borrow.Author.Tests.{ltb-false, eqb-false}
 use Rattle.base.specs.Lists.{flat}
 use Rattle.refusal.specs.declared.Refusal.{Refusal}
 use Rattle.refusal.specs.First.{refuse, accept, _if_else_, _orElse_}
-use Rattle.text.specs.Response.{bytes, most}
+use Rattle.text.specs.Response.{bytes, headerLength, most}
 use Rattle.text.specs.Reading.{readFault, lastNumber}
 use Rattle.refusal.proofs.First.{if-zero, orElse-none, orElse-fault, orElse-assoc, orElse-zero, unless-none, unless-fault}
 use Rattle.sweep.specs.declared.Sweep.{Sweep}
@@ -52,6 +52,8 @@ module _ (w : Sweep) (s out : List ℕ) where
 
 -- what its acceptance says
 pub record Taken (w : Sweep) (s : List ℕ) (room : ℕ) : Type 0 where
+  pub kind : w .rt < 2
+  pub eight : headerLength ≤ w .allocation
   pub going : w .ended ≡ false
   pub few : w .commands ≤ 65535
   pub read : readFault (most (w .allocation)) (w .rt) (w .next .0) s .number ≡ 0
@@ -61,8 +63,9 @@ pub record Taken (w : Sweep) (s : List ℕ) (room : ℕ) : Type 0 where
   pub fits : w .collected + length (flat bytes (wholesOf w s)) ≤ room
 
 pub taken-facts : (w : Sweep) (s : List ℕ) (room : ℕ) → takeFault w s room .number ≡ 0 → Taken w s room
-unfolding takeFault
+unfolding takeFault startRule
 taken-facts w s room h =
+    let r = if-zero _ _ _ (orElse-zero _ _ h .0) in
     let a = if-zero _ _ _ (orElse-zero _ _ h .1) in
     let b = if-zero _ _ _ (a .1) in
     let c = orElse-zero _ _ (b .1) in
@@ -70,6 +73,8 @@ taken-facts w s room h =
     let f = if-zero _ _ _ (e .1) in
     let g = if-zero _ _ _ (f .1) in
     record {
+      kind = omega (arith, ltb-false 1 (w .rt) (r .0));
+      eight = ltb-false (w .allocation) headerLength (if-zero _ _ _ (r .1) .0);
       going = a .0;
       few = ltb-false 65535 (w .commands) (b .0);
       read = c .0;

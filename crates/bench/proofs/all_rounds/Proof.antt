@@ -1,54 +1,87 @@
--- `bench::all_rounds` meets its contract: the loop carries the run from where it stands; a refused round, or the mark that it has ended, ends it.
+-- `bench::all_rounds` meets its contract: the loop carries the run from where it stands, the bytes that are left and how many of the response buffer can be
+-- dirty; a refused round, or the mark that it has ended, ends it.
+use mathlib.Core.Path.{sym, _∙_}
 use Prim.Native.Nat.{_-_}
+use native.Mathlib.Omega.{arith}
+use borrow.Author.Tests.{not-true}
+use Rattle.base.specs.Lists.{Bytes}
 use Rattle.sheet.specs.Meaning.{meaning}
+use Rattle.sheet.proofs.Meaning.{meaning-fine}
 use Rattle.bench.specs.Bench.{buffers, state}
-use Rattle.bench.proofs.Loop.{Standing, standing-start, standing-room, standing-kept, standing-fault, standing-again, standing-less, standing-ended}
+use Rattle.bench.proofs.Carried.{Carried, clean-all, taken-wanted}
+use Rattle.bench.proofs.Loop.{Standing, standing-start, standing-room, standing-kept, standing-fault, standing-again, standing-less, standing-ended, along-gains, along-within, along-again}
+use borrow.Author.Needs.{needs}
 use Rattle.bench.proofs.all_rounds.Statement.{statement}
 use Rattle.bench.proofs.all_rounds.Tie as tie
 
 abbrev Inv-loop : tie.InvT-loop
-Inv-loop s response₀ collected₀ starts₀ sweep₀ response collected starts sweep = Standing (meaning s) (state sweep₀ (buffers response₀ collected₀ starts₀)) (state sweep (buffers response collected starts))
+Inv-loop s response₀ collected₀ starts₀ most sweep₀ left₀ dirty₀ response collected starts sweep left dirty =
+    Standing (meaning s) (state sweep₀ (buffers response₀ collected₀ starts₀)) (state sweep (buffers response collected starts)) × Carried (meaning s) (state sweep (buffers response collected starts)) left dirty
 
 abbrev μ-loop : tie.MeasureT-loop
-μ-loop s response₀ collected₀ starts₀ sweep₀ response collected starts sweep = 65537 - sweep .commands
+μ-loop s response₀ collected₀ starts₀ most sweep₀ left₀ dirty₀ response collected starts sweep left dirty = 65537 - sweep .commands
 
 loop-holds : tie.Need-loop-holds Inv-loop μ-loop
-loop-holds c = standing-start (c .before .before .before .before .pre .2)
+loop-holds c =
+    let o = c .before .before .before .before .before .before in
+    let bytes : Bytes (o .args .s .now) = (λ i. omega (arith, c .before .before .before .before .before .shared-slice-known .given i)) in
+    (standing-start (o .pre .2), record { size = λ _. c .size .ensures ∙ sym (taken-wanted (o .args .s .now) bytes (o .pre .0) (o .args .w)); clean = clean-all (o .args .response .now) })
 
 one-round-requires : tie.Need-one-round-requires Inv-loop μ-loop
-one-round-requires c κs = (c .before .before .before .before .before .before .before .before .before .before .pre .0, standing-room (c .before .before .before .before .before .loop .inv) (c .before .before .before .before .before .before .before .before .before .before .pre .1))
+one-round-requires c κs =
+    let o = c .before .before .before .before .before .before .before .before .before .before .before .before in
+    let inv = c .before .before .before .before .before .loop .inv in
+    (o .pre .0, standing-room (inv .0) (o .pre .1), inv .1 .size (not-true _ (c .before .before .before .if1 .taken)), inv .1 .clean)
 
 same-length : tie.Need-same-length Inv-loop μ-loop
-same-length c = let k = c .before .before .before .before .before .before .before .before .before in standing-kept (k .before .before .before .before .before .before .loop .inv) (k .before .before .before .before .if1 .taken) (k .one-round .ensures) .response
+same-length c = let k = c .before .before .before .before .before .before .before .before .before in standing-kept (k .before .before .before .before .before .before .loop .inv .0) (k .before .before .before .before .if1 .taken) (k .one-round .ensures) .response
 
 same-length-2 : tie.Need-same-length-2 Inv-loop μ-loop
-same-length-2 c = let k = c .before .before .before .before .before .before .before .before .before in standing-kept (k .before .before .before .before .before .before .loop .inv) (k .before .before .before .before .if1 .taken) (k .one-round .ensures) .collected
+same-length-2 c = let k = c .before .before .before .before .before .before .before .before .before in standing-kept (k .before .before .before .before .before .before .loop .inv .0) (k .before .before .before .before .if1 .taken) (k .one-round .ensures) .collected
 
 same-length-3 : tie.Need-same-length-3 Inv-loop μ-loop
-same-length-3 c = let k = c .before .before .before .before .before .before .before .before .before in standing-kept (k .before .before .before .before .before .before .loop .inv) (k .before .before .before .before .if1 .taken) (k .one-round .ensures) .starts
+same-length-3 c = let k = c .before .before .before .before .before .before .before .before .before in standing-kept (k .before .before .before .before .before .before .loop .inv .0) (k .before .before .before .before .if1 .taken) (k .one-round .ensures) .starts
 
 returns : tie.Need-returns Inv-loop μ-loop
-returns c = let k = c .before .before .before .before .before .before .before .before .before in standing-fault (k .before .before .before .before .before .before .loop .inv) (k .before .before .before .before .if1 .taken) (k .one-round .ensures) (c .if2 .taken)
+returns c = let k = c .before .before .before .before .before .before .before .before .before in standing-fault (k .before .before .before .before .before .before .loop .inv .0) (k .before .before .before .before .if1 .taken) (k .one-round .ensures) (c .if2 .taken)
+
+sub-left : tie.Need-sub-left Inv-loop μ-loop
+sub-left c =
+    let k = c .before .before .before .before .before .before .before .before .before .before .before .before in
+    let o = c .before .before .before .before .before .before .before .before .before .before .before .before .before .before .before .before .before .before .before .before .before .before .before .before .before in
+    let bytes : Bytes (o .args .s .now) = (λ i. omega (arith, c .before .before .before .before .before .before .before .before .before .before .before .before .before .before .before .before .before .before .before .before .before .before .before .before .shared-slice-known .given i)) in
+    along-gains (k .before .before .before .before .before .before .loop .inv .0) (k .before .before .before .before .if1 .taken) (k .one-round .ensures) (c .before .before .before .if2 .left) (meaning-fine (o .args .s .now) bytes (o .pre .0) .sound) (o .pre .1) (k .before .before .before .before .before .before .loop .inv .1)
+
+sub-left-2 : tie.Need-sub-left-2 Inv-loop μ-loop
+sub-left-2 c =
+    let k = c .before .before .before .before .before .before .before .before .before .before .before .before in
+    let o = c .before .before .before .before .before .before .before .before .before .before .before .before .before .before .before .before .before .before .before .before .before .before .before .before .before in
+    let bytes : Bytes (o .args .s .now) = (λ i. omega (arith, c .before .before .before .before .before .before .before .before .before .before .before .before .before .before .before .before .before .before .before .before .before .before .before .before .shared-slice-known .given i)) in
+    along-within (k .before .before .before .before .before .before .loop .inv .0) (k .before .before .before .before .if1 .taken) (k .one-round .ensures) (c .before .before .before .if2 .left) (meaning-fine (o .args .s .now) bytes (o .pre .0) .sound) (o .pre .1) (k .before .before .before .before .before .before .loop .inv .1)
 
 loop-less : tie.Need-loop-less Inv-loop μ-loop
-loop-less c = let k = c .before .before .before .before .before .before .before .before .before .before in standing-less (k .before .before .before .before .before .before .loop .inv) (k .before .before .before .before .if1 .taken) (k .one-round .ensures) (c .before .if2 .left)
+loop-less c = let k = c .before .before .before .before .before .before .before .before .before .before .before .before in standing-less (k .before .before .before .before .before .before .loop .inv .0) (k .before .before .before .before .if1 .taken) (k .one-round .ensures) (c .before .before .before .if2 .left)
 
 loop-again : tie.Need-loop-again Inv-loop μ-loop
-loop-again c = let k = c .before .before .before .before .before .before .before .before .before .before in standing-again (k .before .before .before .before .before .before .loop .inv) (k .before .before .before .before .if1 .taken) (k .one-round .ensures) (c .before .if2 .left)
+loop-again c =
+    let k = c .before .before .before .before .before .before .before .before .before .before .before .before in
+    let o = c .before .before .before .before .before .before .before .before .before .before .before .before .before .before .before .before .before .before .before .before .before .before .before .before .before in
+    let bytes : Bytes (o .args .s .now) = (λ i. omega (arith, c .before .before .before .before .before .before .before .before .before .before .before .before .before .before .before .before .before .before .before .before .before .before .before .before .shared-slice-known .given i)) in
+    (standing-again (k .before .before .before .before .before .before .loop .inv .0) (k .before .before .before .before .if1 .taken) (k .one-round .ensures) (c .before .before .before .if2 .left), along-again (k .before .before .before .before .before .before .loop .inv .0) (k .before .before .before .before .if1 .taken) (k .one-round .ensures) (c .before .before .before .if2 .left) (meaning-fine (o .args .s .now) bytes (o .pre .0) .sound) (o .pre .1) (k .before .before .before .before .before .before .loop .inv .1) (c .before .before .before .before .before .before .before .before .before .before .before .before .before .before .before .before .before .before .before .before .most .ensures))
 
 same-length-4 : tie.Need-same-length-4 Inv-loop μ-loop
-same-length-4 c = c .before .before .loop .inv .kept .response
+same-length-4 c = c .before .before .loop .inv .0 .kept .response
 
 same-length-5 : tie.Need-same-length-5 Inv-loop μ-loop
-same-length-5 c = c .before .before .loop .inv .kept .collected
+same-length-5 c = c .before .before .loop .inv .0 .kept .collected
 
 same-length-6 : tie.Need-same-length-6 Inv-loop μ-loop
-same-length-6 c = c .before .before .loop .inv .kept .starts
+same-length-6 c = c .before .before .loop .inv .0 .kept .starts
 
 returns-2 : tie.Need-returns-2 Inv-loop μ-loop
-returns-2 c = standing-ended (c .before .before .loop .inv) (c .if1 .left)
+returns-2 c = standing-ended (c .before .before .loop .inv .0) (c .if1 .left)
 
 pub all-rounds-spec : {M : Type 1} → statement M
 all-rounds-spec =
     tie.close
-    (tie.spec Inv-loop μ-loop loop-holds one-round-requires same-length same-length-2 same-length-3 returns loop-less loop-again same-length-4 same-length-5 same-length-6 returns-2)
+    (tie.spec Inv-loop μ-loop (λ c κs. search needs) (λ c κs. search needs) loop-holds one-round-requires same-length same-length-2 same-length-3 returns sub-left sub-left-2 loop-less loop-again same-length-4 same-length-5 same-length-6 returns-2)

@@ -1,14 +1,28 @@
 -- What the functions inside the bench sweep answer: a round, all rounds. Assumes nothing: these are definitions.
 use mathlib.Core.Path.{_≡_}
-use lib.ListN.{length}
+use mathlib.Core.List.{List}
+use Prim.Native.Nat.{ℕ, _-_, _≤_}
+use lib.ListN.{length, drop, replicate}
+use Rattle.base.specs.Lists.{flat}
 use Rattle.refusal.specs.declared.Refusal.{Refusal}
 use Rattle.refusal.specs.First.{unless}
 use Rattle.text.specs.Drive.{Drive}
+use Rattle.text.specs.Response.{bytes, selected}
+use Rattle.sweep.specs.declared.Sweep.{Sweep}
 use Rattle.bench.specs.Bench.{Buffers, State, Ending, failing, succeeding, roundFault, rounded, rounds}
 
 -- all rounds from where w stands with the buffers as they came
 abbrev pub runFrom : Drive → State → Ending
 runFrom m w = rounds 65537 m (w .buffers) w
+
+-- how many bytes the drive has behind the header for the record's next command
+abbrev pub wantedSize : Drive → Sweep → ℕ
+wantedSize m w = length (flat bytes (selected (w .rt) (w .next .0) m))
+
+-- only the first n bytes of the buffer d can be dirty: behind them it is zero
+pub record Clean (n : ℕ) (d : List ℕ) : Type 0 where
+  pub within : n ≤ length d
+  pub zero : drop n d ≡ replicate (length d - n) 0
 
 -- the three buffers are as long as they were
 pub record SameLengths (was b : Buffers) : Type 0 where
