@@ -4,7 +4,6 @@ pub mod Bools
 pub mod Calls
 pub mod Complete
 pub mod Findings
-pub mod Rows
 pub mod Judgements
 pub mod Faultless
 pub mod Lowest

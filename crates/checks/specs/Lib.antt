@@ -5,3 +5,4 @@ pub mod Check
 pub mod Faultless
 pub mod Required
 pub mod Judge
+pub mod inner

@@ -1,8 +1,8 @@
 // The table of legal lengths and body bits.
 ghost use mathlib.Core.Path.{_≡_};
-ghost use Prim.Native.Nat.{_<_};
-ghost use lib.ListN.{length, getD};
+ghost use lib.ListN.{getD};
 ghost use Rattle.checks.specs.Legal.{legal, other, rowOf};
+ghost use Rattle.checks.specs.inner.Lines.{legalLine};
 use text::Feature;
 
 // How long a body may be: any length, exactly so many bytes, or 4 and the N bytes that byte 7 counts and up to 3 pad bytes.
@@ -47,6 +47,9 @@ const MASTER: Feature = Feature(0x002E);
 
 const DVD_R: Feature = Feature(0x002F);
 
+// In the row of a feature that the table does not name.
+pub const OTHER: Feature = Feature(0xFFFF);
+
 const ANY: Length = Length::Any;
 
 const NONE: Length = Length::Exactly(0);
@@ -58,38 +61,34 @@ const COUNTED: Length = Length::Counted;
 // Every bit may be 1.
 const F: u8 = 0xFF;
 
-const LEGAL: [Line; 11] = [
-    Line(LIST, ANY, [F, F, 1, 0, F, F, 1, 0, F, F, 1, 0], false),
-    Line(CORE, FOUR, [F, F, F, F, 0, 0, 0, 0, 0, 0, 0, 0], false),
-    Line(MORPH, FOUR, [1, 0, 0, 0, 0, 0, 0, 0, 0, 0, 0, 0], false),
-    Line(MEDIUM, FOUR, [0xED, 0, 0, 0, 0, 0, 0, 0, 0, 0, 0, 0], false),
-    Line(DVD, NONE, [0, 0, 0, 0, 0, 0, 0, 0, 0, 0, 0, 0], true),
-    Line(RANDOM, FOUR, [F, F, F, F, 0, 0, 0, 0, 0, 0, 0, 0], true),
-    Line(STREAM, COUNTED, [0, 0, 0, F, 0, 0, 0, 0, 0, 0, 0, 0], true),
-    Line(OVER, FOUR, [F, F, F, F, 0, 0, 0, 0, 0, 0, 0, 0], true),
-    Line(TRACK, FOUR, [7, 0, 0, 0, 0, 0, 0, 0, 0, 0, 0, 0], true),
-    Line(MASTER, FOUR, [0x3F, F, F, F, 0, 0, 0, 0, 0, 0, 0, 0], true),
-    Line(DVD_R, FOUR, [4, 0, 0, 0, 0, 0, 0, 0, 0, 0, 0, 0], true),
-];
+const ROWS: usize = 11;
 
-// The highest feature that the table names: most features of a drive are above it and need no look at the table.
-const LAST_LISTED: Feature = DVD_R;
-
-// A feature that the table does not name.
-const OTHER: Row = Row {
-    feature: Feature(0xFFFF),
-    length: ANY,
-    masks: [F, F, F, F, F, F, F, F, F, F, F, F],
-    barred: false,
-};
+// Line i of the table, and behind its end what holds of a feature that it does not name. A match is compiled into code; an array would be built anew
+// at each look.
+fn line_at(i: usize) -> Line
+    ensures { λ r. ⌜ r ≡ legalLine (getD legal i other) ⌝ }
+{
+    match i {
+        0 => Line(LIST, ANY, [F, F, 1, 0, F, F, 1, 0, F, F, 1, 0], false),
+        1 => Line(CORE, FOUR, [F, F, F, F, 0, 0, 0, 0, 0, 0, 0, 0], false),
+        2 => Line(MORPH, FOUR, [1, 0, 0, 0, 0, 0, 0, 0, 0, 0, 0, 0], false),
+        3 => Line(MEDIUM, FOUR, [0xED, 0, 0, 0, 0, 0, 0, 0, 0, 0, 0, 0], false),
+        4 => Line(DVD, NONE, [0, 0, 0, 0, 0, 0, 0, 0, 0, 0, 0, 0], true),
+        5 => Line(RANDOM, FOUR, [F, F, F, F, 0, 0, 0, 0, 0, 0, 0, 0], true),
+        6 => Line(STREAM, COUNTED, [0, 0, 0, F, 0, 0, 0, 0, 0, 0, 0, 0], true),
+        7 => Line(OVER, FOUR, [F, F, F, F, 0, 0, 0, 0, 0, 0, 0, 0], true),
+        8 => Line(TRACK, FOUR, [7, 0, 0, 0, 0, 0, 0, 0, 0, 0, 0, 0], true),
+        9 => Line(MASTER, FOUR, [0x3F, F, F, F, 0, 0, 0, 0, 0, 0, 0, 0], true),
+        10 => Line(DVD_R, FOUR, [4, 0, 0, 0, 0, 0, 0, 0, 0, 0, 0, 0], true),
+        _ => Line(OTHER, ANY, [F, F, F, F, F, F, F, F, F, F, F, F], false),
+    }
+}
 
 // Row i.
-// Asks: an index inside the table; the walk stops at its end.
 fn row_at(i: usize) -> Row
-    requires { ⌜ i < length legal ⌝ }
     ensures { λ r. ⌜ r ≡ getD legal i other ⌝ }
 {
-    let line = LEGAL[i];
+    let line = line_at(i);
     let feature = line.0;
     let length = line.1;
     let masks = line.2;
@@ -105,16 +104,13 @@ fn row_at(i: usize) -> Row
 pub fn row_of(f: Feature) -> Row
     ensures { λ r. ⌜ r ≡ rowOf (f .0) ⌝ }
 {
-    if LAST_LISTED.0 < f.0 {
-        return OTHER;
-    }
     let mut i = 0;
-    while i < LEGAL.len() {
+    while i < ROWS {
         let row = row_at(i);
         if row.feature.0 == f.0 {
             return row;
         }
         i += 1;
     }
-    OTHER
+    row_at(ROWS)
 }

@@ -1,13 +1,13 @@
 // The table of required features, and what a response lacks of it.
 ghost use mathlib.Core.Path.{_≡_};
-ghost use Prim.Native.Nat.{_<_};
-ghost use lib.ListN.{length, getD};
+ghost use lib.ListN.{getD};
 ghost use Rattle.text.specs.Reading.{descAt};
 ghost use Rattle.checks.specs.Pick.{some};
 ghost use Rattle.reading.specs.Places.{descs};
 ghost use Rattle.reading.specs.Completed.{completeFault};
 ghost use Rattle.checks.specs.Required.{required, line, givesRule, gives, lacks, hasTable};
 ghost use Rattle.checks.specs.Judge.{said, lowest};
+ghost use Rattle.checks.specs.inner.Lines.{requiredLine};
 use super::Judgement;
 use text::Feature;
 use text::Header;
@@ -31,32 +31,38 @@ const NON_STANDARD: Profile = Profile(0xFFFF);
 
 const DVD_RAM: Profile = Profile(0x0012);
 
-// The lines of a profile ascend. Of 0010h the Page Present bit, bit 0 of byte 10, is asked for.
-const REQUIRED: [Line; 15] = [
-    Line(NON_STANDARD, Feature(0x0000), 0, 0, 0),
-    Line(NON_STANDARD, Feature(0x0001), 0, 0, 0),
-    Line(DVD_RAM, Feature(0x0000), 0, 0, 0),
-    Line(DVD_RAM, Feature(0x0001), 0, 0, 0),
-    Line(DVD_RAM, Feature(0x0002), 0, 0, 0),
-    Line(DVD_RAM, Feature(0x0003), 0, 0, 0),
-    Line(DVD_RAM, Feature(0x0010), 8, 6, 0x01),
-    Line(DVD_RAM, Feature(0x001F), 0, 0, 0),
-    Line(DVD_RAM, Feature(0x0020), 0, 0, 0),
-    Line(DVD_RAM, Feature(0x0023), 0, 0, 0),
-    Line(DVD_RAM, Feature(0x0024), 0, 0, 0),
-    Line(DVD_RAM, Feature(0x0100), 0, 0, 0),
-    Line(DVD_RAM, Feature(0x0101), 0, 0, 0),
-    Line(DVD_RAM, Feature(0x0105), 0, 0, 0),
-    Line(DVD_RAM, Feature(0x0107), 0, 0, 0),
-];
+const LINES: usize = 15;
 
-// Line i.
-// Asks: an index inside the table; the walk stops at its end.
+// Line i of the table, and behind its end a line that asks for nothing. The lines of a profile ascend. Of 0010h the Page Present bit, bit 0 of byte
+// 10, is asked for.
+fn line_at(i: usize) -> Line
+    ensures { λ r. ⌜ r ≡ requiredLine (getD required i (line 0 0)) ⌝ }
+{
+    match i {
+        0 => Line(NON_STANDARD, Feature(0x0000), 0, 0, 0),
+        1 => Line(NON_STANDARD, Feature(0x0001), 0, 0, 0),
+        2 => Line(DVD_RAM, Feature(0x0000), 0, 0, 0),
+        3 => Line(DVD_RAM, Feature(0x0001), 0, 0, 0),
+        4 => Line(DVD_RAM, Feature(0x0002), 0, 0, 0),
+        5 => Line(DVD_RAM, Feature(0x0003), 0, 0, 0),
+        6 => Line(DVD_RAM, Feature(0x0010), 8, 6, 0x01),
+        7 => Line(DVD_RAM, Feature(0x001F), 0, 0, 0),
+        8 => Line(DVD_RAM, Feature(0x0020), 0, 0, 0),
+        9 => Line(DVD_RAM, Feature(0x0023), 0, 0, 0),
+        10 => Line(DVD_RAM, Feature(0x0024), 0, 0, 0),
+        11 => Line(DVD_RAM, Feature(0x0100), 0, 0, 0),
+        12 => Line(DVD_RAM, Feature(0x0101), 0, 0, 0),
+        13 => Line(DVD_RAM, Feature(0x0105), 0, 0, 0),
+        14 => Line(DVD_RAM, Feature(0x0107), 0, 0, 0),
+        _ => Line(Profile(0), Feature(0), 0, 0, 0),
+    }
+}
+
+// What line i asks for.
 fn need_at(i: usize) -> Need
-    requires { ⌜ i < length required ⌝ }
     ensures { λ r. ⌜ r ≡ getD required i (line 0 0) ⌝ }
 {
-    let line = REQUIRED[i];
+    let line = line_at(i);
     let profile = line.0;
     let feature = line.1;
     Need {
@@ -73,7 +79,7 @@ pub fn has_table(profile: Profile) -> bool
     ensures { λ r. ⌜ r ≡ hasTable (profile .0) ⌝ }
 {
     let mut i = 0;
-    while i < REQUIRED.len() {
+    while i < LINES {
         let need = need_at(i);
         if need.profile.0 == profile.0 {
             return true;
@@ -141,7 +147,7 @@ pub fn lowest_missing(profile: Profile, s: &[u8]) -> Judgement
     ensures { λ r. ⌜ said r ≡ lowest (profile .0) (descs (now (s .entry))) ⌝ }
 {
     let mut i = 0;
-    while i < REQUIRED.len() {
+    while i < LINES {
         let need = need_at(i);
         if lacking(profile, s, need) {
             let feature = need.feature;

@@ -1,5 +1,5 @@
 -- A scan is a refusal of the header or of the walk, or the walk's numbers. Assumes nothing.
-use mathlib.Core.Path.{_≡_, sym, ap, _∙_}
+use mathlib.Core.Path.{_≡_, sym, _∙_}
 use mathlib.Core.List.{List}
 use Prim.Native.Nat.{ℕ, _+_, _≤_}
 use native.Mathlib.Nat.{zero-add}
@@ -10,7 +10,7 @@ use Rattle.refusal.specs.declared.Refusal.{Refusal}
 use Rattle.refusal.specs.First.{accept}
 use Rattle.text.specs.declared.Feature.{Feature}
 use Rattle.text.specs.Reading.{statedLength, statedProfile, headerRule, walk, walked, readFault, taken, reading, lastNumber}
-use Rattle.refusal.proofs.First.{orElse-none, orElse-fault, orElse-zero}
+use Rattle.refusal.proofs.First.{orElse-none, orElse-fault}
 use Rattle.text.proofs.Walk.{headerRule-zero, wholes-refused, wholes-accepted}
 use Rattle.text.proofs.Received.{reading-fault, reading-none}
 use Rattle.reading.specs.declared.Walk.{Walk}

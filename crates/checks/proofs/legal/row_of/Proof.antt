@@ -2,12 +2,11 @@
 use borrow.Author.Needs.{needs}
 use borrow.Author.Tests.{eq-eqb, ne-eqb}
 use Prim.Native.Nat.{_≤_, _-_}
-use mathlib.Core.Path.{_≡_, refl, sym}
+use mathlib.Core.Path.{_≡_, refl, _∙_}
 use native.Mathlib.Omega.{arith}
 use lib.Dec.{eqb}
 use lib.ListN.{length}
 use Rattle.checks.specs.Legal.{legal, other, rowOf}
-use Rattle.checks.proofs.Rows.{row-above}
 use Rattle.checks.proofs.Pick.{left, pick-found, pick-next, pick-none}
 use Rattle.checks.proofs.legal.row_of.Statement.{statement}
 use Rattle.checks.proofs.legal.row_of.Tie as tie
@@ -22,17 +21,9 @@ loop-holds : tie.Need-loop-holds Inv-loop μ-loop
 unfolding rowOf
 loop-holds c = (omega arith, refl)
 
-row-at-requires : tie.Need-row-at-requires Inv-loop μ-loop
-unfolding legal
-row-at-requires c κs = search needs
-
 returns : tie.Need-returns Inv-loop μ-loop
-unfolding other
-returns c = sym (row-above (c .before .before .before .args .f .0) (c .if1 .taken))
-
-returns-2 : tie.Need-returns-2 Inv-loop μ-loop
 unfolding legal rowOf
-returns-2 c = search (pick-found, eq-eqb)
+returns c = search (pick-found, eq-eqb)
 
 add-i : tie.Need-add-i Inv-loop μ-loop
 unfolding legal
@@ -44,11 +35,11 @@ loop-less c = search needs
 
 loop-again : tie.Need-loop-again Inv-loop μ-loop
 unfolding legal rowOf
-loop-again c = (search needs, pick-next _ _ _ _ _ _ _ (c .before .before .before .before .before .loop .inv .1) (c .before .before .before .before .loop-test .taken) (c .before .before .before .row-at .ensures) (ne-eqb _ _ (c .if2 .left)))
+loop-again c = (search needs, search (pick-next, ne-eqb))
 
-returns-3 : tie.Need-returns-3 Inv-loop μ-loop
-unfolding legal rowOf other
-returns-3 c = search pick-none
+returns-2 : tie.Need-returns-2 Inv-loop μ-loop
+unfolding legal rowOf
+returns-2 c = c .row-at2 .ensures ∙ search pick-none
 
 pub row-of-spec : {M : Type 1} → statement M
-row-of-spec = tie.close (tie.spec Inv-loop μ-loop returns loop-holds row-at-requires returns-2 add-i loop-less loop-again returns-3)
+row-of-spec = tie.close (tie.spec Inv-loop μ-loop loop-holds (λ c κs. search needs) returns add-i loop-less loop-again (λ c κs. search needs) returns-2)

@@ -1,0 +1,60 @@
+-- `checks::legal::line_at` meets its contract: the two tables have the same lines.
+use mathlib.Core.Path.{refl, sym, ap}
+use Rattle.checks.proofs.Pick.{behind}
+use Rattle.checks.specs.Legal.{legal, other}
+use Rattle.checks.specs.inner.Lines.{legalLine}
+use Rattle.checks.proofs.legal.line_at.Statement.{statement}
+use Rattle.checks.proofs.legal.line_at.Tie as tie
+
+returns : tie.Need-returns
+unfolding legal other
+returns c = rw (c .match .keys1) refl
+
+returns-2 : tie.Need-returns-2
+unfolding legal other
+returns-2 c = rw (c .match .keys2) refl
+
+returns-3 : tie.Need-returns-3
+unfolding legal other
+returns-3 c = rw (c .match .keys3) refl
+
+returns-4 : tie.Need-returns-4
+unfolding legal other
+returns-4 c = rw (c .match .keys4) refl
+
+returns-5 : tie.Need-returns-5
+unfolding legal other
+returns-5 c = rw (c .match .keys5) refl
+
+returns-6 : tie.Need-returns-6
+unfolding legal other
+returns-6 c = rw (c .match .keys6) refl
+
+returns-7 : tie.Need-returns-7
+unfolding legal other
+returns-7 c = rw (c .match .keys7) refl
+
+returns-8 : tie.Need-returns-8
+unfolding legal other
+returns-8 c = rw (c .match .keys8) refl
+
+returns-9 : tie.Need-returns-9
+unfolding legal other
+returns-9 c = rw (c .match .keys9) refl
+
+returns-10 : tie.Need-returns-10
+unfolding legal other
+returns-10 c = rw (c .match .keys10) refl
+
+returns-11 : tie.Need-returns-11
+unfolding legal other
+returns-11 c = rw (c .match .keys11) refl
+
+returns-12 : tie.Need-returns-12
+unfolding legal other
+returns-12 c = sym (ap legalLine (behind legal (c .before .args .i) other (c .match .rest)))
+
+pub line-at-spec : {M : Type 1} → statement M
+line-at-spec =
+    tie.close
+    (tie.spec returns returns-2 returns-3 returns-4 returns-5 returns-6 returns-7 returns-8 returns-9 returns-10 returns-11 returns-12)
