@@ -17,9 +17,9 @@ use Rattle.text.specs.Response.{currentProfile, headerOf, headerLength, most}
 use Rattle.refusal.proofs.First.{if-true, if-false, unless-none}
 use Rattle.profiles.specs.Profiles.{profilesOf}
 use Rattle.layout.specs.Layout.{featureCount, profilesPart}
-use Rattle.sheet.specs.Search.{firstFrom}
-use Rattle.responder.specs.inner.Index.{wantedEnd, fullBytes, takenFrom, takenTo, takenSize}
-use Rattle.responder.specs.Trusting.{foundBytes, limit, trusting}
+use Rattle.sheet.specs.inner.Search.{firstFrom}
+use Rattle.responder.specs.inner.Index.{foundBytes, limit, wantedEnd, fullBytes, takenFrom, takenTo, takenSize}
+use Rattle.responder.specs.Trusting.{trusting}
 use Rattle.responder.specs.Sized.{sizedBytes, sizedLimit, sized}
 
 -- what the code finds: the limit, and the entries that a request takes
