@@ -37,6 +37,7 @@ use Rattle.layout.proofs.feature_count as feature-count
 use Rattle.layout.proofs.profile_count as profile-count
 use Rattle.layout.proofs.profiles_behind as profiles-behind
 use Rattle.layout.proofs.bodies_at as bodies-at
+use Rattle.layout.proofs.entry_end as entry-end
 use Rattle.layout.proofs.feature_at as feature-at
 use Rattle.layout.proofs.flags_at as flags-at
 use Rattle.layout.proofs.length_at as length-at
@@ -184,8 +185,11 @@ profiles-behind-decided x = decides (x .𝓤) (λ o o′ p q. (joined p q, refl)
 pub bodies-at-decided : Decided bodies-at.ended (λ M. bodies-at.clauses) (λ M. bodies-at.spec)
 bodies-at-decided x = decides (x .𝓤) (λ o o′ p q. (joined p q, refl))
 
+pub entry-end-decided : Decided entry-end.ended (λ M. entry-end.clauses) (λ M. entry-end.spec)
+entry-end-decided x = decides (x .𝓤) (λ o o′ p q. (joined p q, refl))
+
 pub flags-at-decided : Decided flags-at.ended (λ M. flags-at.clauses) (λ M. flags-at.spec)
-flags-at-decided x = decides (x .𝓤) (λ o o′ p q. (joined p q, refl))
+flags-at-decided x = decides (x .𝓤) (λ o o′ p q. ((λ i. record { 0 = joined p q i }), refl))
 
 pub length-at-decided : Decided length-at.ended (λ M. length-at.clauses) (λ M. length-at.spec)
 length-at-decided x = decides (x .𝓤) (λ o o′ p q. (joined p q, refl))

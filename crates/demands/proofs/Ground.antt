@@ -47,6 +47,7 @@ use Rattle.layout.proofs.feature_count as feature-count
 use Rattle.layout.proofs.profile_count as profile-count
 use Rattle.layout.proofs.profiles_behind as profiles-behind
 use Rattle.layout.proofs.bodies_at as bodies-at
+use Rattle.layout.proofs.entry_end as entry-end
 use Rattle.layout.proofs.feature_at as feature-at
 use Rattle.layout.proofs.flags_at as flags-at
 use Rattle.layout.proofs.length_at as length-at
@@ -158,10 +159,13 @@ profiles-behind-tied x = promises (x .𝓤) (λ o e. e)
 pub bodies-at-tied : Promised bodies-at.ended (λ M. bodies-at.clauses) (λ M. bodies-at.spec) (λ x o. o .0 ≡ layout.bodiesAt (x .args .0 .now))
 bodies-at-tied x = promises (x .𝓤) (λ o e. e)
 
+pub entry-end-tied : Promised entry-end.ended (λ M. entry-end.clauses) (λ M. entry-end.spec) (λ x o. o .0 ≡ layout.entryAt (x .args .0) + 8)
+entry-end-tied x = promises (x .𝓤) (λ o e. e)
+
 pub feature-at-tied : Promised feature-at.ended (λ M. feature-at.clauses) (λ M. feature-at.spec) (λ x o. o .0 .0 ≡ layout.number (x .args .0 .now) (x .args .1 .0))
 feature-at-tied x = promises (x .𝓤) (λ o e. e)
 
-pub flags-at-tied : Promised flags-at.ended (λ M. flags-at.clauses) (λ M. flags-at.spec) (λ x o. o .0 ≡ layout.flags (x .args .0 .now) (x .args .1 .0))
+pub flags-at-tied : Promised flags-at.ended (λ M. flags-at.clauses) (λ M. flags-at.spec) (λ x o. o .0 .0 ≡ layout.flags (x .args .0 .now) (x .args .1 .0))
 flags-at-tied x = promises (x .𝓤) (λ o e. e)
 
 pub length-at-tied : Promised length-at.ended (λ M. length-at.clauses) (λ M. length-at.spec) (λ x o. o .0 ≡ layout.bodyLength (x .args .0 .now) (x .args .1 .0))
@@ -175,7 +179,7 @@ pub put-counts-tied : Promised put-counts.ended (λ M. put-counts.clauses) (λ M
 put-counts-tied x = promises (x .𝓤) (λ o e. e)
 
 pub put-entry-tied : Promised put-entry.ended (λ M. put-entry.clauses) (λ M. put-entry.spec)
-    (λ x o. Wrote (x .args .0 .now) (x .args .1 .0) (layout.entryBytes (x .args .1 .1 .0 .0) (x .args .1 .1 .1 .0) (x .args .1 .1 .1 .1 .0) (x .args .1 .1 .1 .1 .1 .0)) (o .0) (o .1 .0))
+    (λ x o. Wrote (x .args .0 .now) (x .args .1 .0) (layout.entryBytes (x .args .1 .1 .0 .0) (x .args .1 .1 .1 .0 .0) (x .args .1 .1 .1 .1 .0) (x .args .1 .1 .1 .1 .1 .0)) (o .0) (o .1 .0))
 put-entry-tied x = promises (x .𝓤) (λ o e. e)
 
 pub profiles-part-tied : Promised profiles-part.ended (λ M. profiles-part.clauses) (λ M. profiles-part.spec)

@@ -11,6 +11,7 @@ pub mod Importing
 pub mod Stars
 pub mod Decides
 pub mod Ground
+pub mod Asking
 pub mod Tied
 pub mod Exported
 pub mod EndToEnd

@@ -6,7 +6,7 @@ use native.Mathlib.Nat.{zero-add}
 use native.Mathlib.Decide.{decLe}
 use native.Mathlib.Omega.{arith}
 use lib.ListN.{length, set, take, drop, replicate, length-append, length-take, length-replicate, take-append-drop, drop-of-length-le, replicate-append-replicate}
-use lib.Seq.{sets, length-sets, sets-eq, length-take-le, take-length, take-append-seam, drop-drop}
+use lib.Seq.{sets, length-sets, sets-eq, length-take-le, take-append-seam, drop-drop}
 use Rattle.lent.specs.Wrote.{Wrote}
 use Rattle.lent.proofs.Sets.{sets-out, sets-room, sets-append, sets-left}
 

@@ -1,5 +1,4 @@
 -- `lent::blocks::block16` meets its contract: the law of a block.
-use native.Mathlib.Omega.{arith}
 use borrow.Author.Needs.{needs}
 use Rattle.lent.proofs.Copying.{same-more}
 use Rattle.lent.proofs.blocks.block16.Statement.{statement}
