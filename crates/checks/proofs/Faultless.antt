@@ -152,7 +152,7 @@ module _ (removable : Bool) (d : Desc) where
         numbered = profiles-good (d .number) (d .body) (w .1);
       }
 
-  desc-accept : Faultless removable d → descFault removable d .number ≡ 0
+  pub desc-accept : Faultless removable d → descFault removable d .number ≡ 0
   unfolding descFault flagsFault rowRule bodyFault reservedAt
   desc-accept g =
       let f = flags-accept (refuse 33) (refuse 33) (refuse 34) (d .flags) (record { reserved-zero = g .reserved-zero; version-zero = g .version-zero; current-too = g .current-too }) in

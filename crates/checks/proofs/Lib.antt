@@ -6,4 +6,6 @@ pub mod Complete
 pub mod Findings
 pub mod Judgements
 pub mod Faultless
+pub mod Other
+pub mod Reserved
 pub mod Lowest

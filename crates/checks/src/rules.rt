@@ -122,39 +122,17 @@ fn reserved_rule(byte: u8, mask: u8) -> Refusal
     refusal::ACCEPTED
 }
 
-// 37: a cue sheet length without SAO.
-fn cue_rule(f: Feature, byte4: u8, cue: u32) -> Refusal
-    ensures { λ r. ⌜ r ≡ cueRule (f .0) byte4 cue ⌝ }
-{
-    if f.0 != 0x002E {
-        return refusal::ACCEPTED;
-    }
-    if byte4 / 32 % 2 != 0 {
-        return refusal::ACCEPTED;
-    }
-    if cue != 0 {
-        return refusal::CUE_LENGTH;
-    }
-    refusal::ACCEPTED
-}
-
 // ---- the rules, over a body
-
-// 36 at body byte k.
-fn reserved_at(row: Row, body: &[u8], k: usize) -> Refusal
-    ensures { λ r. ⌜ r ≡ reservedAt row (now (body .entry)) k ⌝ }
-{
-    let mask = mask_at(row, fields::byte(body, 3), k);
-    reserved_rule(fields::byte(body, k), mask)
-}
 
 // 36 anywhere in a body.
 fn reserved_fault(row: Row, body: &[u8]) -> Refusal
     ensures { λ r. ⌜ r ≡ firstOf (reservedAt row (now (body .entry))) 0 (length (now (body .entry))) ⌝ }
 {
+    let n = fields::byte(body, 3);
     let mut k = 0;
     while k < body.len() {
-        let fault = reserved_at(row, body, k);
+        let mask = mask_at(row, n, k);
+        let fault = reserved_rule(body[k], mask);
         if fault.number != 0 {
             return fault;
         }
@@ -195,11 +173,21 @@ fn profiles_fault(f: Feature, body: &[u8]) -> Refusal
     refusal::ACCEPTED
 }
 
-// 37 of a body.
+// 37 of a body: a cue sheet length without SAO.
 fn cue_fault(f: Feature, body: &[u8]) -> Refusal
     ensures { λ r. ⌜ r ≡ cueRule (f .0) (getD (now (body .entry)) 0 0) (field 3 (now (body .entry)) 1) ⌝ }
 {
-    cue_rule(f, fields::byte(body, 0), fields::get3(body, 1))
+    if f.0 != 0x002E {
+        return refusal::ACCEPTED;
+    }
+    let byte4 = fields::byte(body, 0);
+    if byte4 / 32 % 2 != 0 {
+        return refusal::ACCEPTED;
+    }
+    if fields::get3(body, 1) != 0 {
+        return refusal::CUE_LENGTH;
+    }
+    refusal::ACCEPTED
 }
 
 // 36, then 37, then 39 of a body.
@@ -228,6 +216,9 @@ fn desc_fault(removable: bool, f: Feature, flags: Flags, body: &[u8]) -> Refusal
         return fault;
     }
     let row = legal::row_of(f);
+    if row.feature.0 == legal::OTHER.0 {
+        return refusal::ACCEPTED;
+    }
     let fault = row_rule(row, removable, f, flags, fields::byte(body, 3), body.len());
     if fault.number != 0 {
         return fault;
