@@ -2,7 +2,8 @@
 use borrow.Author.Tests.{eq-eqb, ne-eqb}
 use mathlib.Core.Path.{_≡_, sym, _∙_}
 use mathlib.Core.Bool.{Bool, true, false, not}
-use Prim.Native.Nat.{ℕ}
+use Prim.Native.Nat.{ℕ, _<_}
+use native.Mathlib.Omega.{arith}
 use lib.Dec.{eqb}
 use Rattle.refusal.specs.declared.Refusal.{Refusal}
 use Rattle.refusal.specs.First.{_if_else_}
@@ -27,6 +28,9 @@ call-eq r a k e h = eq-eqb a k (sym e ∙ h)
 
 pub call-ne : (r a k : ℕ) → r ≡ a → (r ≡ k → ⊥) → eqb a k ≡ false
 call-ne r a k e h = ne-eqb a k (λ z. h (e ∙ z))
+
+pub below-ne : (r k : ℕ) → r < k → r ≡ k → ⊥
+below-ne r k h e = omega arith
 
 -- a refusal, tested
 pub call-some : (r a : Refusal) → r ≡ a → (r .number ≡ 0 → ⊥) → not (eqb (a .number) 0) ≡ true

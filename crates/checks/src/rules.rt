@@ -242,7 +242,7 @@ pub fn first_fault(removable: bool, s: &[u8]) -> Finding
     ensures { λ r. ⌜ r ≡ firstFinding removable (descs (now (s .entry))) ⌝ }
 {
     let mut at = Header::LENGTH;
-    while at < s.len() {
+    while at + 4 <= s.len() {
         let fault = fault_at(removable, s, at);
         if fault.number != 0 {
             return Finding {

@@ -9,7 +9,7 @@ use Rattle.checks.specs.Pick.{pick}
 use Rattle.reading.specs.Places.{descs}
 use Rattle.reading.specs.inner.Between.{from}
 use Rattle.reading.proofs.Places.{from-less}
-use Rattle.checks.proofs.Complete.{walk-start, walk-found, walk-next, walk-end}
+use Rattle.checks.proofs.Complete.{Here, four-in, here-start, here-next, here-end, walk-start, walk-found, walk-next, walk-end}
 use Rattle.checks.proofs.Calls.{call-some, call-zero}
 use Rattle.refusal.specs.First.{accept}
 use Rattle.text.specs.Reading.{descAt}
@@ -20,29 +20,29 @@ use Rattle.checks.proofs.rules.first_fault.Statement.{statement}
 use Rattle.checks.proofs.rules.first_fault.Tie as tie
 
 abbrev Inv-loop : tie.InvT-loop
-Inv-loop removable s at₀ at = firstFinding removable (descs s) ≡ pick (λ d. not (eqb (descFault removable d .number) 0)) (λ d. finding (descFault removable d) (d .number)) (finding accept 0) (from s at)
+Inv-loop removable s at₀ at = Here s at × (firstFinding removable (descs s) ≡ pick (λ d. not (eqb (descFault removable d .number) 0)) (λ d. finding (descFault removable d) (d .number)) (finding accept 0) (from s at))
 
 abbrev μ-loop : tie.MeasureT-loop
 μ-loop removable s at₀ at = length s - at
 
 loop-holds : tie.Need-loop-holds Inv-loop μ-loop
 unfolding firstFinding
-loop-holds c = search walk-start
+loop-holds c = (search here-start, search walk-start)
 
 returns : tie.Need-returns Inv-loop μ-loop
 unfolding descAt
-returns c = search (walk-found, call-some, finding-eq)
+returns c = search (walk-found, call-some, finding-eq, four-in)
 
 loop-less : tie.Need-loop-less Inv-loop μ-loop
-loop-less c = search from-less
+loop-less c = search (from-less, four-in)
 
 loop-again : tie.Need-loop-again Inv-loop μ-loop
-loop-again c = search (walk-next, call-zero)
+loop-again c = (search (here-next, four-in), search (walk-next, call-zero, four-in))
 
 returns-2 : tie.Need-returns-2 Inv-loop μ-loop
-returns-2 c = search walk-end
+returns-2 c = search (walk-end, here-end)
 
 pub first-fault-spec : {M : Type 1} → statement M
 first-fault-spec =
     tie.close
-    (tie.spec Inv-loop μ-loop loop-holds (λ c κs. search needs) (λ c κs. search needs) returns (λ c κs. search needs) loop-less loop-again returns-2)
+    (tie.spec Inv-loop μ-loop loop-holds (λ c. search needs) (λ c κs. search needs) (λ c κs. search needs) returns (λ c κs. search needs) loop-less loop-again returns-2)

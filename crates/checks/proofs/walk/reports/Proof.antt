@@ -1,45 +1,45 @@
 -- `checks::walk::reports` meets its contract: the loop carries what is left of the search.
 use borrow.Author.Needs.{needs}
 use Prim.Native.Nat.{_-_}
+use native.Mathlib.Omega.{arith}
 use mathlib.Core.Path.{_≡_}
 use lib.Dec.{eqb}
 use lib.ListN.{length}
 use Rattle.text.specs.Reading.{descAt}
 use Rattle.checks.specs.Pick.{some}
 use Rattle.checks.specs.Check.{reported}
-use Rattle.checks.proofs.Calls.{call-eq, call-ne}
+use Rattle.checks.proofs.Calls.{call-ne, below-ne}
 use Rattle.reading.specs.Places.{descs}
 use Rattle.reading.specs.inner.Between.{from}
 use Rattle.reading.proofs.Places.{from-less}
-use Rattle.checks.proofs.Complete.{walk-start, walk-found, walk-next, walk-end}
+use Rattle.checks.proofs.Complete.{Here, four-in, here-start, here-next, here-end, here-told, walk-start, walk-next, walk-end}
 use Rattle.checks.proofs.walk.reports.Statement.{statement}
 use Rattle.checks.proofs.walk.reports.Tie as tie
 
 abbrev Inv-loop : tie.InvT-loop
-Inv-loop f s at₀ at = reported (f .0) (descs s) ≡ some (λ d. eqb (d .number) (f .0)) (from s at)
+Inv-loop f s at₀ at = Here s at × (reported (f .0) (descs s) ≡ some (λ d. eqb (d .number) (f .0)) (from s at))
 
 abbrev μ-loop : tie.MeasureT-loop
 μ-loop f s at₀ at = length s - at
 
 loop-holds : tie.Need-loop-holds Inv-loop μ-loop
 unfolding reported
-loop-holds c = search walk-start
+loop-holds c = (search here-start, search walk-start)
 
 returns : tie.Need-returns Inv-loop μ-loop
-unfolding descAt
-returns c = search (walk-found, call-eq)
+returns c = search (here-told, four-in)
 
 loop-less : tie.Need-loop-less Inv-loop μ-loop
-loop-less c = search from-less
+loop-less c = search (from-less, four-in)
 
 loop-again : tie.Need-loop-again Inv-loop μ-loop
 unfolding descAt
-loop-again c = search (walk-next, call-ne)
+loop-again c = (search (here-next, four-in), search (walk-next, call-ne, four-in, below-ne))
 
 returns-2 : tie.Need-returns-2 Inv-loop μ-loop
-returns-2 c = search walk-end
+returns-2 c = search (walk-end, here-end)
 
 pub reports-spec : {M : Type 1} → statement M
 reports-spec =
     tie.close
-    (tie.spec Inv-loop μ-loop loop-holds (λ c κs. search needs) returns (λ c κs. search needs) loop-less loop-again returns-2)
+    (tie.spec Inv-loop μ-loop loop-holds (λ c. search needs) (λ c κs. search needs) returns (λ c κs. search needs) loop-less loop-again returns-2)
