@@ -1,5 +1,5 @@
 -- A loop over the descriptors of a complete response. Assumes nothing.
-use borrow.Author.Tests.{eqb-true, ne-eqb}
+use borrow.Author.Tests.{ne-eqb}
 use mathlib.Core.Path.{_≡_, refl, sym, ap, subst, _∙_}
 use mathlib.Core.Logic.{⊎-elim}
 use mathlib.Core.Bool.{Bool, true, false}
@@ -26,7 +26,7 @@ pub four-in : (at n : ℕ) → at + 4 ≤ n → at < n
 four-in at n h = omega arith
 
 -- of ascending descriptors above f none is f's
-pub some-above : (f lo : ℕ) (ds : List Desc) → f < lo → Asc lo ds → some (λ d. eqb (d .number) f) ds ≡ false
+some-above : (f lo : ℕ) (ds : List Desc) → f < lo → Asc lo ds → some (λ d. eqb (d .number) f) ds ≡ false
 unfolding pick
 some-above f lo [] l a = refl
 some-above f lo (d ∷ ds) l a =

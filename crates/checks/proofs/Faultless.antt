@@ -144,9 +144,9 @@ module _ (removable : Bool) (d : Desc) where
         reserved-zero = f .reserved-zero;
         version-zero = f .version-zero;
         current-too = f .current-too;
-        fits = length-good (rowOf (d .number) .length) (d .body) (r .0);
+        fits = length-good (rowOf (d .number) .1) (d .body) (r .0);
         both = both-good (d .number) (d .flags) (t .0);
-        free = free-good (rowOf (d .number) .barred) removable (d .flags) (u .0);
+        free = free-good (rowOf (d .number) .3) removable (d .flags) (u .0);
         clear = λ k l. bits-good _ _ (first-all (reservedAt (rowOf (d .number)) (d .body)) (length (d .body)) (v .0) k l);
         cue = cue-good (d .number) (byteOf (d .body) 4) (field 3 (d .body) 1) (w .0);
         numbered = profiles-good (d .number) (d .body) (w .1);
@@ -156,9 +156,9 @@ module _ (removable : Bool) (d : Desc) where
   unfolding descFault flagsFault rowRule bodyFault reservedAt
   desc-accept g =
       let f = flags-accept (refuse 33) (refuse 33) (refuse 34) (d .flags) (record { reserved-zero = g .reserved-zero; version-zero = g .version-zero; current-too = g .current-too }) in
-      let l = length-accept (rowOf (d .number) .length) (d .body) (g .fits) in
+      let l = length-accept (rowOf (d .number) .1) (d .body) (g .fits) in
       let b = both-accept (d .number) (d .flags) (g .both) in
-      let p = free-accept (rowOf (d .number) .barred) removable (d .flags) (g .free) in
+      let p = free-accept (rowOf (d .number) .3) removable (d .flags) (g .free) in
       let r = first-accept (reservedAt (rowOf (d .number)) (d .body)) 0 (length (d .body)) (λ k i j. zero-of (bits-accept _ _ (g .clear k (omega arith)))) in
       let c = cue-accept (d .number) (byteOf (d .body) 4) (field 3 (d .body) 1) (g .cue) in
       let n = profiles-accept (d .number) (d .body) (g .numbered) in

@@ -9,3 +9,4 @@ pub mod Faultless
 pub mod Other
 pub mod Reserved
 pub mod Lowest
+pub mod Resumed

@@ -23,46 +23,46 @@ use Rattle.checks.proofs.Pick.{pick-here, pick-past}
 
 -- ---- what holds of every line, by one computed test
 
-abbrev every : (Need → Bool) → List Need → Bool
+abbrev pub every : (Need → Bool) → List Need → Bool
 every test [] = true
 every test (n ∷ ns) = test n && every test ns
 
-every-all : (test : Need → Bool) (ns : List Need) → every test ns ≡ true → All (λ (n : Need). test n ≡ true) ns
+pub every-all : (test : Need → Bool) (ns : List Need) → every test ns ≡ true → All (λ (n : Need). test n ≡ true) ns
 every-all test [] e = tt
 every-all test (n ∷ ns) e = let a = and-true (test n) (every test ns) e in (a .0, every-all test ns (a .1))
 
 -- the lines of one profile ascend
-abbrev notAbove : Need → Need → Bool
-notAbove m n = not (eqb (m .profile .0) (n .profile .0)) || leb (m .feature .0) (n .feature .0)
+abbrev pub notAbove : Need → Need → Bool
+notAbove m n = not (eqb (m .0 .0) (n .0 .0)) || leb (m .1 .0) (n .1 .0)
 
-abbrev ascends : List Need → Bool
+abbrev pub ascends : List Need → Bool
 ascends [] = true
 ascends (n ∷ ns) = every (notAbove n) ns && ascends ns
 
-required-ascends : ascends required ≡ true
+pub required-ascends : ascends required ≡ true
 unfolding required
 required-ascends = refl
 
 module _ (p : ℕ) (ds : List Desc) where
   -- a line that is not met names a feature that is not below f
   abbrev pub NotBelow : ℕ → Need → Type 0
-  NotBelow f n = lacks p ds n ≡ true → f ≤ n .feature .0
+  NotBelow f n = lacks p ds n ≡ true → f ≤ n .1 .0
 
-  lacks-profile : (n : Need) → lacks p ds n ≡ true → n .profile .0 ≡ p
+  lacks-profile : (n : Need) → lacks p ds n ≡ true → n .0 .0 ≡ p
   unfolding lacks
   lacks-profile n h = eqb-true _ _ (and-true _ _ h .0)
 
   -- in a list of lines that ascend, below one that is not met there is none
-  above : (m : Need) (ns : List Need) → every (notAbove m) ns ≡ true → lacks p ds m ≡ true → All (NotBelow (m .feature .0)) ns
-  above m ns e h = all-map (λ n. notAbove m n ≡ true) (NotBelow (m .feature .0)) step ns (every-all (notAbove m) ns e)
+  above : (m : Need) (ns : List Need) → every (notAbove m) ns ≡ true → lacks p ds m ≡ true → All (NotBelow (m .1 .0)) ns
+  above m ns e h = all-map (λ n. notAbove m n ≡ true) (NotBelow (m .1 .0)) step ns (every-all (notAbove m) ns e)
     where
-      step : (n : Need) → notAbove m n ≡ true → NotBelow (m .feature .0) n
+      step : (n : Need) → notAbove m n ≡ true → NotBelow (m .1 .0) n
       step n a k =
-          let q : eqb (m .profile .0) (n .profile .0) ≡ true = eq-eqb _ _ (lacks-profile m h ∙ sym (lacks-profile n k)) in
+          let q : eqb (m .0 .0) (n .0 .0) ≡ true = eq-eqb _ _ (lacks-profile m h ∙ sym (lacks-profile n k)) in
           leb-true _ _ (rw q at a)
 
   abbrev first : List Need → Said
-  first ns = pick (lacks p ds) (λ n. says 0 false (n .feature .0 ∷ [])) (says 0 true []) ns
+  first ns = pick (lacks p ds) (λ n. says 0 false (n .1 .0 ∷ [])) (says 0 true []) ns
 
   first-none : (ns : List Need) → first ns ≡ says 0 true [] → All (λ (n : Need). lacks p ds n ≡ false) ns
   first-none [] e = tt
@@ -74,17 +74,17 @@ module _ (p : ℕ) (ds : List Desc) where
 
   -- the feature f is that of a line that is not met, and no such line names a lower one
   abbrev pub named : ℕ → Need → Bool
-  named f n = lacks p ds n && eqb (n .feature .0) f
+  named f n = lacks p ds n && eqb (n .1 .0) f
 
   pub record Least (f : ℕ) (ns : List Need) : Type 0 where
     pub missing : some (named f) ns ≡ true
     pub lowest : All (NotBelow f) ns
 
-  least-here : (n : Need) (ns : List Need) → every (notAbove n) ns ≡ true → lacks p ds n ≡ true → Least (n .feature .0) (n ∷ ns)
+  least-here : (n : Need) (ns : List Need) → every (notAbove n) ns ≡ true → lacks p ds n ≡ true → Least (n .1 .0) (n ∷ ns)
   least-here n ns a h =
       record {
-        missing = pick-here (named (n .feature .0)) _ _ n ns (true-and _ _ h (eq-eqb (n .feature .0) (n .feature .0) refl));
-        lowest = (λ k. le-refl (n .feature .0), above n ns a h);
+        missing = pick-here (named (n .1 .0)) _ _ n ns (true-and _ _ h (eq-eqb (n .1 .0) (n .1 .0) refl));
+        lowest = (λ k. le-refl (n .1 .0), above n ns a h);
       }
 
   least-past : (f : ℕ) (n : Need) (ns : List Need) → lacks p ds n ≡ false → Least f ns → Least f (n ∷ ns)
@@ -103,8 +103,8 @@ module _ (p : ℕ) (ds : List Desc) where
     where
       go : (t : Bool) → lacks p ds n ≡ t → every (notAbove n) ns ≡ true → (first ns ≡ says 0 false (f ∷ []) → Least f ns) → Least f (n ∷ ns)
       go true h b more =
-          let m : (n .feature .0 ∷ []) ≡ (f ∷ []) = ap (λ (x : Said). x .missing) (sym (pick-here (lacks p ds) _ _ n ns h) ∙ e) in
-          let q : n .feature .0 ≡ f = cc in
+          let m : (n .1 .0 ∷ []) ≡ (f ∷ []) = ap (λ (x : Said). x .missing) (sym (pick-here (lacks p ds) _ _ n ns h) ∙ e) in
+          let q : n .1 .0 ≡ f = cc in
           subst (λ (g : ℕ). Least g (n ∷ ns)) q (least-here n ns b h)
       go false h b more = least-past f n ns h (more (sym (pick-past (lacks p ds) _ _ n ns h) ∙ e))
 

@@ -2,7 +2,7 @@
 use mathlib.Core.Path.{_≡_, refl, sym, ap, subst, _∙_}
 use mathlib.Core.Bool.{Bool, true, false, true≢false}
 use mathlib.Core.List.{List, [], _∷_}
-use Prim.Native.Nat.{ℕ, zero, suc, _%_, _≤_, _<_}
+use Prim.Native.Nat.{ℕ, zero, suc, _%_, _<_}
 use native.Mathlib.Nat.{mod-lt, mod-eq-of-lt}
 use native.Mathlib.Omega.{arith}
 use lib.Bits.{bitAnd, and-mask}
@@ -26,7 +26,7 @@ use Rattle.checks.proofs.Faultless.{desc-accept}
 -- a row with the number FFFFh is the one for other features, which the table does not have
 module _ (f : ℕ) where
   abbrev is : Row → Bool
-  is r = eqb (r .feature .0) f
+  is r = eqb (r .0 .0) f
 
   abbrev same : Row → Row
   same r = r
@@ -34,24 +34,24 @@ module _ (f : ℕ) where
   abbrev found : List Row → Row
   found rs = pick is same other rs
 
-  found-other : (rs : List Row) → All (λ (r : Row). eqb (r .feature .0) 0xFFFF ≡ false) rs → found rs .feature .0 ≡ 0xFFFF → found rs ≡ other
+  found-other : (rs : List Row) → All (λ (r : Row). eqb (r .0 .0) 0xFFFF ≡ false) rs → found rs .0 .0 ≡ 0xFFFF → found rs ≡ other
   unfolding pick
   found-other [] h e = refl
-  found-other (r ∷ rs) h e = go (eqb (r .feature .0) f) refl (found-other rs (h .1))
+  found-other (r ∷ rs) h e = go (eqb (r .0 .0) f) refl (found-other rs (h .1))
     where
-      go : (t : Bool) → eqb (r .feature .0) f ≡ t → (found rs .feature .0 ≡ 0xFFFF → found rs ≡ other) → found (r ∷ rs) ≡ other
+      go : (t : Bool) → eqb (r .0 .0) f ≡ t → (found rs .0 .0 ≡ 0xFFFF → found rs ≡ other) → found (r ∷ rs) ≡ other
       go true k more =
-          let q : r .feature .0 ≡ 0xFFFF = ap (λ (x : Row). x .feature .0) (sym (pick-here is same other r rs k)) ∙ e in
+          let q : r .0 .0 ≡ 0xFFFF = ap (λ (x : Row). x .0 .0) (sym (pick-here is same other r rs k)) ∙ e in
           absurd (true≢false (sym (eq-eqb _ _ q) ∙ h .0))
       go false k more =
-          pick-past is same other r rs k ∙ more (ap (λ (x : Row). x .feature .0) (sym (pick-past is same other r rs k)) ∙ e)
+          pick-past is same other r rs k ∙ more (ap (λ (x : Row). x .0 .0) (sym (pick-past is same other r rs k)) ∙ e)
 
-  row-other : rowOf f .feature .0 ≡ 0xFFFF → rowOf f ≡ other
+  row-other : rowOf f .0 .0 ≡ 0xFFFF → rowOf f ≡ other
   unfolding rowOf legal
   row-other = found-other legal (refl, (refl, (refl, (refl, (refl, (refl, (refl, (refl, (refl, (refl, (refl, tt)))))))))))
 
 -- the table names the lowest four, and 002Eh
-above : (f : ℕ) → rowOf f .feature .0 ≡ 0xFFFF → 3 < f
+above : (f : ℕ) → rowOf f .0 .0 ≡ 0xFFFF → 3 < f
 unfolding rowOf legal pick
 above zero e = absurd (omega (arith, e))
 above (suc zero) e = absurd (omega (arith, e))
@@ -59,23 +59,23 @@ above (suc (suc zero)) e = absurd (omega (arith, e))
 above (suc (suc (suc zero))) e = absurd (omega (arith, e))
 above (suc (suc (suc (suc f)))) e = omega arith
 
-no-cue : (f : ℕ) → rowOf f .feature .0 ≡ 0xFFFF → f ≡ 0x002E → ⊥
+no-cue : (f : ℕ) → rowOf f .0 .0 ≡ 0xFFFF → f ≡ 0x002E → ⊥
 unfolding rowOf legal pick
-no-cue f e h = omega (arith, subst (λ (n : ℕ). rowOf n .feature .0 ≡ 0xFFFF) h e)
+no-cue f e h = omega (arith, subst (λ (n : ℕ). rowOf n .0 .0 ≡ 0xFFFF) h e)
 
 -- any bits may be 1
-any-bits : (b k n : ℕ) → b < 256 → bitAnd b (maskAt (other .length) (other .masks) n k) ≡ b
+any-bits : (b k n : ℕ) → b < 256 → bitAnd b (maskAt (other .1) (other .2) n k) ≡ b
 unfolding maskAt other
 any-bits b k n l =
     ap (bitAnd b)
-    (all-getD (λ m. m ≡ 255) (other .masks) 0 (refl, (refl, (refl, (refl, (refl, (refl, (refl, (refl, (refl, (refl, (refl, (refl, tt)))))))))))) (k % 12) (mod-lt k (omega arith)))
+    (all-getD (λ m. m ≡ 255) (other .2) 0 (refl, (refl, (refl, (refl, (refl, (refl, (refl, (refl, (refl, (refl, (refl, (refl, tt)))))))))))) (k % 12) (mod-lt k (omega arith)))
     ∙ and-mask b 8 ∙ mod-eq-of-lt l
 
 module _ (removable : Bool) (f flags : ℕ) (body : List ℕ) where
   abbrev d : Desc
   d = record { number = f; flags = flags; body = body }
 
-  other-faultless : Bytes body → rowOf f .feature .0 ≡ 0xFFFF → flagsFault flags .number ≡ 0 → Faultless removable d
+  other-faultless : Bytes body → rowOf f .0 .0 ≡ 0xFFFF → flagsFault flags .number ≡ 0 → Faultless removable d
   unfolding flagsFault other
   other-faultless u e z =
       let g = flags-good (refuse 33) (refuse 33) (refuse 34) flags (λ z. absurd (omega arith)) (λ z. absurd (omega arith)) (λ z. absurd (omega arith)) z in
@@ -92,6 +92,6 @@ module _ (removable : Bool) (f flags : ℕ) (body : List ℕ) where
         numbered = λ h. absurd (omega arith);
       }
 
-  pub other-accept : (row : Row) (r : Refusal) → r ≡ flagsFault flags → r .number ≡ 0 → row ≡ rowOf f → row .feature .0 ≡ 0xFFFF → Bytes body
+  pub other-accept : (row : Row) (r : Refusal) → r ≡ flagsFault flags → r .number ≡ 0 → row ≡ rowOf f → row .0 .0 ≡ 0xFFFF → Bytes body
       → accept ≡ descFault removable d
   other-accept row r q z w h u = sym (ap refuse (desc-accept removable d (other-faultless u (rw (← w) h) (rw (← q) z))))

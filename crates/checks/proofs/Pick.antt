@@ -2,10 +2,9 @@
 use mathlib.Core.Path.{_≡_, refl, sym, ap, _∙_}
 use mathlib.Core.Bool.{Bool, true, false}
 use mathlib.Core.List.{List, [], _∷_}
-use Prim.Native.Nat.{ℕ, zero, suc, _+_, _≤_, _<_}
+use Prim.Native.Nat.{ℕ, suc, _+_, _≤_, _<_}
 use native.Mathlib.Numerals.{add-one}
-use native.Mathlib.Omega.{arith}
-use lib.ListN.{length, getD, drop, drop-of-length-le, List·getD-eq-default}
+use lib.ListN.{length, getD, drop, drop-of-length-le}
 use lib.Seq.{drop-cons}
 use Rattle.base.specs.Lists.{All}
 use Rattle.checks.specs.Pick.{pick}
@@ -44,15 +43,3 @@ module _ {A B : Type 0} (test : A → Bool) (found : A → B) (none : B) where
     pub pick-none : (i : ℕ) → pick test found none t ≡ left i → length t ≤ i → none ≡ pick test found none t
     unfolding pick
     pick-none i e h = sym (e ∙ ap (pick test found none) (drop-of-length-le t h))
-
--- i is none of the first n numbers, as a `match` on them has it where none is met; then it is n or more, behind a table of n lines
-abbrev pub Nots : (n i : ℕ) → Type 0
-Nots zero i = Unit {0}
-Nots (suc n) i = Nots n i × (i ≡ n → ⊥)
-
-pub nots-le : (n i : ℕ) → Nots n i → n ≤ i
-nots-le zero i h = omega arith
-nots-le (suc n) i h = let l : n ≤ i = nots-le n i (h .0) in let k : i ≡ n → ⊥ = h .1 in omega arith
-
-pub behind : {A : Type 0} (t : List A) (i : ℕ) (d : A) → Nots (length t) i → getD t i d ≡ d
-behind t i d h = List·getD-eq-default t d (nots-le (length t) i h)

@@ -30,14 +30,14 @@ pub record Faultless (removable : Bool) (d : Desc) : Type 0 where
   -- 34
   pub current-too : persistent (d .flags) ≡ 1 → current (d .flags) ≡ 1
   -- 31
-  pub fits : Fits (rowOf (d .number) .length) (d .body)
+  pub fits : Fits (rowOf (d .number) .1) (d .body)
   -- 32
   pub both : d .number ≤ 0x0003 → (persistent (d .flags) ≡ 1) × (current (d .flags) ≡ 1)
   -- 35
-  pub free : rowOf (d .number) .barred ≡ true → removable ≡ true → persistent (d .flags) ≡ 0
+  pub free : rowOf (d .number) .3 ≡ true → removable ≡ true → persistent (d .flags) ≡ 0
   -- 36
   pub clear : (k : ℕ) → k < length (d .body)
-      → bitAnd (getD (d .body) k 0) (maskAt (rowOf (d .number) .length) (rowOf (d .number) .masks) (byteOf (d .body) 7) k) ≡ getD (d .body) k 0
+      → bitAnd (getD (d .body) k 0) (maskAt (rowOf (d .number) .1) (rowOf (d .number) .2) (byteOf (d .body) 7) k) ≡ getD (d .body) k 0
   -- 37
   pub cue : d .number ≡ 0x002E → byteOf (d .body) 4 / 32 % 2 ≡ 0 → field 3 (d .body) 1 ≡ 0
   -- 39

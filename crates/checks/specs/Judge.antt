@@ -29,7 +29,7 @@ said (Refused r) = says (r .number) false []
 
 -- the first line that is not met: lines of one profile ascend, so its feature is the lowest
 unfoldable pub lowest : (profile : ℕ) → List Desc → Said
-lowest p ds = pick (lacks p ds) (λ n. says 0 false (n .feature .0 ∷ [])) (says 0 true []) required
+lowest p ds = pick (lacks p ds) (λ n. says 0 false (n .1 .0 ∷ [])) (says 0 true []) required
 
 -- what refuses a judgement: the reading's numbers, 29, then 40: no table for the profile
 unfoldable pub judgeFault : (profile : ℕ) → List ℕ → Refusal

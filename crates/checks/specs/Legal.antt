@@ -38,7 +38,7 @@ abbrev pub barred : Bool
 barred = true
 
 abbrev pub row : ℕ → Length → List ℕ → Bool → Row
-row f l m b = record { feature = record { 0 = f }; length = l; masks = m; barred = b }
+row f l m b = record { 0 = record { 0 = f }; 1 = l; 2 = m; 3 = b }
 
 -- feature, length, the bits that may be 1 in bytes 4 to 15 (and so in each twelve bytes of a longer body; of Counted only in the first four), and
 -- whether Persistent is barred where 0003h is reported
@@ -62,4 +62,4 @@ other = row 0xFFFF Any (fours anyBits anyBits anyBits anyBits) free
 
 -- the row of a feature
 unfoldable pub rowOf : ℕ → Row
-rowOf f = pick (λ r. eqb (r .feature .0) f) (λ r. r) other legal
+rowOf f = pick (λ r. eqb (r .0 .0) f) (λ r. r) other legal

@@ -14,7 +14,7 @@ use Rattle.checks.specs.Legal.{bitAt}
 -- start
 abbrev pub lineWith : (profile feature least byte mask : ℕ) → Need
 lineWith p f least byte mask =
-    record { profile = record { 0 = p }; feature = record { 0 = f }; least = least; place = byte - 4; mask = mask }
+    record { 0 = record { 0 = p }; 1 = record { 0 = f }; 2 = least; 3 = byte - 4; 4 = mask }
 
 abbrev pub line : (profile feature : ℕ) → Need
 line p f = lineWith p f 0 0 0
@@ -39,16 +39,16 @@ required =
 
 -- a body of len bytes, with this byte at the line's place, is what the line asks for
 unfoldable pub givesRule : Need → (len byte : ℕ) → Bool
-givesRule n len byte = leb (n .least) len && eqb (bitAnd byte (n .mask)) (n .mask)
+givesRule n len byte = leb (n .2) len && eqb (bitAnd byte (n .4)) (n .4)
 
 -- a descriptor is what the line asks for
 unfoldable pub gives : Need → Desc → Bool
-gives n d = eqb (d .number) (n .feature .0) && givesRule n (length (d .body)) (getD (d .body) (n .place) 0)
+gives n d = eqb (d .number) (n .1 .0) && givesRule n (length (d .body)) (getD (d .body) (n .3) 0)
 
 -- a line of the profile that no descriptor gives
 unfoldable pub lacks : (profile : ℕ) → List Desc → Need → Bool
-lacks p ds n = eqb (n .profile .0) p && not (some (gives n) ds)
+lacks p ds n = eqb (n .0 .0) p && not (some (gives n) ds)
 
 -- there is a table for the profile
 unfoldable pub hasTable : ℕ → Bool
-hasTable p = some (λ n. eqb (n .profile .0) p) required
+hasTable p = some (λ n. eqb (n .0 .0) p) required

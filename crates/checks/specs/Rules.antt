@@ -40,9 +40,9 @@ flagsBarred barred removable flags = barred && removable && eqb (persistent flag
 -- 31: wrong length. 32: flags not both 1. 35: Persistent with 0003h reported
 unfoldable pub rowRule : Row → (removable : Bool) (number flags n len : ℕ) → Refusal
 rowRule row removable number flags n len =
-    refuse 31 if wrongLength (row .length) n len else
+    refuse 31 if wrongLength (row .1) n len else
     refuse 32 if flagsShort number flags else
-    refuse 35 if flagsBarred (row .barred) removable flags else
+    refuse 35 if flagsBarred (row .3) removable flags else
     accept
 
 -- the bits of body byte k that may be 1; n is byte 7
@@ -56,7 +56,7 @@ unfoldable pub reservedRule : (byte mask : ℕ) → Refusal
 reservedRule byte mask = refuse 36 if not (eqb (bitAnd byte mask) byte) else accept
 
 unfoldable pub reservedAt : Row → List ℕ → ℕ → Refusal
-reservedAt row body k = reservedRule (getD body k 0) (maskAt (row .length) (row .masks) (byteOf body 7) k)
+reservedAt row body k = reservedRule (getD body k 0) (maskAt (row .1) (row .2) (byteOf body 7) k)
 
 -- 37: SAO, bit 5 of byte 4, is 0 and the cue sheet length, bytes 5 to 7, is not
 unfoldable pub cueRule : (number byte4 cue : ℕ) → Refusal

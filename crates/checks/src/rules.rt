@@ -78,14 +78,14 @@ fn flags_barred(barred: bool, removable: bool, flags: Flags) -> bool
 fn row_rule(row: Row, removable: bool, f: Feature, flags: Flags, n: u8, len: usize) -> Refusal
     ensures { λ r. ⌜ r ≡ rowRule row removable (f .0) (flags .0) n len ⌝ }
 {
-    let length = row.length;
+    let length = row.1;
     if wrong_length(length, n, len) {
         return refusal::BODY_LENGTH_BAD;
     }
     if flags_short(f, flags) {
         return refusal::FLAGS_NOT_BOTH;
     }
-    if flags_barred(row.barred, removable, flags) {
+    if flags_barred(row.3, removable, flags) {
         return refusal::PERSISTENT_BARRED;
     }
     refusal::ACCEPTED
@@ -93,15 +93,15 @@ fn row_rule(row: Row, removable: bool, f: Feature, flags: Flags, n: u8, len: usi
 
 // The bits of body byte k that may be 1; n is byte 7.
 fn mask_at(row: Row, n: u8, k: usize) -> u8
-    ensures { λ r. ⌜ r ≡ maskAt (row .length) (row .masks) n k ⌝ }
+    ensures { λ r. ⌜ r ≡ maskAt (row .1) (row .2) n k ⌝ }
 {
-    let length = row.length;
+    let length = row.1;
     match length {
-        Length::Any => row.masks[k % 12],
-        Length::Exactly(_) => row.masks[k % 12],
+        Length::Any => row.2[k % 12],
+        Length::Exactly(_) => row.2[k % 12],
         Length::Counted => {
             if k < 4 {
-                return row.masks[k];
+                return row.2[k];
             }
             if k < 4 + n as usize {
                 return 0xFF;
@@ -216,7 +216,7 @@ fn desc_fault(removable: bool, f: Feature, flags: Flags, body: &[u8]) -> Refusal
         return fault;
     }
     let row = legal::row_of(f);
-    if row.feature.0 == legal::OTHER.0 {
+    if row.0.0 == legal::OTHER.0 {
         return refusal::ACCEPTED;
     }
     let fault = row_rule(row, removable, f, flags, fields::byte(body, 3), body.len());

@@ -1,17 +1,17 @@
--- `checks::required::lacking` meets its contract.
-use Rattle.checks.specs.Required.{lacks}
-use Rattle.refusal.proofs.First.{tests}
+-- `checks::required::lacking` meets its contract: each early return is a case of the test.
+use Rattle.checks.proofs.Resumed.{lacking-other, lacking-end, lacking-here}
 use borrow.Author.Needs.{needs}
 use Rattle.checks.proofs.required.lacking.Statement.{statement}
 use Rattle.checks.proofs.required.lacking.Tie as tie
 
 returns : tie.Need-returns
-unfolding lacks
-returns c = search tests
+returns c = search lacking-other
 
 returns-2 : tie.Need-returns-2
-unfolding lacks
-returns-2 c = search (tests, c .given-in .ensures)
+returns-2 c = search lacking-end
+
+returns-3 : tie.Need-returns-3
+returns-3 c = search lacking-here
 
 pub lacking-spec : {M : Type 1} → statement M
-lacking-spec = tie.close (tie.spec returns (λ c κs. search needs) returns-2)
+lacking-spec = tie.close (tie.spec returns returns-2 (λ c κs. search needs) returns-3)

@@ -1,54 +1,57 @@
--- `checks::required::lowest_missing` meets its contract: the loop carries what is left of the walk over the table.
-use borrow.Author.Needs.{needs}
-use Prim.Native.Nat.{_≤_, _-_}
-use mathlib.Core.Bool.{true, false}
-use mathlib.Core.Path.{_≡_, refl}
-use native.Mathlib.Omega.{arith}
+-- `checks::required::lowest_missing` meets its contract: the loop carries what is left of the walk over lines and descriptors.
+use Prim.Native.Nat.{_-_}
+use mathlib.Core.Path.{refl}
 use lib.ListN.{length}
-use Rattle.checks.proofs.Pick.{left, pick-found, pick-next, pick-none}
-use Rattle.checks.specs.Required.{required, lacks}
-use Rattle.checks.proofs.Calls.{call-true, call-false}
 use Rattle.reading.specs.Places.{descs}
-use Rattle.checks.specs.Judge.{says, lowest}
-use mathlib.Core.List.{[], _∷_}
+use Rattle.checks.specs.Required.{required}
+use Rattle.checks.specs.Judge.{lowest}
+use Rattle.checks.proofs.Resumed.{Left, left-start, left-found, left-next, left-end}
+use borrow.Author.Needs.{needs}
 use Rattle.checks.proofs.required.lowest_missing.Statement.{statement}
 use Rattle.checks.proofs.required.lowest_missing.Tie as tie
 
 abbrev Inv-loop : tie.InvT-loop
-Inv-loop profile s i₀ i = (i ≤ length required) × (lowest (profile .0) (descs s) ≡ left (lacks (profile .0) (descs s)) (λ n. says 0 false (n .feature .0 ∷ [])) (says 0 true []) required i)
+Inv-loop profile s table i₀ at₀ i at = Left (profile .0) s (lowest (profile .0) (descs s)) i at
 
 abbrev μ-loop : tie.MeasureT-loop
-μ-loop profile s i₀ i = length required - i
+μ-loop profile s table i₀ at₀ i at = length required - i
 
 loop-holds : tie.Need-loop-holds Inv-loop μ-loop
-unfolding required lowest
-loop-holds c = (omega arith, refl)
+loop-holds c = search left-start
 
-need-at-requires : tie.Need-need-at-requires Inv-loop μ-loop
-unfolding required lowest
-need-at-requires c κs = search needs
+mul-need : tie.Need-mul-need Inv-loop μ-loop
+unfolding required
+mul-need c = search needs
+
+array-copy-out-need : tie.Need-array-copy-out-need Inv-loop μ-loop
+unfolding required
+array-copy-out-need c = search needs
 
 returns : tie.Need-returns Inv-loop μ-loop
-unfolding required lowest
-returns c = search (pick-found, call-true)
+unfolding required
+returns c =
+    left-found _ _ _ _ _ (c .before .before .before .before .before .before .loop .inv) _ _ _ (c .before .before .before .before .before .loop-test .taken) refl
+    (c .before .before .before .place-for .ensures) _ (c .before .before .lacking .ensures) (c .before .if1 .taken)
 
 add-i : tie.Need-add-i Inv-loop μ-loop
-unfolding required lowest
+unfolding required
 add-i c = search needs
 
 loop-less : tie.Need-loop-less Inv-loop μ-loop
-unfolding required lowest
+unfolding required
 loop-less c = search needs
 
 loop-again : tie.Need-loop-again Inv-loop μ-loop
-unfolding required lowest
-loop-again c = (search needs, search (pick-next, call-false))
+unfolding required
+loop-again c =
+    left-next _ _ _ _ _ (c .before .before .before .before .before .loop .inv) _ _ _ (c .before .before .before .before .loop-test .taken) refl
+    (c .before .before .place-for .ensures) _ (c .before .lacking .ensures) (c .if1 .left)
 
 returns-2 : tie.Need-returns-2 Inv-loop μ-loop
-unfolding required lowest
-returns-2 c = search pick-none
+unfolding required
+returns-2 c = left-end _ _ _ _ _ (c .before .loop .inv) (c .loop-test .left)
 
 pub lowest-missing-spec : {M : Type 1} → statement M
 lowest-missing-spec =
     tie.close
-    (tie.spec Inv-loop μ-loop loop-holds need-at-requires (λ c κs. search needs) returns add-i loop-less loop-again returns-2)
+    (tie.spec Inv-loop μ-loop loop-holds mul-need array-copy-out-need (λ c κs. search needs) (λ c κs. search needs) returns add-i loop-less loop-again returns-2)

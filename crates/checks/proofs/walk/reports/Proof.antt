@@ -1,7 +1,6 @@
 -- `checks::walk::reports` meets its contract: the loop carries what is left of the search.
 use borrow.Author.Needs.{needs}
 use Prim.Native.Nat.{_-_}
-use native.Mathlib.Omega.{arith}
 use mathlib.Core.Path.{_≡_}
 use lib.Dec.{eqb}
 use lib.ListN.{length}

@@ -1,0 +1,37 @@
+-- `checks::required::place_from` meets its contract: the loop carries what is left of the search.
+use Prim.Native.Nat.{_-_}
+use mathlib.Core.Path.{_≡_, refl}
+use lib.ListN.{length}
+use Rattle.reading.specs.inner.Between.{from}
+use Rattle.reading.proofs.Places.{from-less}
+use Rattle.checks.specs.inner.Resumed.{notBelow}
+use Rattle.checks.proofs.Resumed.{place-found, place-next, place-end}
+use borrow.Author.Needs.{needs}
+use Rattle.checks.proofs.required.place_from.Statement.{statement}
+use Rattle.checks.proofs.required.place_from.Tie as tie
+
+abbrev Inv-loop : tie.InvT-loop
+Inv-loop f s first at₀ at = notBelow (f .0) (from s first) ≡ notBelow (f .0) (from s at)
+
+abbrev μ-loop : tie.MeasureT-loop
+μ-loop f s first at₀ at = length s - at
+
+loop-holds : tie.Need-loop-holds Inv-loop μ-loop
+loop-holds c = refl
+
+returns : tie.Need-returns Inv-loop μ-loop
+returns c = search place-found
+
+loop-less : tie.Need-loop-less Inv-loop μ-loop
+loop-less c = search from-less
+
+loop-again : tie.Need-loop-again Inv-loop μ-loop
+loop-again c = search place-next
+
+returns-2 : tie.Need-returns-2 Inv-loop μ-loop
+returns-2 c = search place-end
+
+pub place-from-spec : {M : Type 1} → statement M
+place-from-spec =
+    tie.close
+    (tie.spec Inv-loop μ-loop loop-holds (λ c κs. search needs) returns (λ c κs. search needs) loop-less loop-again returns-2)
