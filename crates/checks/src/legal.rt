@@ -65,8 +65,14 @@ const LEGAL: [Row; 11] = [
     Row(DVD_R, FOUR, [4, 0, 0, 0, 0, 0, 0, 0, 0, 0, 0, 0], true),
 ];
 
-// The row of a feature. The table is laid out once and not at each look.
-pub fn row_of(f: Feature) -> Row
+// The highest feature that the table names: most features of a drive are above it and need no look at the table.
+const LAST_LISTED: Feature = DVD_R;
+
+// A feature that the table does not name.
+const UNLISTED: Row = Row(OTHER, ANY, [F, F, F, F, F, F, F, F, F, F, F, F], false);
+
+// The row of a feature, looked for in the table, which is laid out once and not at each look.
+fn listed(f: Feature) -> Row
     ensures { λ r. ⌜ r ≡ rowOf (f .0) ⌝ }
 {
     let table = LEGAL;
@@ -77,5 +83,15 @@ pub fn row_of(f: Feature) -> Row
         }
         i += 1;
     }
-    Row(OTHER, ANY, [F, F, F, F, F, F, F, F, F, F, F, F], false)
+    UNLISTED
+}
+
+// The row of a feature.
+pub fn row_of(f: Feature) -> Row
+    ensures { λ r. ⌜ r ≡ rowOf (f .0) ⌝ }
+{
+    if LAST_LISTED.0 < f.0 {
+        return UNLISTED;
+    }
+    listed(f)
 }
