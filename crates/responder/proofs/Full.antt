@@ -18,7 +18,7 @@ use Rattle.sheet.specs.Facts.{Facts}
 use Rattle.sheet.specs.Meaning.{meaning}
 use Rattle.sheet.proofs.Accepted.{facts}
 use Rattle.sheet.proofs.Meaning.{meaning-fine}
-use Rattle.responder.specs.inner.Index.{wantedEnd, pieces, zeroPart, takenFrom, takenTo, takenSize, fullBytes, foundBytes}
+use Rattle.responder.specs.inner.Index.{wantedEnd, pieces, zeroPart, takenFrom, takenTo, takenSize, planOf, fullBytes}
 use Rattle.sheet.proofs.Bisection.{First, first-from}
 use Rattle.responder.proofs.Zero.{zero-bytes, current-from}
 use Rattle.responder.proofs.Chosen.{chosen-ordered, chosen-within, chosen}
@@ -76,6 +76,6 @@ module _ (s : List ℕ) (rt sfn : ℕ) (b : Bytes s) (e : Accepted s) where
   found-low : (takenSize s rt sfn + 4) % 2 ^ 32 ≡ 4 + length (flat bytes (selected rt sfn (meaning s)))
   found-low = mod-eq-of-lt (omega (arith, found-length, full-low (meaning-fine s b e .sound) rt sfn)) ∙ omega (arith, found-size)
 
-  pub found-full : foundBytes s rt sfn ≡ full rt sfn (meaning s)
-  unfolding foundBytes full fullBytes dataLength
+  pub found-full : fullBytes s rt sfn (planOf s rt sfn (takenSize s rt sfn)) ≡ full rt sfn (meaning s)
+  unfolding planOf full fullBytes dataLength
   found-full = rw (found-low, found-parts, current-from, append-assoc)

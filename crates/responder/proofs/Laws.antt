@@ -2,7 +2,7 @@
 use mathlib.Core.Path.{_≡_, refl, sym, ap, _∙_}
 use mathlib.Core.Bool.{Bool, true, false, _&&_, and-eq-true-iff}
 use mathlib.Core.List.{List, [], _++_}
-use Prim.Native.Nat.{ℕ, zero, suc, _+_, _-_, _*_, _≤_, _<_}
+use Prim.Native.Nat.{ℕ, zero, suc, _+_, _-_, _*_, _%_, _^_, _≤_, _<_}
 use native.Mathlib.Nat.{add-zero, add-suc}
 use native.Mathlib.Omega.{arith}
 use lib.Dec.{leb}
@@ -12,10 +12,13 @@ use Rattle.base.specs.Lists.{Bytes}
 use Rattle.fields.proofs.Laws.{field-lt}
 use Rattle.lent.specs.Wrote.{Wrote}
 use Rattle.lent.proofs.Laws.{nowhere, then}
+use Rattle.text.specs.declared.Header.{Header}
+use Rattle.text.specs.Response.{header, headerOf, currentProfile}
+use Rattle.profiles.specs.Profiles.{profilesOf}
 use Rattle.layout.specs.declared.Entry.{Entry}
 use Rattle.layout.specs.inner.Entry.{entryOf, headPart}
 use Rattle.layout.proofs.Laws.{head-spelt}
-use Rattle.layout.specs.Layout.{featureCount, profileCount, entryAt, number, flags, bodyLength, offset}
+use Rattle.layout.specs.Layout.{featureCount, profileCount, entryAt, number, flags, bodyLength, offset, profilesPart}
 use Rattle.sheet.specs.Check.{endBefore}
 use Rattle.responder.specs.inner.Index.{wantedEnd, skips, descBytes, piece, pieces, pieceSize, piecesSize, span, entriesSize, zeroBytes, zeroPart, zeroSize}
 
@@ -133,7 +136,12 @@ module _ (s : List ℕ) (from to : ℕ) where
   unfolding entriesSize
   sizes-span rt e = rw (ne-eqb rt 1 e, entriesSize)
 
--- ---- feature 0
+-- ---- the header, and feature 0
+
+pub header-bytes : (s : List ℕ) (size : ℕ) {len profile : ℕ} {part : List ℕ} {h : Header} → part ≡ profilesPart s → profile ≡ currentProfile (profilesOf part) → len ≡ (size + 4) % 2 ^ 32
+    → h ≡ headerOf len profile → header (h .data_length) (h .profile .0) ≡ header ((size + 4) % 2 ^ 32) (currentProfile (profilesOf (profilesPart s)))
+unfolding headerOf
+header-bytes s size p q r e = ap (λ (g : Header). header (g .data_length) (g .profile .0)) e ∙ rw (q, p, r)
 
 module _ (s : List ℕ) (sfn : ℕ) where
   pub zero-sent : sfn ≡ 0 → zeroPart s sfn ≡ zeroBytes s

@@ -2,16 +2,15 @@
 -- `Answer` (`trusting-accepted`). Assumes nothing: these are definitions.
 use mathlib.Core.List.{List}
 use Prim.Native.Nat.{ℕ}
-use lib.Dec.{ltb}
-use lib.ListN.{length, take}
-use Rattle.refusal.specs.First.{refuse, accept, _if_else_, unless}
-use Rattle.lent.specs.Maker.{Outcome, refusing, making}
+use Rattle.refusal.specs.First.{unless}
+use Rattle.lent.specs.Maker.{Outcome, refusing}
 use Rattle.text.specs.Command.{commandFault, rtOf, sfnOf, allocationOf}
-use Rattle.responder.specs.inner.Index.{foundBytes, limit}
+use Rattle.responder.specs.Sized.{sized}
+use Rattle.responder.specs.inner.Index.{takenSize}
 
--- the answer to a request: 12 where the buffer is shorter than what is due, else what is due, or all there is where that is less
+-- the answer to a request, with as many bytes behind the header as the entries have that it takes
 unfoldable pub trusting : (s : List ℕ) (rt sfn a : ℕ) (d : List ℕ) → Outcome
-trusting s rt sfn a d = unless (refuse 12 if ltb (length d) (limit s rt sfn a) else accept) (refusing d) (making (take (limit s rt sfn a) (foundBytes s rt sfn)) d)
+trusting s rt sfn a d = sized s rt sfn a (takenSize s rt sfn) d
 
 -- the answer to a command: 9 to 11, then the request's
 unfoldable pub trustingCommand : (s c d : List ℕ) → Outcome

@@ -11,7 +11,7 @@ ghost use Rattle.lent.specs.Maker.{outcome};
 ghost use Rattle.responder.specs.Answer.{answered};
 ghost use Rattle.responder.specs.Trusting.{trusting, trustingCommand};
 ghost use Rattle.responder.specs.Sized.{sized};
-ghost use Rattle.responder.specs.inner.Index.{wantedEnd, skips, descOf, descBytes, piece, pieces, pieceSize, piecesSize, span, entriesSize, zeroBytes, zeroPart, zeroSize, takenSize, plan, fullBytes};
+ghost use Rattle.responder.specs.inner.Index.{wantedEnd, skips, descOf, descBytes, piece, pieces, pieceSize, piecesSize, span, entriesSize, zeroBytes, zeroPart, zeroSize, takenSize, planOf, fullBytes, limit};
 use lent::Made;
 use text::Command;
 use text::Feature;
@@ -114,18 +114,30 @@ struct Plan {
     size: usize,
 }
 
-// The entries that a request takes, and how many bytes stand behind the header.
-fn planned(s: &[u8], rt: u8, sfn: Feature) -> Plan
-    ensures { λ r. ⌜ (r ≡ plan (now (s .entry)) rt (sfn .0)) × (r .size < 6000000000) ⌝ }
+// The entries that a request takes, with so many bytes behind the header.
+fn taken(s: &[u8], rt: u8, sfn: Feature, size: usize) -> Plan
+    ensures { λ r. ⌜ r ≡ planOf (now (s .entry)) rt (sfn .0) size ⌝ }
 {
     let n = layout::feature_count(s);
     let from = sheet::first_from(s, n, sfn);
     let to = wanted_end(s, rt, n, sfn, from);
-    let zero = zero_size(s, sfn);
-    let rest = entries_size(s, rt, from, to);
     Plan {
         from: from,
         to: to,
+        size: size,
+    }
+}
+
+// The same with as many as there are.
+fn planned(s: &[u8], rt: u8, sfn: Feature) -> Plan
+    ensures { λ r. ⌜ r ≡ planOf (now (s .entry)) rt (sfn .0) (takenSize (now (s .entry)) rt (sfn .0)) ⌝ }
+{
+    let part = taken(s, rt, sfn, 0);
+    let zero = zero_size(s, sfn);
+    let rest = entries_size(s, rt, part.from, part.to);
+    Plan {
+        from: part.from,
+        to: part.to,
         size: zero + rest,
     }
 }
@@ -248,13 +260,22 @@ fn put_header(out: &mut [u8], at: usize, h: Header) -> usize
     lent::put2(out, b, profile.0)
 }
 
-// The whole response.
-fn put_full(out: &mut [u8], s: &[u8], rt: u8, sfn: Feature, from: u16, to: u16, h: Header) -> usize
-    ensures { λ r. ⌜ Wrote (now (out .entry)) 0 (fullBytes (now (s .entry)) rt (sfn .0) from to (h .data_length) (h .profile .0)) r (now (out .exit)) ⌝ }
+// Data Length with so many bytes behind the header. It has four bytes; what an accepted sheet gives always fits.
+fn data_length(size: usize) -> u32
+    ensures { λ r. ⌜ r ≡ (size + 4) % 2 ^ 32 ⌝ }
 {
-    let a = put_header(out, 0, h);
+    ((size % 0x1_0000_0000 + 4) % 0x1_0000_0000) as u32
+}
+
+// The whole response that a plan takes.
+fn put_full(out: &mut [u8], s: &[u8], rt: u8, sfn: Feature, p: Plan) -> usize
+    ensures { λ r. ⌜ Wrote (now (out .entry)) 0 (fullBytes (now (s .entry)) rt (sfn .0) p) r (now (out .exit)) ⌝ }
+{
+    let profile = profiles::current(layout::profiles_part(s));
+    let header = Header::new(data_length(p.size), profile);
+    let a = put_header(out, 0, header);
     let b = put_zero_part(out, a, s, sfn);
-    put_pieces(out, b, s, rt, from, to)
+    put_pieces(out, b, s, rt, p.from, p.to)
 }
 
 // ---- the answers
@@ -268,11 +289,13 @@ fn least(a: usize, b: usize) -> usize
     b
 }
 
-// Data Length with so many bytes behind the header. It has four bytes; what an accepted sheet gives always fits.
-fn data_length(size: usize) -> u32
-    ensures { λ r. ⌜ r ≡ (size + 4) % 2 ^ 32 ⌝ }
+// How many bytes are due where so many stand behind the header.
+fn due(a: u16, size: usize) -> usize
+    ensures { λ r. ⌜ r ≡ limit a size ⌝ }
 {
-    ((size % 0x1_0000_0000 + 4) % 0x1_0000_0000) as u32
+    let most = text::most(a);
+    let rest = least(size, most);
+    least(most, Header::LENGTH + rest)
 }
 
 // Answers a request with no check of the sheet: from an accepted one, what `respond` answers.
@@ -280,16 +303,11 @@ pub fn send(s: &[u8], rt: u8, sfn: Feature, a: u16, out: &mut [u8]) -> Made
     ensures { λ r. ⌜ outcome r (now (out .exit)) ≡ trusting (now (s .entry)) rt (sfn .0) a (now (out .entry)) ⌝ }
 {
     let plan = planned(s, rt, sfn);
-    let limit = least(
-        least(a as usize, Header::RETURN_LIMIT),
-        Header::LENGTH + plan.size,
-    );
+    let limit = due(a, plan.size);
     if out.len() < limit {
         return Made::refused(refusal::BUFFER_SHORT);
     }
-    let profile = profiles::current(layout::profiles_part(s));
-    let header = Header::new(data_length(plan.size), profile);
-    let count = put_full(&mut out[..limit], s, rt, sfn, plan.from, plan.to, header);
+    let count = put_full(&mut out[..limit], s, rt, sfn, plan);
     Made::written(count)
 }
 
@@ -305,17 +323,12 @@ pub fn size(s: &[u8], rt: u8, sfn: Feature) -> usize
 pub fn send_sized(s: &[u8], rt: u8, sfn: Feature, a: u16, size: usize, out: &mut [u8]) -> Made
     ensures { λ r. ⌜ outcome r (now (out .exit)) ≡ sized (now (s .entry)) rt (sfn .0) a size (now (out .entry)) ⌝ }
 {
-    let most = text::most(a);
-    let due = least(most, Header::LENGTH + least(size, most));
-    if out.len() < due {
+    let cut = due(a, size);
+    if out.len() < cut {
         return Made::refused(refusal::BUFFER_SHORT);
     }
-    let n = layout::feature_count(s);
-    let first = sheet::first_from(s, n, sfn);
-    let to = wanted_end(s, rt, n, sfn, first);
-    let profile = profiles::current(layout::profiles_part(s));
-    let header = Header::new(data_length(size), profile);
-    let count = put_full(&mut out[..due], s, rt, sfn, first, to, header);
+    let told = taken(s, rt, sfn, size);
+    let count = put_full(&mut out[..cut], s, rt, sfn, told);
     Made::written(count)
 }
 

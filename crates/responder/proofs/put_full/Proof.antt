@@ -1,15 +1,19 @@
 -- `responder::put_full` meets its contract: three writings one after the other.
 use Rattle.lent.proofs.Laws.{then}
 use Rattle.responder.specs.inner.Index.{fullBytes}
+use Rattle.responder.proofs.Laws.{header-bytes}
 use borrow.Author.Needs.{needs}
 use Rattle.responder.proofs.put_full.Statement.{statement}
 use Rattle.responder.proofs.put_full.Tie as tie
 
 returns : tie.Need-returns
 unfolding fullBytes
-returns c = then (then (c .before .before .before .before .before .before .before .before .before .before .put-header .ensures) (c .before .before .before .before .before .before .put-zero-part .ensures)) (c .before .before .put-pieces .ensures)
+returns c =
+    let a = c .before .before .before .before .before .before .before .before .before .before .before .before .before .before .before .before .before .before .args in
+    let head = header-bytes (a .s .now) (a .p .size) (c .before .before .before .before .before .before .before .before .before .before .before .before .before .before .before .profiles-part .ensures .holds) (c .before .before .before .before .before .before .before .before .before .before .before .before .before .before .current .ensures) (c .before .before .before .before .before .before .before .before .before .before .before .before .before .data-length .ensures) (c .before .before .before .before .before .before .before .before .before .before .before .before .new .ensures) in
+    rw (← head) (then (then (c .before .before .before .before .before .before .before .before .before .before .put-header .ensures) (c .before .before .before .before .before .before .put-zero-part .ensures)) (c .before .before .put-pieces .ensures))
 
 pub put-full-spec : {M : Type 1} → statement M
 put-full-spec =
     tie.close
-    (tie.spec (λ c κs. search needs) (λ c κs. search needs) (λ c κs. search needs) (λ c. search needs) returns)
+    (tie.spec (λ c κs. search needs) (λ c κs. search needs) (λ c κs. search needs) (λ c κs. search needs) (λ c κs. search needs) (λ c κs. search needs) (λ c κs. search needs) (λ c. search needs) returns)

@@ -6,7 +6,7 @@ use lib.Dec.{ltb, eqb}
 use lib.ListN.{take, drop}
 use Rattle.fields.specs.Field.{spell}
 use Rattle.text.specs.Flags as text
-use Rattle.text.specs.Response.{header, currentProfile}
+use Rattle.text.specs.Response.{header, currentProfile, headerLength, most}
 use Rattle.profiles.specs.Profiles.{profilesOf}
 use Rattle.layout.specs.Layout.{featureCount, profileCount, number, flags, bodyLength, offset, profilesPart}
 use Rattle.sheet.specs.Check.{endBefore}
@@ -73,17 +73,14 @@ takenTo s rt sfn = wantedEnd rt s (featureCount s) sfn (takenFrom s sfn)
 unfoldable pub takenSize : (s : List ℕ) (rt sfn : ℕ) → ℕ
 takenSize s rt sfn = zeroSize s sfn + entriesSize rt s (takenFrom s sfn) (takenTo s rt sfn)
 
-unfoldable pub plan : (s : List ℕ) (rt sfn : ℕ) → Plan
-plan s rt sfn = record { from = takenFrom s sfn; to = takenTo s rt sfn; size = takenSize s rt sfn }
+-- these entries, with so many bytes
+unfoldable pub planOf : (s : List ℕ) (rt sfn size : ℕ) → Plan
+planOf s rt sfn size = record { from = takenFrom s sfn; to = takenTo s rt sfn; size = size }
 
--- a whole response
-unfoldable pub fullBytes : (s : List ℕ) (rt sfn from to len profile : ℕ) → List ℕ
-fullBytes s rt sfn from to len profile = header len profile ++ zeroPart s sfn ++ pieces rt s from (to - from)
-
--- the response that the sheet's counts, numbers and offsets give; Data Length keeps its four bytes
-unfoldable pub foundBytes : (s : List ℕ) (rt sfn : ℕ) → List ℕ
-foundBytes s rt sfn = fullBytes s rt sfn (takenFrom s sfn) (takenTo s rt sfn) ((takenSize s rt sfn + 4) % 2 ^ 32) (currentProfile (profilesOf (profilesPart s)))
+-- the whole response that a plan takes; Data Length keeps its four bytes
+unfoldable pub fullBytes : (s : List ℕ) (rt sfn : ℕ) (p : Plan) → List ℕ
+fullBytes s rt sfn p = header ((p .size + 4) % 2 ^ 32) (currentProfile (profilesOf (profilesPart s))) ++ zeroPart s sfn ++ pieces rt s (p .from) (p .to - p .from)
 
 -- how many bytes of it are due
-unfoldable pub limit : (s : List ℕ) (rt sfn a : ℕ) → ℕ
-limit s rt sfn a = min (min a 65534) (8 + takenSize s rt sfn)
+unfoldable pub limit : (a size : ℕ) → ℕ
+limit a size = min (most a) (headerLength + size)

@@ -1,0 +1,14 @@
+-- `responder::due` meets its contract: more than the most that is sent need not be counted.
+use native.Mathlib.Omega.{arith}
+use Rattle.responder.specs.inner.Index.{limit}
+use borrow.Author.Needs.{needs}
+use Rattle.responder.proofs.due.Statement.{statement}
+use Rattle.responder.proofs.due.Tie as tie
+
+returns : tie.Need-returns
+unfolding limit
+returns c = omega arith
+
+pub due-spec : {M : Type 1} → statement M
+due-spec =
+    tie.close (tie.spec (λ c κs. search needs) (λ c κs. search needs) (λ c. search needs) (λ c κs. search needs) returns)
