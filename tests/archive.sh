@@ -31,8 +31,9 @@ archive_unnamed() { # FILE OUT
         sed -i -E '/^attributes /s/ "(target-cpu|target-features|tune-cpu)"="[^"]*"//g' "$2"
 }
 
-# A kit like the one that is there, but for a compiler that also keeps the code it is handed; rt over it, and that code compiled for this processor.
-archive_own() {
+# A kit like the one that is there, but for a compiler that also keeps the code it is handed and the words it is called with; rt over it. Leaves
+# target/own/abi.bc and target/own/words.
+archive_code() {
     local kit=$PWD/target/own/kit here=$PWD/target/own part
     rm -rf "$kit" && mkdir -p "$kit/on/$archive_machine/toolchain/bin" || return 1
     for part in "$archive_kit"/*; do [ "${part##*/}" = on ] || ln -s "$part" "$kit/" || return 1; done
@@ -41,15 +42,36 @@ archive_own() {
     for part in "$archive_tools"/bin/*; do [ "${part##*/}" = clang ] || ln -s "$part" "$kit/on/$archive_machine/toolchain/bin/" || return 1; done
     cat >"$kit/on/$archive_machine/toolchain/bin/clang" <<END
 #!/bin/sh
-for word in "\$@"; do case \$word in *.bc) cp "\$word" "$here/abi.bc" ;; esac; done
+for word in "\$@"; do case \$word in *.bc) cp "\$word" "$here/abi.bc" && printf '%s\\n' "\$@" >"$here/words" ;; esac; done
 exec "$archive_tools/bin/clang" "\$@"
 END
     chmod +x "$kit/on/$archive_machine/toolchain/bin/clang"
-    RATTLE_HOME=$kit rt staticlib abi >"$here/log" 2>&1 || return 1
+    RATTLE_HOME=$kit rt staticlib abi >"$here/log" 2>&1
+}
+
+# That code compiled for this processor.
+archive_own() {
+    local here=$PWD/target/own
+    archive_code || return 1
     archive_unnamed "$here/abi.bc" "$here/abi.ll" >>"$here/log" 2>&1 || return 1
     "${archive_clang[@]}" -O3 -fPIC -ffunction-sections -fdata-sections -c -x ir "$here/abi.ll" -o "$here/abi.o" >>"$here/log" 2>&1 || return 1
     rm -f "$here/libabi.a"
     "$archive_tools/bin/llvm-ar" crs "$here/libabi.a" "$here/abi.o"
+}
+
+# That code as text for x86-64, compiled by the words that made the archive, with the frame of each function: target/own/abi.s and target/own/abi.su.
+archive_text() {
+    local here=$PWD/target/own word words=()
+    archive_code || return 1
+    while IFS= read -r word; do
+        case $word in
+        -c) word=-S ;;
+        *.bc) word=$here/abi.bc ;;
+        *.o) word=$here/abi.s ;;
+        esac
+        words+=("$word")
+    done <"$here/words"
+    "$archive_tools/bin/clang" "${words[@]}" -fstack-usage >>"$here/log" 2>&1
 }
 
 # whether the archive is there and nothing that it is made of is newer
