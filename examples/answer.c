@@ -1,9 +1,11 @@
 /*
- * The box and the driver in one program: a command is answered from sheet E, the answer is read and judged, and then the whole drive is swept with an
- * allocation length of 20 bytes, as a driver with little memory would. tests/c-example builds and runs it.
+ * The box and the driver in one program: a mistyped sheet is refused and sheet E is accepted, a command is answered from it, the answer is read and
+ * judged, and then the whole drive is swept with an allocation length of 20 bytes, as a driver with little memory would. tests/c-example builds and runs
+ * it.
  */
 #include <inttypes.h>
 #include <stdio.h>
+#include <string.h>
 
 #include "../include/gcf.h"
 
@@ -106,12 +108,33 @@ static int sweep_all(void)
     return 0;
 }
 
+/* Checks a sheet and tells the person who typed it which line is wrong. */
+static int check(const char *what, const uint8_t *typed, size_t count)
+{
+    uint64_t place;
+    uint8_t number = gcf_check_sheet(typed, count, &place, 1);
+
+    if (number == GCF_ACCEPTED) {
+        return 0;
+    }
+    if (place != 0) {
+        printf("%s: %s %" PRIu64 "\n", what, number == GCF_PROFILE_BAD ? "profile" : "entry", place);
+    }
+    return refused(what, number);
+}
+
+/* The sheet with a Version in the flags of its second entry. */
+static void mistype(void)
+{
+    uint8_t typed[sizeof sheet];
+
+    memcpy(typed, sheet, sizeof sheet);
+    typed[4 + 8 + 2] = 0x07;
+    check("mistyped sheet", typed, sizeof typed);
+}
+
 int main(void)
 {
-    uint8_t number = gcf_check_sheet(sheet, sizeof sheet);
-
-    if (number != GCF_ACCEPTED) {
-        return refused("sheet", number);
-    }
-    return answer_and_read() || sweep_all();
+    mistype();
+    return check("sheet", sheet, sizeof sheet) || answer_and_read() || sweep_all();
 }

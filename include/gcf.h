@@ -12,6 +12,9 @@
  * A uint8_t result is the paper's number: 0 is accepted, anything else a refusal (GCF_...). Further results go to the front of the array `numbers`,
  * in the order given here, also where something is refused; an array that is too short gets the first of them, and what is behind them in a longer
  * one stays as it was.
+ *
+ * A place says which line of a drive sheet is refused: for 3 which profile of the list, for 4, 5, 43, 44, 6 and 7 which entry of the contents, counted
+ * from 1. With every other number, and with 0, it is 0.
  */
 #ifndef GCF_H
 #define GCF_H
@@ -99,7 +102,10 @@ enum gcf_number {
     GCF_NO_TABLE = 40,
     /* import */
     GCF_NOT_OWN = 41,
-    GCF_SHEET_BUFFER_SHORT = 42
+    GCF_SHEET_BUFFER_SHORT = 42,
+    /* flags in a drive sheet, beside 5 */
+    GCF_VERSION_SET = 43,
+    GCF_PERSISTENT_UNCURRENT = 44
 };
 
 /* Sizes that are always enough. */
@@ -113,13 +119,17 @@ enum gcf_number {
 
 /* ---- the box */
 
-/* The check of a drive sheet: 0 to 8. */
-uint8_t gcf_check_sheet(const uint8_t *sheet, size_t sheet_bytes);
+/*
+ * The check of a drive sheet: 1, 2, 3 for each profile, then for each entry 4, 5 (reserved flag bits), 43 (Version), 44 (Persistent without Current), 6,
+ * 7, then 8.
+ * numbers: the place.
+ */
+uint8_t gcf_check_sheet(const uint8_t *sheet, size_t sheet_bytes, uint64_t *numbers, size_t numbers_count);
 
 /*
  * Answers a command from any sheet: the sheet's numbers, then 9 to 12. Accepted: the bytes sent stand at the front of the response buffer, and only
  * they changed. Refused: nothing changed.
- * numbers: bytes sent.
+ * numbers: bytes sent, the place. Refused: 0, the place.
  */
 uint8_t gcf_respond(const uint8_t *sheet, size_t sheet_bytes,
                     const uint8_t *command, size_t command_bytes,
@@ -230,7 +240,7 @@ static inline uint8_t gcf_sweep_on(struct gcf_sweep *sweep,
 /*
  * Sweeps a sheet from end to end: the sheet's numbers, 21, 22, 12, then each round's. Accepted: the descriptors collected, the starts asked for, and
  * the last response with zeros behind it. Refused: all three buffers are zero throughout.
- * numbers: commands (starts written), bytes collected. Refused: 0, 0.
+ * numbers: commands (starts written), bytes collected, the place. Refused: 0, 0, the place.
  */
 uint8_t gcf_bench(const uint8_t *sheet, size_t sheet_bytes, uint8_t rt, uint16_t allocation,
                   uint8_t *response, size_t response_bytes,
@@ -258,9 +268,11 @@ static inline bool gcf_conforms(gcf_profile profile, const uint8_t *response, si
 /* ---- import */
 
 /*
- * Turns a captured response to RT 0 from 0 into a drive sheet from which the box gives those bytes back: 14 to 18, 20, 29, 41, the sheet's 3 and 5, 42.
- * Accepted: the sheet stands at the front of the buffer, and only its bytes changed. Refused: nothing changed.
- * numbers: bytes of the sheet. Refused: 0.
+ * Turns a captured response to RT 0 from 0 into a drive sheet from which the box gives those bytes back: 14 to 18, 20, 29, 41, the sheet's 3, then for
+ * each descriptor behind feature 0 the sheet's 5, 43, 44, then 42. Accepted: the sheet stands at the front of the buffer, and only its bytes changed.
+ * Refused: nothing changed.
+ * numbers: bytes of the sheet, the place. Refused: 0, the place that it would have in the sheet: for 3 in feature 0's list, else among the descriptors
+ * behind feature 0.
  */
 uint8_t gcf_import(const uint8_t *response, size_t response_bytes, uint8_t *sheet, size_t sheet_bytes, uint64_t *numbers, size_t numbers_count);
 

@@ -2,13 +2,13 @@
 
 use crate::command::{full_length, most_bytes, send, Request};
 use crate::numbers::*;
+use crate::refusal::Refusal;
 use crate::sheet::Sheet;
 use crate::sweep::Record;
 
-/// What a bench sweep gives back; on a refusal both counts are 0.
+/// What a bench sweep gives back: the count of starts written and of bytes collected.
 #[derive(Clone, Copy, Debug, PartialEq, Eq)]
 pub struct Outcome {
-    pub number: u8,
     pub commands: usize,
     pub collected: usize,
 }
@@ -21,19 +21,17 @@ pub fn bench(
     response: &mut [u8],
     collected: &mut [u8],
     starts: &mut [u16],
-) -> Outcome {
-    match run(sheet, rt, allocation, response, collected, starts) {
-        Ok((commands, collected)) => Outcome { number: ACCEPTED, commands, collected },
-        Err(number) => {
-            response.fill(0);
-            collected.fill(0);
-            starts.fill(0);
-            Outcome { number, commands: 0, collected: 0 }
-        }
+) -> Result<Outcome, Refusal> {
+    let outcome = run(sheet, rt, allocation, response, collected, starts);
+    if outcome.is_err() {
+        response.fill(0);
+        collected.fill(0);
+        starts.fill(0);
     }
+    outcome
 }
 
-/// Runs the rounds; gives the count of starts written and of bytes collected.
+/// Runs the rounds.
 fn run(
     sheet: &[u8],
     rt: u8,
@@ -41,12 +39,12 @@ fn run(
     response: &mut [u8],
     collected: &mut [u8],
     starts: &mut [u16],
-) -> Result<(usize, usize), u8> {
+) -> Result<Outcome, Refusal> {
     let sheet = Sheet::accept(sheet)?;
     let (number, mut record) = Record::start(rt, allocation);
     accept(number)?;
     if response.len() < most_bytes(allocation) {
-        return Err(BUFFER_SHORT);
+        return Err(BUFFER_SHORT.into());
     }
     // Each round collects a front part of what is left, so the full length is found once and shrinks.
     let mut full = full_length(sheet, rt, record.next);
@@ -65,7 +63,7 @@ fn run(
         dirty = count;
         record = after;
     }
-    Ok((commands, record.collected))
+    Ok(Outcome { commands, collected: record.collected })
 }
 
 /// Turns a number into a result, so that a refusal ends the run.

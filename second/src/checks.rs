@@ -135,7 +135,7 @@ fn check_descriptor(descriptor: Descriptor, removable: bool) -> u8 {
     let flags = descriptor.flags;
     let persistent = flags & PERSISTENT != 0;
     let current = flags & CURRENT != 0;
-    if flags & RESERVED_AND_VERSION != 0 {
+    if flags & (RESERVED | VERSION) != 0 {
         return FINDING_FLAGS;
     }
     if persistent && !current {

@@ -3,6 +3,7 @@
 use std::ops::Range;
 
 use crate::numbers::*;
+use crate::refusal::Refusal;
 use crate::sheet::Sheet;
 use crate::wire::{be16, byte, DescriptorHeader, Feature};
 
@@ -52,25 +53,17 @@ pub fn most_bytes(allocation: u16) -> usize {
     usize::from(allocation).min(RETURN_LIMIT)
 }
 
-/// Checks the sheet and answers the command; gives the number and the count of bytes sent.
-pub fn respond(sheet: &[u8], command: &[u8], out: &mut [u8]) -> (u8, usize) {
-    match Sheet::accept(sheet) {
-        Ok(sheet) => respond_checked(sheet, command, out),
-        Err(number) => (number, 0),
-    }
+/// Checks the sheet and answers the command; gives the count of bytes sent.
+pub fn respond(sheet: &[u8], command: &[u8], out: &mut [u8]) -> Result<usize, Refusal> {
+    let sheet = Sheet::accept(sheet)?;
+    Ok(respond_checked(sheet, command, out)?)
 }
 
-/// Answers the command from a sheet already checked; gives the number and the count of bytes sent.
-pub fn respond_checked(sheet: Sheet, command: &[u8], out: &mut [u8]) -> (u8, usize) {
-    let request = match Request::parse(command) {
-        Ok(request) => request,
-        Err(number) => return (number, 0),
-    };
+/// Answers the command from a sheet already checked; gives the count of bytes sent, or the first of 9 to 12.
+pub fn respond_checked(sheet: Sheet, command: &[u8], out: &mut [u8]) -> Result<usize, u8> {
+    let request = Request::parse(command)?;
     let full = full_length(sheet, request.rt, request.sfn);
-    match send(sheet, request, full, out) {
-        Ok(count) => (ACCEPTED, count),
-        Err(number) => (number, 0),
-    }
+    send(sheet, request, full, out)
 }
 
 /// The length of the full response to a request, before any cut.

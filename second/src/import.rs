@@ -3,11 +3,13 @@
 use crate::checks::read_complete;
 use crate::numbers::*;
 use crate::reading::whole;
-use crate::sheet::{flags_are_legal, profiles_are_legal};
+use crate::refusal::Refusal;
+use crate::sheet::{check_flags, check_profiles};
 use crate::wire::{be16, byte, Descriptors, Feature};
 
-/// Makes the sheet whose full response was captured; gives its length, or the number that refuses the capture.
-pub fn import(response: &[u8], sheet: &mut [u8]) -> Result<usize, u8> {
+/// Makes the sheet whose full response was captured; gives its length, or why the capture is refused.
+/// Places are those that the sheet would have: feature 0 lists the profiles and isn't counted among the entries.
+pub fn import(response: &[u8], sheet: &mut [u8]) -> Result<usize, Refusal> {
     let capture = Capture::accept(response)?;
     let length = capture.sheet_length();
     let room = sheet.get_mut(..length).ok_or(SHEET_BUFFER_SHORT)?;
@@ -26,21 +28,19 @@ struct Capture<'a> {
 
 impl<'a> Capture<'a> {
     /// Checks a response to RT 0 from 0 in the order of the numbers' table, but for the buffer.
-    fn accept(response: &'a [u8]) -> Result<Capture<'a>, u8> {
+    fn accept(response: &'a [u8]) -> Result<Capture<'a>, Refusal> {
         let reading = read_complete(response)?;
         let mut features = whole(response, &reading);
         let list = features.next().ok_or(CAPTURE_BAD)?;
         if list.feature != Feature(0) || list.flags != PERSISTENT | CURRENT {
-            return Err(CAPTURE_BAD);
+            return Err(CAPTURE_BAD.into());
         }
         if be16(response, 4) != 0 || reading.profile.0 != first_current(list.body) {
-            return Err(CAPTURE_BAD);
+            return Err(CAPTURE_BAD.into());
         }
-        if !profiles_are_legal(list.body) {
-            return Err(PROFILE_BAD);
-        }
-        if !features.clone().all(|descriptor| flags_are_legal(descriptor.flags)) {
-            return Err(FLAGS_BAD);
+        check_profiles(list.body)?;
+        for (index, descriptor) in features.clone().enumerate() {
+            check_flags(descriptor.flags).map_err(|number| Refusal::of_index(number, index))?;
         }
         Ok(Capture { profiles: list.body, features, feature_count: reading.count - 1 })
     }

@@ -10,6 +10,7 @@ pub mod import;
 pub mod lister;
 pub mod numbers;
 pub mod reading;
+pub mod refusal;
 pub mod sheet;
 pub mod sweep;
 pub mod wire;

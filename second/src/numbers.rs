@@ -12,8 +12,8 @@ pub const PROFILE_COUNT: u8 = 2;
 pub const PROFILE_BAD: u8 = 3;
 /// Feature number 0, or not above the one before.
 pub const FEATURE_ORDER: u8 = 4;
-/// Reserved flag bits or Version not 0; Persistent without Current.
-pub const FLAGS_BAD: u8 = 5;
+/// Reserved flag bits not 0.
+pub const FLAGS_RESERVED: u8 = 5;
 /// Body length no multiple of 4.
 pub const BODY_LENGTH: u8 = 6;
 /// Offset not the end of the body before.
@@ -97,6 +97,12 @@ pub const CAPTURE_BAD: u8 = 41;
 /// Sheet buffer too short.
 pub const SHEET_BUFFER_SHORT: u8 = 42;
 
+// The sheet's flags besides 5.
+/// Version not 0.
+pub const VERSION_SET: u8 = 43;
+/// Persistent without Current.
+pub const PERSISTENT_UNCURRENT: u8 = 44;
+
 // The wire.
 /// Operation code of GET CONFIGURATION.
 pub const OPCODE: u8 = 0x46;
@@ -112,8 +118,10 @@ pub const RETURN_LIMIT: usize = 65_534;
 pub const CURRENT: u8 = 0x01;
 /// The Persistent bit of a descriptor's flags.
 pub const PERSISTENT: u8 = 0x02;
-/// The reserved bits and the Version of a descriptor's flags.
-pub const RESERVED_AND_VERSION: u8 = 0xFC;
+/// The reserved bits of a descriptor's flags.
+pub const RESERVED: u8 = 0xC0;
+/// The Version of a descriptor's flags.
+pub const VERSION: u8 = 0x3C;
 
 // The sheet's layout.
 /// Bytes before the contents.

@@ -1,6 +1,7 @@
 //! The drive sheet: its check, its parts, what it means, and how to build one.
 
 use crate::numbers::*;
+use crate::refusal::Refusal;
 use crate::wire::{be16, be32, byte, part, Descriptor, Feature, Profile};
 
 /// One entry of the contents.
@@ -52,12 +53,10 @@ pub struct Sheet<'a> {
 }
 
 impl<'a> Sheet<'a> {
-    /// Checks the bytes; gives the sheet, or the number that refuses it.
-    pub fn accept(bytes: &'a [u8]) -> Result<Sheet<'a>, u8> {
-        match check(bytes) {
-            ACCEPTED => Ok(Sheet::assume_checked(bytes)),
-            number => Err(number),
-        }
+    /// Checks the bytes; gives the sheet, or why it is refused.
+    pub fn accept(bytes: &'a [u8]) -> Result<Sheet<'a>, Refusal> {
+        check(bytes)?;
+        Ok(Sheet::assume_checked(bytes))
     }
 
     /// A sheet from bytes that `check` accepted earlier; other bytes give a sheet without promise, but no panic.
@@ -154,65 +153,76 @@ fn layout(bytes: &[u8]) -> (usize, usize) {
     (profiles_at, bodies_at)
 }
 
-/// Checks a sheet; gives 0, or the first of 1 to 8 that refuses it.
-pub fn check(bytes: &[u8]) -> u8 {
+/// Checks a sheet; gives the first of its numbers that refuses it, with the profile's or the entry's place.
+pub fn check(bytes: &[u8]) -> Result<(), Refusal> {
     let (profiles_at, bodies_at) = layout(bytes);
     if bytes.len() < SHEET_HEADER_BYTES || bytes.len() < bodies_at {
-        return SHEET_SHORT;
+        return Err(SHEET_SHORT.into());
     }
     if usize::from(be16(bytes, 2)) > PROFILES_MOST {
-        return PROFILE_COUNT;
+        return Err(PROFILE_COUNT.into());
     }
-    if !profiles_are_legal(part(bytes, profiles_at, bodies_at)) {
-        return PROFILE_BAD;
+    check_profiles(part(bytes, profiles_at, bodies_at))?;
+    let end = check_entries(part(bytes, SHEET_HEADER_BYTES, profiles_at), bodies_at)?;
+    if end != bytes.len() {
+        return Err(SHEET_END.into());
     }
-    match check_entries(part(bytes, SHEET_HEADER_BYTES, profiles_at), bodies_at) {
-        Err(number) => number,
-        Ok(end) if end != bytes.len() => SHEET_END,
-        Ok(_) => ACCEPTED,
-    }
+    Ok(())
 }
 
-/// Whether every profile has a new number that isn't 0, a current byte of 0 or 1, and a zero byte.
-pub(crate) fn profiles_are_legal(profiles: &[u8]) -> bool {
+/// Checks that every profile has a new number that isn't 0, a current byte of 0 or 1, and a zero byte.
+pub(crate) fn check_profiles(profiles: &[u8]) -> Result<(), Refusal> {
     for (index, profile) in profiles.chunks_exact(PROFILE_BYTES).enumerate() {
         let number = be16(profile, 0);
         let before = part(profiles, 0, index * PROFILE_BYTES);
         let listed_before = before.chunks_exact(PROFILE_BYTES).any(|other| be16(other, 0) == number);
         if number == 0 || listed_before || byte(profile, 2) > 1 || byte(profile, 3) != 0 {
-            return false;
+            return Err(Refusal::of_index(PROFILE_BAD, index));
         }
     }
-    true
+    Ok(())
 }
 
-/// Whether the reserved bits and Version are 0, and Persistent isn't set without Current.
-pub(crate) fn flags_are_legal(flags: u8) -> bool {
-    flags & RESERVED_AND_VERSION == 0 && flags != PERSISTENT
+/// Checks that the reserved bits are 0, then Version, then that Persistent isn't set without Current.
+pub(crate) fn check_flags(flags: u8) -> Result<(), u8> {
+    if flags & RESERVED != 0 {
+        return Err(FLAGS_RESERVED);
+    }
+    if flags & VERSION != 0 {
+        return Err(VERSION_SET);
+    }
+    if flags & PERSISTENT != 0 && flags & CURRENT == 0 {
+        return Err(PERSISTENT_UNCURRENT);
+    }
+    Ok(())
 }
 
 /// Checks the entries in order; gives where the last body ends.
-fn check_entries(contents: &[u8], bodies_at: usize) -> Result<usize, u8> {
+fn check_entries(contents: &[u8], bodies_at: usize) -> Result<usize, Refusal> {
     // No number is above itself, so starting at 0 also refuses feature 0.
     let mut before = Feature(0);
     let mut end = bodies_at;
-    for entry in contents.chunks_exact(ENTRY_BYTES).map(Entry::parse) {
-        if entry.feature <= before {
-            return Err(FEATURE_ORDER);
-        }
-        if !flags_are_legal(entry.flags) {
-            return Err(FLAGS_BAD);
-        }
-        if entry.length % 4 != 0 {
-            return Err(BODY_LENGTH);
-        }
-        if entry.offset as usize != end {
-            return Err(BODY_OFFSET);
-        }
+    for (index, entry) in contents.chunks_exact(ENTRY_BYTES).map(Entry::parse).enumerate() {
+        check_entry(entry, before, end).map_err(|number| Refusal::of_index(number, index))?;
         before = entry.feature;
         end += usize::from(entry.length);
     }
     Ok(end)
+}
+
+/// Checks one entry, given the feature and the end of the body before it.
+fn check_entry(entry: Entry, before: Feature, end: usize) -> Result<(), u8> {
+    if entry.feature <= before {
+        return Err(FEATURE_ORDER);
+    }
+    check_flags(entry.flags)?;
+    if entry.length % 4 != 0 {
+        return Err(BODY_LENGTH);
+    }
+    if entry.offset as usize != end {
+        return Err(BODY_OFFSET);
+    }
+    Ok(())
 }
 
 /// Builds a sheet's bytes; none if a count or a body length doesn't fit its field. `check` decides the rest.

@@ -7,6 +7,7 @@ use lib.Seq.{sets}
 use Rattle.text.specs.Drive.{bit}
 use Rattle.text.specs.declared.Feature.{Feature}
 use Rattle.text.specs.declared.Reading.{Reading}
+use Rattle.refusal.specs.declared.Refusal.{Refusal}
 use Rattle.lent.specs.Maker.{Outcome}
 use Rattle.sweep.specs.declared.Sweep.{Sweep}
 use Rattle.sweep.specs.declared.Step.{Step}
@@ -28,9 +29,17 @@ left r b ns = record { number = r; buffers = b; numbers = ns }
 abbrev pub told : {B : Type 0} → ℕ → B → (ns xs : List ℕ) → Left B
 told r b ns xs = left r b (sets ns 0 xs)
 
--- a maker: bytes written
+-- a maker that takes an accepted sheet: bytes written
 unfoldable pub showMade : Outcome → List ℕ → Left (List ℕ)
 showMade x ns = told (x .made .refusal .number) (x .buffer) ns (x .made .count ∷ [])
+
+-- a sheet's check: the place of its refusal
+unfoldable pub showVerdict : Refusal → List ℕ → Left (Unit {0})
+showVerdict r ns = told (r .number) tt ns (r .place ∷ [])
+
+-- a maker that takes a sheet, or makes one: bytes written, the place of its refusal
+unfoldable pub showPlaced : Outcome → List ℕ → Left (List ℕ)
+showPlaced x ns = told (x .made .refusal .number) (x .buffer) ns (x .made .count ∷ x .made .refusal .place ∷ [])
 
 -- a reading: profile, Data Length, whole descriptors, the place behind the last, 1 if complete
 unfoldable pub readingNumbers : Reading → List ℕ
@@ -53,9 +62,9 @@ showStep x ns = told (x .refusal .number) tt ns (recordNumbers (x .sweep))
 unfoldable pub showTurn : Turn → List ℕ → Left (List ℕ)
 showTurn x ns = told (x .step .refusal .number) (x .buffer) ns (recordNumbers (x .step .sweep))
 
--- a bench sweep: commands, bytes collected
+-- a bench sweep: commands, bytes collected, the place of its refusal
 unfoldable pub showBenched : bench.Ending → List ℕ → Left bench.Buffers
-showBenched x ns = told (x .reply .refusal .number) (x .buffers) ns (x .reply .commands ∷ x .reply .collected ∷ [])
+showBenched x ns = told (x .reply .refusal .number) (x .buffers) ns (x .reply .commands ∷ x .reply .collected ∷ x .reply .refusal .place ∷ [])
 
 -- a check of descriptors: the feature at fault
 unfoldable pub showFinding : Finding → List ℕ → Left (Unit {0})
@@ -63,4 +72,4 @@ showFinding x ns = told (x .refusal .number) tt ns (x .feature .0 ∷ [])
 
 -- a check of a profile: 1 and the lowest missing feature, or 0 and 0
 unfoldable pub showJudged : Said → List ℕ → Left (Unit {0})
-showJudged x ns = told (x .number) tt ns (length (x .missing) ∷ getD (x .missing) 0 0 ∷ [])
+showJudged x ns = told (x .refusal .number) tt ns (length (x .missing) ∷ getD (x .missing) 0 0 ∷ [])

@@ -15,7 +15,7 @@ ghost use Rattle.bench.specs.Bench as bench;
 ghost use Rattle.checks.specs.Check.{checked};
 ghost use Rattle.checks.specs.Judge as checks;
 ghost use Rattle.import.specs.Import.{imported};
-ghost use Rattle.abi.specs.Left.{left, showMade, readingNumbers, showRead, recordNumbers, recordOf, showStep, showTurn, showBenched, showFinding, showJudged};
+ghost use Rattle.abi.specs.Left.{left, showVerdict, showMade, showPlaced, readingNumbers, showRead, recordNumbers, recordOf, showStep, showTurn, showBenched, showFinding, showJudged};
 use checks::Judgement;
 use sweep::Sweep;
 use text::Feature;
@@ -41,6 +41,14 @@ fn tell2(numbers: &mut [u64], first: u64, second: u64) -> usize
 {
     let a = tell(numbers, 0, first);
     tell(numbers, a, second)
+}
+
+// Puts three numbers.
+fn tell3(numbers: &mut [u64], first: u64, second: u64, third: u64) -> usize
+    ensures { λ r. ⌜ Wrote (now (numbers .entry)) 0 (first ∷ second ∷ third ∷ []) r (now (numbers .exit)) ⌝ }
+{
+    let a = tell2(numbers, first, second);
+    tell(numbers, a, third)
 }
 
 // Puts the five numbers of a reading.
@@ -70,16 +78,17 @@ fn tell_record(numbers: &mut [u64], w: Sweep) -> usize
 
 // ---- the box
 
-// The number of a sheet.
+// The number of a sheet. Numbers: the place of the profile or entry at fault.
 #[no_mangle]
-pub extern "C" fn gcf_check_sheet(sheet: &[u8]) -> u8
-    ensures { λ r. ⌜ r ≡ verdict (now (sheet .entry)) .number ⌝ }
+pub extern "C" fn gcf_check_sheet(sheet: &[u8], numbers: &mut [u64]) -> u8
+    ensures { λ r. ⌜ left r tt (now (numbers .exit)) ≡ showVerdict (verdict (now (sheet .entry))) (now (numbers .entry)) ⌝ }
 {
     let verdict = sheet::check(sheet);
+    tell(numbers, 0, verdict.place as u64);
     verdict.number
 }
 
-// Answers a command from any sheet. Numbers: bytes sent.
+// Answers a command from any sheet. Numbers: bytes sent, the place of the profile or entry at fault.
 #[no_mangle]
 pub extern "C" fn gcf_respond(
     sheet: &[u8],
@@ -88,11 +97,11 @@ pub extern "C" fn gcf_respond(
     numbers: &mut [u64],
 ) -> u8
     ensures { λ r. ⌜ left r (now (response .exit)) (now (numbers .exit))
-        ≡ showMade (answered (now (sheet .entry)) (now (command .entry)) (now (response .entry))) (now (numbers .entry)) ⌝ }
+        ≡ showPlaced (answered (now (sheet .entry)) (now (command .entry)) (now (response .entry))) (now (numbers .entry)) ⌝ }
 {
     let reply = responder::respond(sheet, command, response);
     let fault = reply.refusal;
-    tell(numbers, 0, reply.count as u64);
+    tell2(numbers, reply.count as u64, fault.place as u64);
     fault.number
 }
 
@@ -199,7 +208,7 @@ pub extern "C" fn gcf_sweep_take(
 
 // ---- the bench and the checks
 
-// A bench sweep of a sheet. Numbers: commands, bytes collected.
+// A bench sweep of a sheet. Numbers: commands, bytes collected, the place of the profile or entry at fault.
 #[no_mangle]
 pub extern "C" fn gcf_bench(
     sheet: &[u8],
@@ -215,7 +224,12 @@ pub extern "C" fn gcf_bench(
 {
     let end = bench::bench(sheet, rt, allocation, response, collected, starts);
     let fault = end.refusal;
-    tell2(numbers, end.commands as u64, end.collected as u64);
+    tell3(
+        numbers,
+        end.commands as u64,
+        end.collected as u64,
+        fault.place as u64,
+    );
     fault.number
 }
 
@@ -255,14 +269,14 @@ pub extern "C" fn gcf_check_profile(profile: Profile, response: &[u8], numbers: 
 
 // ---- import
 
-// Turns a captured response to RT 0 from 0 into a drive sheet. Numbers: bytes of the sheet.
+// Turns a captured response to RT 0 from 0 into a drive sheet. Numbers: bytes of the sheet, the place of the profile or entry at fault.
 #[no_mangle]
 pub extern "C" fn gcf_import(response: &[u8], sheet: &mut [u8], numbers: &mut [u64]) -> u8
     ensures { λ r. ⌜ left r (now (sheet .exit)) (now (numbers .exit))
-        ≡ showMade (imported (now (response .entry)) (now (sheet .entry))) (now (numbers .entry)) ⌝ }
+        ≡ showPlaced (imported (now (response .entry)) (now (sheet .entry))) (now (numbers .entry)) ⌝ }
 {
     let made = import::import(response, sheet);
     let fault = made.refusal;
-    tell(numbers, 0, made.count as u64);
+    tell2(numbers, made.count as u64, fault.place as u64);
     fault.number
 }

@@ -11,6 +11,7 @@ use lent::Made;
 use libc::STDERR_FILENO;
 use libc::STDIN_FILENO;
 use libc::STDOUT_FILENO;
+use refusal::Refusal;
 use text::Header;
 
 // The longest sheet that is taken: the stack has room for it, but not for the 17,039,356 bytes that a sheet may have.
@@ -33,6 +34,17 @@ fn say(what: &[u8]) {
     io::write_all(STDERR_FILENO, what);
 }
 
+// A refusal, with the line of the sheet that it names.
+fn say_refused(refusal: Refusal, sheet: &[u8]) {
+    let profiles = layout::profile_count(sheet);
+    if refusal.place == 0 {
+        words::say_refused(STDERR_FILENO, refusal, profiles as u64, 0);
+        return;
+    }
+    let feature = layout::feature_at(sheet, refusal.place - 1);
+    words::say_refused(STDERR_FILENO, refusal, profiles as u64, feature.0);
+}
+
 // ---- the program
 
 fn answer(sheet: &[u8]) {
@@ -40,7 +52,7 @@ fn answer(sheet: &[u8]) {
     let reply = answer_of(sheet, &mut response);
     let refusal = reply.refusal;
     if refusal.number != 0 {
-        words::say_refused(STDERR_FILENO, refusal);
+        say_refused(refusal, sheet);
         return;
     }
     let count = reply.count;

@@ -242,8 +242,6 @@ module _ (s : List ℕ) (rt a : ℕ) (bs : Buffers) {r : Refusal} (q : r ≡ fir
       bench-later k e = e ∙ refused-kept t (ran .kept) ∙ sym (ends ∙ unless-fault t (failing bs) (succeeding w) k)
 
       -- refused nowhere
-      pub bench-done : t .number ≡ 0 → ending record { refusal = t; commands = w .sweep .commands; collected = w .sweep .collected } (w .buffers) ≡ benched s rt a bs
+      pub bench-done : t .number ≡ 0 → ending record { refusal = accept; commands = w .sweep .commands; collected = w .sweep .collected } (w .buffers) ≡ benched s rt a bs
       unfolding succeeding
-      bench-done k =
-          ap (λ (n : ℕ). ending record { refusal = refuse n; commands = w .sweep .commands; collected = w .sweep .collected } (w .buffers)) k
-          ∙ sym (ends ∙ unless-none t (failing bs) (succeeding w) k)
+      bench-done k = sym (ends ∙ unless-none t (failing bs) (succeeding w) k)

@@ -141,7 +141,7 @@ pub fn bench(
     }
     let w = end.sweep;
     Benched {
-        refusal: fault,
+        refusal: refusal::ACCEPTED,
         commands: w.commands,
         collected: w.collected,
     }

@@ -6,7 +6,7 @@ use native.Mathlib.Omega.{arith}
 use lib.ListN.{length, length-append}
 use Rattle.base.specs.Lists.{flat}
 use Rattle.refusal.specs.declared.Refusal.{Refusal}
-use Rattle.refusal.specs.First.{refuse, accept}
+use Rattle.refusal.specs.First.{accept}
 use Rattle.refusal.proofs.First.{unless-none, unless-fault}
 use Rattle.text.specs.declared.Reading.{Reading}
 use Rattle.text.specs.Drive.{Desc}
@@ -21,7 +21,7 @@ use Rattle.reading.proofs.Completed.{descs-from, complete-read}
 use Rattle.capture.specs.declared.Capture.{Capture}
 use Rattle.capture.specs.Capture.{captured, captureFault, captureOf}
 use Rattle.capture.specs.inner.Behind.{behind}
-use Rattle.capture.proofs.Describes.{Describes, described, captured-short, capture-complete}
+use Rattle.capture.proofs.Describes.{Describes, described, captured-short, capture-complete, capture-accepts}
 
 -- four bytes a descriptor, and the bodies
 pub length-bodies : (ds : List Desc) → length (flat bytes ds) ≡ 4 * length ds + length (flat (λ (d : Desc). d .body) ds)
@@ -86,7 +86,7 @@ module _ (s : List ℕ) where
   captureOf-refusal = go (captureFault s .number) refl
     where
       go : (n : ℕ) → captureFault s .number ≡ n → captureOf s .refusal ≡ captureFault s
-      go zero q = ap (λ (c : Capture). c .refusal) (captureOf-none q) ∙ ap refuse (sym q)
+      go zero q = ap (λ (c : Capture). c .refusal) (captureOf-none q) ∙ sym (capture-accepts s q)
       go (suc n) q = ap (λ (c : Capture). c .refusal) (captureOf-fault (λ z. omega arith))
 
 -- by the reading r and the refusal x at hand

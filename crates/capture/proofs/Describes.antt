@@ -1,4 +1,5 @@
 -- What an accepted capture describes: a drive that a sheet can describe, and that gives the capture's own bytes again. Assumes nothing.
+use Rattle.refusal.specs.First.{accept, placed}
 use mathlib.Core.Path.{_≡_, refl, sym, ap, ap₂, _∙_}
 use mathlib.Core.List.{List, [], _∷_}
 use Prim.Native.Nat.{ℕ, _+_, _≤_}
@@ -13,7 +14,7 @@ use Rattle.fields.proofs.Laws.{spell-field}
 use Rattle.text.specs.Drive.{Desc, Good, Asc, profileBytes}
 use Rattle.text.specs.Response.{bytes, feature0, selected, currentProfile, header, dataLength, full}
 use Rattle.text.specs.Reading.{statedLength, statedProfile, statedEnd, walked, readFault}
-use Rattle.refusal.proofs.First.{if-zero, orElse-zero}
+use Rattle.refusal.proofs.First.{if-zero, orElse-zero, placed-number, orElse-accepts}
 use Rattle.text.proofs.Selection.{asc-above, asc-down, from-all, selected-zero}
 use Rattle.text.proofs.Walk.{readFault-header, wholes-accepted}
 use Rattle.text.proofs.Again.{walked-again, walked-good, walked-asc}
@@ -40,7 +41,7 @@ pub record Describes (r : List ℕ) (first : Desc) (others : List Desc) : Type 0
   pub spare : field 2 r 4 ≡ 0
   pub current : statedProfile r ≡ currentProfile (profilesOf (first .body))
   pub profiles : recordsFault (first .body) .number ≡ 0
-  pub legal : flagsFaults others .number ≡ 0
+  pub legal : flagsFaults 1 others .number ≡ 0
 
 pub record Described (r : List ℕ) : Type 0 where
   pub first : Desc
@@ -87,12 +88,27 @@ pub spell-nought : 0 ∷ 0 ∷ [] ≡ spell 2 0
 unfolding spell
 spell-nought = refl
 
-flags-legal : (ds : List Desc) → flagsFaults ds .number ≡ 0 → All (λ (d : Desc). flagsRule (d .flags) .number ≡ 0) ds
+-- a capture that nothing refuses has no refusal at all
+flags-accepts : (k : ℕ) (ds : List Desc) → flagsFaults k ds .number ≡ 0 → flagsFaults k ds ≡ accept
 unfolding flagsFaults
-flags-legal [] e = tt
-flags-legal (d ∷ ds) e =
-    let x = orElse-zero (flagsRule (d .flags)) (flagsFaults ds) e in
-    (x .0, flags-legal ds (x .1))
+flags-accepts k [] e = refl
+flags-accepts k (d ∷ ds) e = orElse-accepts _ _ (flags-accepts (k + 1) ds) e
+
+sheet-accepts : (ds : List Desc) → sheetRule ds .number ≡ 0 → sheetRule ds ≡ accept
+unfolding sheetRule
+sheet-accepts [] e = refl
+sheet-accepts (z ∷ ds) e = orElse-accepts _ _ (flags-accepts 1 ds) e
+
+pub capture-accepts : (r : List ℕ) → captureFault r .number ≡ 0 → captureFault r ≡ accept
+unfolding captureFault
+capture-accepts r e = orElse-accepts _ _ (orElse-accepts _ _ (sheet-accepts (descs r))) e
+
+pub flags-legal : (k : ℕ) (ds : List Desc) → flagsFaults k ds .number ≡ 0 → All (λ (d : Desc). flagsRule (d .flags) .number ≡ 0) ds
+unfolding flagsFaults
+flags-legal k [] e = tt
+flags-legal k (d ∷ ds) e =
+    let x = orElse-zero (placed (flagsRule (d .flags)) k) (flagsFaults (k + 1) ds) e in
+    (sym (placed-number _ k) ∙ x .0, flags-legal (k + 1) ds (x .1))
 
 module _ {r : List ℕ} (bs : Bytes r) {z : Desc} {ds : List Desc} (c : Describes r z ds) where
   all-found : walked 0 0 r .found ≡ z ∷ ds
@@ -121,7 +137,7 @@ module _ {r : List ℕ} (bs : Bytes r) {z : Desc} {ds : List Desc} (c : Describe
           good = all-good .1;
         };
         distinct = kept-distinct b (fault-kept b (c .profiles));
-        legal = flags-legal ds (c .legal);
+        legal = flags-legal 1 ds (c .legal);
       }
 
   -- feature 0 made from the profiles is the one that was captured

@@ -3,17 +3,17 @@ use mathlib.Core.Path.{_≡_, sym, ap, _∙_}
 use mathlib.Core.Logic.{⊎-elim}
 use mathlib.Core.Bool.{not}
 use mathlib.Core.List.{List}
-use Prim.Native.Nat.{ℕ, _≤_, _<_}
+use Prim.Native.Nat.{ℕ, _+_, _*_, _≤_, _<_}
 use native.Mathlib.Omega.{arith}
 use lib.Dec.{eqb}
-use lib.ListN.{length}
+use lib.ListN.{length, drop, getD, length-take}
 use Rattle.fields.specs.Field.{field}
 use Rattle.refusal.specs.declared.Refusal.{Refusal}
 use Rattle.text.specs.declared.Reading.{Reading}
-use Rattle.refusal.specs.First.{refuse, accept, _if_else_, _orElse_}
+use Rattle.refusal.specs.First.{refuse, accept, _if_else_, _orElse_, placed}
 use Rattle.text.specs.Drive.{Desc}
 use Rattle.text.specs.Response.{currentProfile}
-use Rattle.text.specs.Reading.{statedProfile, numberAt, flagsAt, descAt}
+use Rattle.text.specs.Reading.{statedProfile, numberAt, flagsAt, lengthAt, descAt}
 use Rattle.refusal.proofs.First.{orElse-none, orElse-fault}
 use Rattle.base.proofs.Compare.{le-or-lt}
 use Rattle.reading.specs.Places.{nextAt}
@@ -22,7 +22,9 @@ use Rattle.reading.proofs.At.{next-is}
 use Rattle.reading.proofs.Places.{from-step, from-end, left-here, left-next, left-end}
 use Rattle.profiles.specs.Profiles.{profilesOf, recordsFault}
 use Rattle.reading.specs.Completed.{completeFault, completed}
-use Rattle.reading.proofs.Completed.{descs-from, complete-fault, complete-none}
+use Rattle.reading.proofs.Completed.{descs-from, complete-fault, complete-none, complete-zero}
+use Rattle.text.proofs.Walk.{readFault-header}
+use Rattle.base.specs.Lists.{Bytes}
 use Rattle.sheet.specs.Check.{flagsRule}
 use Rattle.capture.specs.Capture.{ownRule, flagsFaults, sheetRule, captureFault}
 use Rattle.capture.specs.inner.Behind.{behind}
@@ -47,7 +49,7 @@ module _ (s : List ℕ) where
     unfolding ownRule descAt statedProfile
     own-some = ap (ownRule s) (from-step s 8 h)
 
-    sheet-some : sheetRule (from s 8) ≡ recordsFault (descAt s 8 .body) orElse flagsFaults (behind s)
+    sheet-some : sheetRule (from s 8) ≡ recordsFault (descAt s 8 .body) orElse flagsFaults 1 (behind s)
     unfolding sheetRule
     sheet-some = ap sheetRule (from-step s 8 h)
 
@@ -58,29 +60,39 @@ module _ (s : List ℕ) where
       pub sheet-profiles : (r .number ≡ 0 → ⊥) → r ≡ sheetRule (from s 8)
       sheet-profiles k = profiles-are ∙ sym (sheet-some ∙ orElse-fault _ _ (λ z. k (number-is profiles-are ∙ z)))
 
-      pub sheet-flags : r .number ≡ 0 → (f : Refusal) (first : ℕ) → first ≡ nextAt s 8 → f ≡ flagsFaults (from s first) → f ≡ sheetRule (from s 8)
+      pub sheet-flags : r .number ≡ 0 → (f : Refusal) (first : ℕ) → first ≡ nextAt s 8 → f ≡ flagsFaults 1 (from s first) → f ≡ sheetRule (from s 8)
       sheet-flags k f first n g =
-          g ∙ ap (λ (x : ℕ). flagsFaults (from s x)) n ∙ sym (sheet-some ∙ orElse-none _ _ (sym (number-is profiles-are) ∙ k))
+          g ∙ ap (λ (x : ℕ). flagsFaults 1 (from s x)) n ∙ sym (sheet-some ∙ orElse-none _ _ (sym (number-is profiles-are) ∙ k))
+
+-- a body is shorter than the places of a list
+pub body-short : (s b : List ℕ) (at : ℕ) → Bytes s → b ≡ descAt s at .body → length b < 262144
+unfolding descAt lengthAt
+body-short s b at bs q = omega (arith, ap length q, length-take (getD s (at + 3) 0) (drop (at + 4) s), bs (at + 3))
 
 -- ---- the loop over the flags: a return, a further turn, the end
 
-module _ (w : Refusal) (s : List ℕ) (at : ℕ) (e : w ≡ flagsFaults (from s at)) where
-  module _ (f : ℕ) (p : f ≡ flagsAt s at) (r : Refusal) (q : r ≡ flagsRule f) where
-    rule-is : r ≡ flagsRule (descAt s at .flags)
+module _ (w : Refusal) (place : ℕ) (s : List ℕ) (at : ℕ) (e : w ≡ flagsFaults place (from s at)) where
+  module _ (f : ℕ) (p : f ≡ flagsAt s at) (r : Refusal) (q : r ≡ flagsRule f) (v : Refusal) (x : v ≡ placed r place) where
+    rule-is : v ≡ placed (flagsRule (descAt s at .flags)) place
     unfolding descAt
-    rule-is = q ∙ ap flagsRule p
+    rule-is = x ∙ ap (λ (a : Refusal). placed a place) (q ∙ ap flagsRule p)
 
-    pub flags-stop : at < length s → (r .number ≡ 0 → ⊥) → r ≡ w
+    pub flags-stop : at < length s → (v .number ≡ 0 → ⊥) → v ≡ w
     unfolding flagsFaults
-    flags-stop h k = left-here flagsFaults w s at (length s) e r h (λ ds. orElse-fault _ _ (λ z. k (number-is rule-is ∙ z)) ∙ sym rule-is)
+    flags-stop h k = left-here (flagsFaults place) w s at (length s) e v h (λ ds. orElse-fault _ _ (λ z. k (number-is rule-is ∙ z)) ∙ sym rule-is)
 
-    pub flags-go : (next : ℕ) → at < length s → r .number ≡ 0 → next ≡ nextAt s at → w ≡ flagsFaults (from s next)
+    pub flags-go : (next : ℕ) → at < length s → v .number ≡ 0 → next ≡ nextAt s at → w ≡ flagsFaults (place + 1) (from s next)
     unfolding flagsFaults
-    flags-go next h k n = left-next flagsFaults w s at (length s) e next h (next-is s at next h n) (λ ds. orElse-none _ _ (sym (number-is rule-is) ∙ k))
+    flags-go next h k n =
+        left-next (flagsFaults place) w s at (length s) e (flagsFaults (place + 1)) next h (next-is s at next h n) (λ ds. orElse-none _ _ (sym (number-is rule-is) ∙ k))
 
   pub flags-none : length s ≤ at → accept ≡ w
   unfolding flagsFaults
-  flags-none h = left-end flagsFaults w s at (length s) e h
+  flags-none h = left-end (flagsFaults place) w s at (length s) e h
+
+-- a descriptor has four bytes or more, so a place is never far behind
+pub place-next : (s : List ℕ) (at place next : ℕ) → at < length s → next ≡ nextAt s at → 4 * place ≤ at + 4 → 4 * (place + 1) ≤ next + 4
+place-next s at place next h n l = omega (arith, next-is s at next h n)
 
 -- ---- the reading's numbers, 29, and these
 
@@ -108,6 +120,10 @@ module _ (s : List ℕ) (r : Reading) (e : r ≡ completed s) where
           absurd (omega arith))
           (λ (l : 8 < length s). l)
           (le-or-lt (length s) 8)
+
+      -- and the response has at most 65,534 bytes
+      pub own-most : length s ≤ 65534
+      own-most = readFault-header 65534 0 0 s (complete-zero s (complete-none s r e k) .read) .most
 
       pub capture-sheet : x .number ≡ 0 → (y : Refusal) → y ≡ sheetRule (from s 8) → y ≡ captureFault s
       capture-sheet j y q = q ∙ sym (orElse-none _ _ (sym (number-is p) ∙ j)) ∙ rules

@@ -4,3 +4,4 @@ pub mod Faults
 pub mod Checked
 pub mod Own
 pub mod Numbers
+pub mod Lines

@@ -1,5 +1,5 @@
 -- Which numbers a capture can be refused with: what holds of each number of the rules holds of the number given. Assumes nothing.
-use mathlib.Core.Path.{_≡_, refl}
+use mathlib.Core.Path.{_≡_, refl, sym, subst}
 use mathlib.Core.Logic.{_⊎_, inl, inr}
 use mathlib.Core.Bool.{Bool, true, false}
 use mathlib.Core.List.{List, [], _∷_}
@@ -8,6 +8,7 @@ use native.Mathlib.Omega.{arith}
 use lib.ListN.{length}
 use Rattle.refusal.specs.declared.Refusal.{Refusal}
 use Rattle.refusal.specs.First.{refuse, _if_else_, pickZero, _orElse_, firstOf}
+use Rattle.refusal.proofs.First.{placed-number}
 use Rattle.text.specs.Flags as text
 use Rattle.text.specs.Drive.{Desc}
 use Rattle.text.specs.Reading.{statedEnd, headerRule, headRule, numberAt, lengthAt, headFault, walk, walked, readFault}
@@ -81,22 +82,24 @@ module _ (P : ℕ → Type 0) (p0 : P 0) where
   own-is p41 r [] = p41
   own-is p41 r (z ∷ ds) = if-is P 41 _ _ p41 (if-is P 41 _ _ p41 (if-is P 41 _ _ p41 (if-is P 41 _ _ p41 p0)))
 
-  flags-is : P 5 → (ds : List Desc) → P (flagsFaults ds .number)
+  flags-is : P 5 → P 43 → P 44 → (k : ℕ) (ds : List Desc) → P (flagsFaults k ds .number)
   unfolding flagsFaults flagsRule text.flagsGiving
-  flags-is p5 [] = p0
-  flags-is p5 (d ∷ ds) = orElse-is P _ _ (orElse-is P _ _ (if-is P 5 _ _ p5 p0) (orElse-is P _ _ (if-is P 5 _ _ p5 p0) (if-is P 5 _ _ p5 p0))) (flags-is p5 ds)
+  flags-is p5 p43 p44 k [] = p0
+  flags-is p5 p43 p44 k (d ∷ ds) =
+      orElse-is P _ _ (subst P (sym (placed-number _ k)) (orElse-is P _ _ (if-is P 5 _ _ p5 p0) (orElse-is P _ _ (if-is P 43 _ _ p43 p0) (if-is P 44 _ _ p44 p0))))
+      (flags-is p5 p43 p44 (k + 1) ds)
 
   record-is : P 3 → (b : List ℕ) (i : ℕ) → P (recordFault b i .number)
   unfolding recordFault recordRule
-  record-is p3 b i = if-is P 3 _ _ p3 (if-is P 3 _ _ p3 (if-is P 3 _ _ p3 (if-is P 3 _ _ p3 p0)))
+  record-is p3 b i = subst P (sym (placed-number _ (suc i))) (if-is P 3 _ _ p3 (if-is P 3 _ _ p3 (if-is P 3 _ _ p3 (if-is P 3 _ _ p3 p0))))
 
-  sheet-is : P 3 → P 5 → (ds : List Desc) → P (sheetRule ds .number)
+  sheet-is : P 3 → P 5 → P 43 → P 44 → (ds : List Desc) → P (sheetRule ds .number)
   unfolding sheetRule recordsFault
-  sheet-is p3 p5 [] = p0
-  sheet-is p3 p5 (z ∷ ds) = orElse-is P _ _ (first-is P _ 0 _ p0 (record-is p3 (z .body))) (flags-is p5 ds)
+  sheet-is p3 p5 p43 p44 [] = p0
+  sheet-is p3 p5 p43 p44 (z ∷ ds) = orElse-is P _ _ (first-is P _ 0 _ p0 (record-is p3 (z .body))) (flags-is p5 p43 p44 1 ds)
 
-pub capture-is : (P : ℕ → Type 0) → P 0 → P 14 → P 15 → P 16 → P 17 → P 18 → P 20 → P 29 → P 41 → P 3 → P 5 → (r : List ℕ) → P (captureFault r .number)
+pub capture-is : (P : ℕ → Type 0) → P 0 → P 14 → P 15 → P 16 → P 17 → P 18 → P 20 → P 29 → P 41 → P 3 → P 5 → P 43 → P 44 → (r : List ℕ) → P (captureFault r .number)
 unfolding captureFault completeFault
-capture-is P p0 p14 p15 p16 p17 p18 p20 p29 p41 p3 p5 r =
+capture-is P p0 p14 p15 p16 p17 p18 p20 p29 p41 p3 p5 p43 p44 r =
     orElse-is P (completeFault r) _ (orElse-is P _ _ (read-is P p0 p14 p15 p16 p17 p18 p20 65534 0 r) (if-is P 29 _ _ p29 p0))
-    (orElse-is P _ _ (own-is P p0 p41 r (descs r)) (sheet-is P p0 p3 p5 (descs r)))
+    (orElse-is P _ _ (own-is P p0 p41 r (descs r)) (sheet-is P p0 p3 p5 p43 p44 (descs r)))

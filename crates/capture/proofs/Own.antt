@@ -1,7 +1,7 @@
 -- The full response of a drive that a sheet can describe, captured: it is accepted, and the drive comes back. Assumes nothing.
 use mathlib.Core.Path.{_≡_, refl, sym, ap, _∙_}
 use mathlib.Core.List.{List, [], _∷_, _++_, append-assoc}
-use Prim.Native.Nat.{ℕ, _-_, _≤_, min}
+use Prim.Native.Nat.{ℕ, _-_, _≤_, min, _+_}
 use native.Mathlib.Omega.{arith}
 use lib.ListN.{length}
 use borrow.Author.Tests.{eq-eqb}
@@ -10,12 +10,12 @@ use Rattle.base.proofs.Lists.{drop-behind}
 use Rattle.fields.specs.Field.{field, spell}
 use Rattle.fields.proofs.Laws.{length-spell, field-here}
 use Rattle.refusal.specs.declared.Refusal.{Refusal}
-use Rattle.refusal.specs.First.{refuse, accept}
+use Rattle.refusal.specs.First.{refuse, accept, placed}
 use Rattle.text.specs.Drive.{Desc, Listed, Drive}
 use Rattle.text.specs.Response.{bytes, feature0, selected, currentProfile, header, dataLength, full, sent}
 use Rattle.text.specs.Reading.{statedProfile, statedEnd, readFault}
 use Rattle.reading.specs.Places.{descs}
-use Rattle.refusal.proofs.First.{if-false, orElse-none}
+use Rattle.refusal.proofs.First.{if-false, orElse-none, placed-number}
 use Rattle.text.proofs.Selection.{asc-above, asc-down, from-all, selected-zero}
 use Rattle.text.proofs.Sizes.{length-full}
 use Rattle.text.proofs.Sent.{sent-whole}
@@ -26,22 +26,22 @@ use Rattle.profiles.proofs.Again.{profiles-written, written-accept}
 use Rattle.sheet.specs.Check.{flagsRule}
 use Rattle.sheet.specs.Meaning.{Fine}
 use Rattle.capture.specs.Capture.{captured, ownRule, flagsFaults, sheetRule, captureFault}
-use Rattle.capture.proofs.Describes.{Describes, spell-nought}
+use Rattle.capture.proofs.Describes.{Describes, spell-nought, flags-legal}
 use Rattle.reading.proofs.Completed.{complete-accept}
 
 -- ---- what is not refused
 
-flags-accept : (ds : List Desc) → All (λ (d : Desc). flagsRule (d .flags) .number ≡ 0) ds → flagsFaults ds ≡ accept
+flags-accept : (k : ℕ) (ds : List Desc) → All (λ (d : Desc). flagsRule (d .flags) .number ≡ 0) ds → flagsFaults k ds ≡ accept
 unfolding flagsFaults
-flags-accept [] a = refl
-flags-accept (d ∷ ds) a = orElse-none (flagsRule (d .flags)) (flagsFaults ds) (a .0) ∙ flags-accept ds (a .1)
+flags-accept k [] a = refl
+flags-accept k (d ∷ ds) a = orElse-none (placed (flagsRule (d .flags)) k) (flagsFaults (k + 1) ds) (placed-number _ k ∙ a .0) ∙ flags-accept (k + 1) ds (a .1)
 
 capture-accept : {r : List ℕ} {z : Desc} {ds : List Desc} → Describes r z ds → captureFault r ≡ accept
 unfolding captureFault ownRule sheetRule
 capture-accept {r} {z} {ds} c =
     let own : ownRule r (z ∷ ds) ≡ accept =
     rw (eq-eqb (z .number) 0 (c .lowest), if-false, eq-eqb (z .flags) 3 (c .flags), if-false, eq-eqb (field 2 r 4) 0 (c .spare), if-false, eq-eqb (statedProfile r) (currentProfile (profilesOf (z .body))) (c .current), if-false) in
-    let sheet : sheetRule (z ∷ ds) ≡ accept = orElse-none _ _ (c .profiles) ∙ ap refuse (c .legal) in
+    let sheet : sheetRule (z ∷ ds) ≡ accept = orElse-none _ _ (c .profiles) ∙ flags-accept 1 ds (flags-legal 1 ds (c .legal)) in
     rw (complete-accept r record { read = c .read; ends = c .complete }, orElse-none accept _ refl, c .found, own, orElse-none accept _ refl) sheet
 
 -- ---- the full response
@@ -81,7 +81,7 @@ module _ {m : Drive} (f : Fine m) (small : length (full 0 0 m) ≤ 65534) where
     spare = full-spare m;
     current = ap statedProfile (sym all-sent) ∙ statedProfile-sent (f .sound) 0 0 65534 (omega arith) ∙ ap currentProfile (sym (profiles-written (m .profiles) (f .sound .profiles-low)));
     profiles = ap (λ (r : Refusal). r .number) (written-accept (m .profiles) (f .sound .profiles-low) (f .distinct));
-    legal = ap (λ (r : Refusal). r .number) (flags-accept (m .features) (f .legal));
+    legal = ap (λ (r : Refusal). r .number) (flags-accept 1 (m .features) (f .legal));
   }
 
   pub own-accepted : captureFault (full 0 0 m) ≡ accept

@@ -1,12 +1,12 @@
 -- A captured response to RT 0 from 0, and the drive that it describes. Assumes nothing: these are definitions.
 use mathlib.Core.Bool.{not}
 use mathlib.Core.List.{List, [], _∷_}
-use Prim.Native.Nat.{ℕ}
+use Prim.Native.Nat.{ℕ, _+_}
 use lib.Dec.{eqb}
 use lib.ListN.{length}
 use Rattle.fields.specs.Field.{field}
 use Rattle.refusal.specs.declared.Refusal.{Refusal}
-use Rattle.refusal.specs.First.{refuse, accept, _if_else_, _orElse_, unless}
+use Rattle.refusal.specs.First.{refuse, accept, _if_else_, _orElse_, unless, placed}
 use Rattle.text.specs.Drive.{Desc, Drive}
 use Rattle.text.specs.Response.{currentProfile}
 use Rattle.text.specs.Reading.{statedProfile}
@@ -31,15 +31,15 @@ ownRule r (z ∷ ds) =
     refuse 41 if not (eqb (statedProfile r) (currentProfile (profilesOf (z .body)))) else
     accept
 
--- 5, by the sheet's rule, at each descriptor in turn
-unfoldable pub flagsFaults : List Desc → Refusal
-flagsFaults [] = accept
-flagsFaults (d ∷ ds) = flagsRule (d .flags) orElse flagsFaults ds
+-- 5, 43 and 44, by the sheet's rule, at each descriptor in turn, where the first has this place
+unfoldable pub flagsFaults : (place : ℕ) → List Desc → Refusal
+flagsFaults place [] = accept
+flagsFaults place (d ∷ ds) = placed (flagsRule (d .flags)) place orElse flagsFaults (place + 1) ds
 
--- the sheet's own numbers in the sheet's order: all profiles, then all entries
+-- the sheet's own numbers in the sheet's order: all profiles, then all entries, of which feature 0 is none
 unfoldable pub sheetRule : List Desc → Refusal
 sheetRule [] = accept
-sheetRule (z ∷ ds) = recordsFault (z .body) orElse flagsFaults ds
+sheetRule (z ∷ ds) = recordsFault (z .body) orElse flagsFaults 1 ds
 
 -- what is refused of a response: the reading's numbers, 29 if it is cut, 41, then the sheet's
 unfoldable pub captureFault : List ℕ → Refusal

@@ -1,2 +1,3 @@
 pub mod Capture
+pub mod Lines
 pub mod inner

@@ -1,8 +1,8 @@
 // A captured response to RT 0 from 0: whether a drive sheet can describe its drive and give it back, and how many features that drive has.
 ghost use mathlib.Core.Path.{_≡_};
-ghost use Prim.Native.Nat.{_<_};
+ghost use Prim.Native.Nat.{_≤_, _<_};
 ghost use lib.ListN.{length};
-ghost use Rattle.text.specs.Response.{headerLength};
+ghost use Rattle.text.specs.Response.{headerLength, returnLimit};
 ghost use Rattle.reading.specs.inner.Between.{from};
 ghost use Rattle.reading.specs.Completed.{completed};
 ghost use Rattle.capture.specs.Capture.{ownRule, flagsFaults, sheetRule, captureFault, captureOf};
@@ -44,26 +44,31 @@ fn own_fault(s: &[u8]) -> Refusal
     refusal::ACCEPTED
 }
 
-// 5 at each descriptor from a place on.
+// 5, 43 and 44 at each descriptor from a byte on, the first of which is entry 1 of the contents.
+// Asks: a response of at most 65,534 bytes, which 14 has shown before, so that a place is a sixteen-bit number.
 fn flags_fault(s: &[u8], first: usize) -> Refusal
-    ensures { λ r. ⌜ r ≡ flagsFaults (from (now (s .entry)) first) ⌝ }
+    requires { ⌜ length (now s) ≤ returnLimit ⌝ }
+    ensures { λ r. ⌜ r ≡ flagsFaults 1 (from (now (s .entry)) first) ⌝ }
 {
     let mut at = first;
+    let mut place: u16 = 1;
     while at < s.len() {
         let flags = reading::flags_at(s, at);
-        let fault = sheet::flags_rule(flags);
+        let rule = sheet::flags_rule(flags);
+        let fault = rule.placed(place);
         if fault.number != 0 {
             return fault;
         }
         at = reading::next_at(s, at);
+        place += 1;
     }
     refusal::ACCEPTED
 }
 
-// 3 at each profile, then 5.
-// Asks: a response with a descriptor, which 41 has shown before.
+// 3 at each profile, then 5, 43 and 44.
+// Asks: a response with a descriptor, which 41 has shown before, and of at most 65,534 bytes, which 14 has.
 fn sheet_fault(s: &[u8]) -> Refusal
-    requires { ⌜ headerLength < length (now s) ⌝ }
+    requires { ⌜ (headerLength < length (now s)) × (length (now s) ≤ returnLimit) ⌝ }
     ensures { λ r. ⌜ r ≡ sheetRule (from (now (s .entry)) headerLength) ⌝ }
 {
     let fault = profiles::fault(reading::body_at(s, Header::LENGTH));

@@ -25,26 +25,14 @@ fn say(what: &[u8]) {
     io::write_all(STDOUT_FILENO, what);
 }
 
-// An upper-case hexadecimal digit.
-fn digit(d: u16) -> u8 {
-    let digits = *b"0123456789ABCDEF";
-    digits[(d % 16) as usize]
-}
-
-// Four upper-case hexadecimal digits.
-fn say_hex4(n: u16) {
-    let text = [digit(n / 4096), digit(n / 256), digit(n / 16), digit(n)];
-    io::write_all(STDOUT_FILENO, &text);
-}
-
 fn say_feature(feature: Feature) {
     say(b"feature ");
-    say_hex4(feature.0);
+    words::say_hex4(STDOUT_FILENO, feature.0);
 }
 
 fn say_profile(profile: Profile) {
     say(b"profile ");
-    say_hex4(profile.0);
+    words::say_hex4(STDOUT_FILENO, profile.0);
 }
 
 // ---- the descriptors

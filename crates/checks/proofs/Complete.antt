@@ -100,7 +100,7 @@ module _ (s : List ℕ) where
 
       pub walk-next : (next : ℕ) → at < length s → next ≡ nextAt s at → test (descAt s at) ≡ false → w ≡ pick test found none (from s next)
       walk-next next h n t =
-          left-next (pick test found none) w s at (length s) e next h (next-is s at next h n) (λ ds. pick-past test found none (descAt s at) ds t)
+          left-next (pick test found none) w s at (length s) e (pick test found none) next h (next-is s at next h n) (λ ds. pick-past test found none (descAt s at) ds t)
 
       pub walk-end : length s ≤ at → none ≡ w
       unfolding pick

@@ -20,11 +20,11 @@ next-none a b h = rw (h, _orNext_)
 -- a number: it counts
 pub next-fault : (a b : Finding) → (a .refusal .number ≡ 0 → ⊥) → a orNext b ≡ a
 unfolding _orNext_
-next-fault a b h = go (a .refusal .number) refl
+next-fault a b h = go (a .refusal .number) h
   where
-    go : (n : ℕ) → a .refusal .number ≡ n → a orNext b ≡ a
-    go zero e = absurd (h e)
-    go (suc n) e = rw (e, _orNext_) (ap (λ (k : ℕ). finding (refuse k) (a .feature .0)) e)
+    go : (n : ℕ) → (n ≡ 0 → ⊥) → _≡_ {A = Finding} (elim n [ zero ↦ b | suc k ↦ a ]) a
+    go zero k = absurd (k refl)
+    go (suc n) k = refl
 
 -- neither has a number
 pub next-zero : (a b : Finding) → (a orNext b) .refusal .number ≡ 0 → (a .refusal .number ≡ 0) × (b .refusal .number ≡ 0)

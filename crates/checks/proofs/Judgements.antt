@@ -56,4 +56,4 @@ said-injective (Missing f) (Missing g) e =
 said-injective (Missing f) (Refused q) e = absurd (omega (arith, ap (λ (x : Said). length (x .missing)) e))
 said-injective (Refused r) Conforms e = absurd (true≢false (sym (ap (λ (x : Said). x .conforms) e)))
 said-injective (Refused r) (Missing g) e = absurd (omega (arith, ap (λ (x : Said). length (x .missing)) e))
-said-injective (Refused r) (Refused q) e = ap (λ (n : ℕ). Refused (refuse n)) (ap (λ (x : Said). x .number) e)
+said-injective (Refused r) (Refused q) e = ap Refused (ap (λ (x : Said). x .refusal) e)

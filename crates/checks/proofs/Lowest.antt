@@ -7,6 +7,7 @@ use Prim.Native.Nat.{ℕ, zero, suc, _≤_}
 use native.Mathlib.Nat.{le-refl}
 use native.Mathlib.Omega.{arith}
 use lib.Dec.{eqb, leb}
+use Rattle.refusal.specs.First.{accept}
 use Rattle.base.specs.Lists.{All}
 use Rattle.base.proofs.Lists.{all-map}
 use Rattle.refusal.specs.declared.Refusal.{Refusal}
@@ -62,13 +63,13 @@ module _ (p : ℕ) (ds : List Desc) where
           leb-true _ _ (rw q at a)
 
   abbrev first : List Need → Said
-  first ns = pick (lacks p ds) (λ n. says 0 false (n .1 .0 ∷ [])) (says 0 true []) ns
+  first ns = pick (lacks p ds) (λ n. says accept false (n .1 .0 ∷ [])) (says accept true []) ns
 
-  first-none : (ns : List Need) → first ns ≡ says 0 true [] → All (λ (n : Need). lacks p ds n ≡ false) ns
+  first-none : (ns : List Need) → first ns ≡ says accept true [] → All (λ (n : Need). lacks p ds n ≡ false) ns
   first-none [] e = tt
   first-none (n ∷ ns) e = go (lacks p ds n) refl (first-none ns)
     where
-      go : (t : Bool) → lacks p ds n ≡ t → (first ns ≡ says 0 true [] → All (λ (m : Need). lacks p ds m ≡ false) ns) → All (λ (m : Need). lacks p ds m ≡ false) (n ∷ ns)
+      go : (t : Bool) → lacks p ds n ≡ t → (first ns ≡ says accept true [] → All (λ (m : Need). lacks p ds m ≡ false) ns) → All (λ (m : Need). lacks p ds m ≡ false) (n ∷ ns)
       go true h more = absurd (true≢false (ap (λ (x : Said). x .conforms) (sym e ∙ pick-here (lacks p ds) _ _ n ns h)))
       go false h more = (h, more (sym (pick-past (lacks p ds) _ _ n ns h) ∙ e))
 
@@ -94,14 +95,14 @@ module _ (p : ℕ) (ds : List Desc) where
         lowest = (λ k. absurd (true≢false (sym k ∙ h)), l .lowest);
       }
 
-  first-least : (f : ℕ) (ns : List Need) → ascends ns ≡ true → first ns ≡ says 0 false (f ∷ []) → Least f ns
+  first-least : (f : ℕ) (ns : List Need) → ascends ns ≡ true → first ns ≡ says accept false (f ∷ []) → Least f ns
   unfolding pick
   first-least f [] a e = absurd (true≢false (ap (λ (x : Said). x .conforms) e))
   first-least f (n ∷ ns) a e =
       let b = and-true (every (notAbove n) ns) (ascends ns) a in
       go (lacks p ds n) refl (b .0) (first-least f ns (b .1))
     where
-      go : (t : Bool) → lacks p ds n ≡ t → every (notAbove n) ns ≡ true → (first ns ≡ says 0 false (f ∷ []) → Least f ns) → Least f (n ∷ ns)
+      go : (t : Bool) → lacks p ds n ≡ t → every (notAbove n) ns ≡ true → (first ns ≡ says accept false (f ∷ []) → Least f ns) → Least f (n ∷ ns)
       go true h b more =
           let m : (n .1 .0 ∷ []) ≡ (f ∷ []) = ap (λ (x : Said). x .missing) (sym (pick-here (lacks p ds) _ _ n ns h) ∙ e) in
           let q : n .1 .0 ≡ f = cc in
@@ -112,7 +113,7 @@ module _ (p : ℕ) (ds : List Desc) where
 
 module _ (p : ℕ) (s : List ℕ) where
   -- an answer without a number is a walk over the lines
-  judged-lowest : (x : Said) → judged p s ≡ x → x .number ≡ 0 → first p (descs s) required ≡ x
+  judged-lowest : (x : Said) → judged p s ≡ x → x .refusal .number ≡ 0 → first p (descs s) required ≡ x
   unfolding judged lowest
   judged-lowest x e k = go (judgeFault p s .number) refl
     where
@@ -120,13 +121,13 @@ module _ (p : ℕ) (s : List ℕ) where
       go zero h = sym (unless-none (judgeFault p s) _ _ h) ∙ e
       go (suc n) h =
           let j = unless-fault (judgeFault p s) (λ (r : Refusal). said (Refused r)) (lowest p (descs s)) (λ z. omega arith) in
-          let z : judgeFault p s .number ≡ x .number = ap (λ (y : Said). y .number) (sym j ∙ e) in
+          let z : judgeFault p s .number ≡ x .refusal .number = ap (λ (y : Said). y .refusal .number) (sym j ∙ e) in
           absurd (omega arith)
 
   -- every line of the profile is met
-  pub conforms-all : judged p s ≡ says 0 true [] → All (λ (n : Need). lacks p (descs s) n ≡ false) required
-  conforms-all e = first-none p (descs s) required (judged-lowest (says 0 true []) e refl)
+  pub conforms-all : judged p s ≡ says accept true [] → All (λ (n : Need). lacks p (descs s) n ≡ false) required
+  conforms-all e = first-none p (descs s) required (judged-lowest (says accept true []) e refl)
 
   -- the feature named is the lowest that is missing
-  pub missing-lowest : (f : ℕ) → judged p s ≡ says 0 false (f ∷ []) → Least p (descs s) f required
-  missing-lowest f e = first-least p (descs s) f required required-ascends (judged-lowest (says 0 false (f ∷ [])) e refl)
+  pub missing-lowest : (f : ℕ) → judged p s ≡ says accept false (f ∷ []) → Least p (descs s) f required
+  missing-lowest f e = first-least p (descs s) f required required-ascends (judged-lowest (says accept false (f ∷ [])) e refl)

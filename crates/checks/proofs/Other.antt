@@ -13,12 +13,13 @@ use Rattle.base.specs.Lists.{All, Bytes}
 use Rattle.base.proofs.Lists.{all-getD}
 use Rattle.refusal.specs.declared.Refusal.{Refusal}
 use Rattle.refusal.specs.First.{refuse, accept}
+use Rattle.refusal.proofs.First.{orElse-accepts, if-accepts, first-accepts}
 use Rattle.text.specs.Drive.{Desc}
 use Rattle.text.proofs.FlagsRule.{flags-good}
 use Rattle.checks.specs.declared.legal.Row.{Row}
 use Rattle.checks.specs.Pick.{pick}
 use Rattle.checks.specs.Legal.{legal, other, rowOf}
-use Rattle.checks.specs.Rules.{flagsFault, maskAt, descFault}
+use Rattle.checks.specs.Rules.{flagsFault, maskAt, bodyFault, profilesFault, descFault}
 use Rattle.checks.specs.Faultless.{Faultless}
 use Rattle.checks.proofs.Pick.{pick-here, pick-past}
 use Rattle.checks.proofs.Faultless.{desc-accept}
@@ -92,6 +93,12 @@ module _ (removable : Bool) (f flags : ℕ) (body : List ℕ) where
         numbered = λ h. absurd (omega arith);
       }
 
+  -- what breaks no rule has no refusal at all
+  desc-accepts : descFault removable d .number ≡ 0 → descFault removable d ≡ accept
+  unfolding descFault bodyFault profilesFault
+  desc-accepts e =
+      orElse-accepts _ _ (orElse-accepts _ _ (orElse-accepts _ _ (orElse-accepts _ _ (if-accepts accept _ _ (λ z. refl) (first-accepts _ 0 _))))) e
+
   pub other-accept : (row : Row) (r : Refusal) → r ≡ flagsFault flags → r .number ≡ 0 → row ≡ rowOf f → row .0 .0 ≡ 0xFFFF → Bytes body
       → accept ≡ descFault removable d
-  other-accept row r q z w h u = sym (ap refuse (desc-accept removable d (other-faultless u (rw (← w) h) (rw (← q) z))))
+  other-accept row r q z w h u = sym (desc-accepts (desc-accept removable d (other-faultless u (rw (← w) h) (rw (← q) z))))

@@ -9,6 +9,7 @@ use native.Mathlib.Omega.{arith}
 use lib.Dec.{ltb, eqb}
 use lib.ListN.{length, getD, drop, drop-of-length-le}
 use lib.Seq.{drop-cons}
+use Rattle.refusal.specs.First.{accept}
 use Rattle.base.specs.Lists.{All}
 use Rattle.text.specs.Drive.{Desc, Asc}
 use Rattle.text.specs.Reading.{numberAt, descAt}
@@ -164,10 +165,10 @@ module _ (p : ℕ) where
           rw (t, v, leftFor, lacks, some-below m (n .1 .0) ds l)
 
   abbrev found : Need → Said
-  found n = says 0 false (n .1 .0 ∷ [])
+  found n = says accept false (n .1 .0 ∷ [])
 
   abbrev first : List Desc → List Need → Said
-  first ds ns = pick (lacks p ds) found (says 0 true []) ns
+  first ds ns = pick (lacks p ds) found (says accept true []) ns
 
   first-left : (n : Need) (ds : List Desc) (ns : List Need) → All (λ (m : Need). notAbove n m ≡ true) ns → first ds ns ≡ first (leftFor p n ds) ns
   unfolding pick
@@ -199,7 +200,7 @@ module _ (p : ℕ) where
   }
 
   module _ (s : List ℕ) (w : Said) (i at : ℕ) (x : Left s w i at) where
-    pub left-end : length required ≤ i → says 0 true [] ≡ w
+    pub left-end : length required ≤ i → says accept true [] ≡ w
     unfolding pick
     left-end l = sym (x .is ∙ ap (first (from s at)) (drop-of-length-le required l))
 
@@ -214,7 +215,7 @@ module _ (p : ℕ) where
       lacks-is : (b : Bool) → b ≡ lacksFirst p n (from s next) → lacks p (from s at) n ≡ b
       lacks-is b e = lacks-first n (x .lo) (from s at) (x .asc) ∙ ap (lacksFirst p n) (sym r) ∙ sym e
 
-      pub left-found : (b : Bool) → b ≡ lacksFirst p n (from s next) → b ≡ true → says 0 false (n .1 .0 ∷ []) ≡ w
+      pub left-found : (b : Bool) → b ≡ lacksFirst p n (from s next) → b ≡ true → says accept false (n .1 .0 ∷ []) ≡ w
       left-found b e t = sym (x .is ∙ ap (first (from s at)) here ∙ pick-here (lacks p (from s at)) found _ n _ (lacks-is b e ∙ t))
 
       pub left-next : (b : Bool) → b ≡ lacksFirst p n (from s next) → b ≡ false → Left s w (i + 1) next

@@ -12,24 +12,24 @@ use Rattle.reading.specs.Places.{descs}
 use Rattle.reading.specs.Completed.{completeFault}
 use Rattle.checks.specs.Required.{required, lacks, hasTable}
 
--- what a judgement says: the number, whether the response conforms, and the missing feature where one is named
+-- what a judgement says: the refusal or none, whether the response conforms, and the missing feature where one is named
 pub record Said : Type 0 where
-  pub number : ℕ
+  pub refusal : Refusal
   pub conforms : Bool
   pub missing : List ℕ
 
-abbrev pub says : ℕ → Bool → List ℕ → Said
-says n c m = record { number = n; conforms = c; missing = m }
+abbrev pub says : Refusal → Bool → List ℕ → Said
+says r c m = record { refusal = r; conforms = c; missing = m }
 
 -- each case of the answer
 abbrev pub said : Judgement → Said
-said Conforms = says 0 true []
-said (Missing f) = says 0 false (f .0 ∷ [])
-said (Refused r) = says (r .number) false []
+said Conforms = says accept true []
+said (Missing f) = says accept false (f .0 ∷ [])
+said (Refused r) = says r false []
 
 -- the first line that is not met: lines of one profile ascend, so its feature is the lowest
 unfoldable pub lowest : (profile : ℕ) → List Desc → Said
-lowest p ds = pick (lacks p ds) (λ n. says 0 false (n .1 .0 ∷ [])) (says 0 true []) required
+lowest p ds = pick (lacks p ds) (λ n. says accept false (n .1 .0 ∷ [])) (says accept true []) required
 
 -- what refuses a judgement: the reading's numbers, 29, then 40: no table for the profile
 unfoldable pub judgeFault : (profile : ℕ) → List ℕ → Refusal

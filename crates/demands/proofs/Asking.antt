@@ -16,12 +16,14 @@ use Rattle.fields.specs.Part.{PartOf}
 use Rattle.fields.proofs.Parts.{same-part}
 use Rattle.lent.specs.Wrote.{Wrote}
 use Rattle.lent.proofs.Laws.{same}
+use Rattle.profiles.specs.Profiles.{recordsFault}
 use Rattle.layout.specs.Layout.{entryAt}
 use Rattle.layout.specs.inner.Entry.{entryOf, headPart}
 use Rattle.fields.proofs.inside as inside
 use Rattle.fields.proofs.inside2 as inside2
 use Rattle.fields.proofs.inside4 as inside4
 use Rattle.lent.proofs.place as place
+use Rattle.profiles.proofs.fault as profiles-fault
 use Rattle.layout.proofs.entry_in as entry-in
 use Rattle.layout.proofs.head_part as head-part
 
@@ -78,6 +80,14 @@ place-decided x = decides-asking (x .𝓤) (λ o o′ p q. (same p q .0, same p 
 pub place-tied : PromisedAsking place.ended (λ M. place.clauses) (λ M. place.spec) (λ x. x .args .1 .0 + length (x .args .1 .1 .0 .now) ≤ length (x .args .0 .now))
     (λ x o. Wrote (x .args .0 .now) (x .args .1 .0) (x .args .1 .1 .0 .now) (o .0) (o .1 .0))
 place-tied x = promises-asking (x .𝓤) (λ o e. e)
+
+-- ---- profiles
+
+pub profiles-fault-decided : DecidedAsking profiles-fault.ended (λ M. profiles-fault.clauses) (λ M. profiles-fault.spec) (λ x. length (x .args .0 .now) < 262144) (λ κs r. r)
+profiles-fault-decided x = decides-asking (x .𝓤) (λ o o′ p q. (joined p q, refl))
+
+pub profiles-fault-tied : PromisedAsking profiles-fault.ended (λ M. profiles-fault.clauses) (λ M. profiles-fault.spec) (λ x. length (x .args .0 .now) < 262144) (λ x o. o .0 ≡ recordsFault (x .args .0 .now))
+profiles-fault-tied x = promises-asking (x .𝓤) (λ o e. e)
 
 -- ---- layout
 

@@ -136,12 +136,12 @@ all-of ds a =
 
 -- ---- every descriptor of a drive is such a one
 
--- the sheet's rule 5 tests what 33 and 34 test
+-- the sheet's rules 5, 43 and 44 test what 33 and 34 test
 flags-own : (f : ℕ) → sheet.flagsRule f .number ≡ 0 → flagsFault f ≡ accept
 unfolding flagsFault sheet.flagsRule
 flags-own f e =
     flags-accept (refuse 33) (refuse 33) (refuse 34) f
-    (flags-good (refuse 5) (refuse 5) (refuse 5) f (λ z. absurd (omega arith)) (λ z. absurd (omega arith)) (λ z. absurd (omega arith)) e)
+    (flags-good (refuse 5) (refuse 43) (refuse 44) f (λ z. absurd (omega arith)) (λ z. absurd (omega arith)) (λ z. absurd (omega arith)) e)
 
 feature-own : (d : Desc) → 1 ≤ d .number → sheet.flagsRule (d .flags) .number ≡ 0 → Own d
 unfolding profilesFault
@@ -251,8 +251,8 @@ finds s = record {
 -- is not met.
 pub record Judges (p : ℕ) (s : List ℕ) (j : Said) : Type 0 where
   pub exact : j ≡ judged p s
-  pub conforms : j ≡ says 0 true [] → All (λ (n : Need). lacks p (descs s) n ≡ false) required
-  pub missing : (f : ℕ) → j ≡ says 0 false (f ∷ []) → Least p (descs s) f required
+  pub conforms : j ≡ says accept true [] → All (λ (n : Need). lacks p (descs s) n ≡ false) required
+  pub missing : (f : ℕ) → j ≡ says accept false (f ∷ []) → Least p (descs s) f required
 
 pub judges : (p : ℕ) (s : List ℕ) → Judges p s (judged p s)
 judges p s = record { exact = refl; conforms = conforms-all p s; missing = missing-lowest p s }

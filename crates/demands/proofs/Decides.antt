@@ -14,6 +14,7 @@ use Rattle.fields.proofs.get2 as get2
 use Rattle.fields.proofs.get3 as get3
 use Rattle.fields.proofs.get4 as get4
 use Rattle.fields.proofs.part as part
+use Rattle.refusal.proofs.Refusal.placed as refusal-placed
 use Rattle.lent.proofs.Made.refused as made-refused
 use Rattle.lent.proofs.Made.written as made-written
 use Rattle.lent.proofs.put as put
@@ -31,7 +32,6 @@ use Rattle.text.proofs.Flags.fault as flags-fault
 use Rattle.text.proofs.Command.fault as command-fault
 use Rattle.text.proofs.Command.read as command-read
 use Rattle.text.proofs.Header.new as header-new
-use Rattle.profiles.proofs.fault as profiles-fault
 use Rattle.profiles.proofs.current as profiles-current
 use Rattle.layout.proofs.feature_count as feature-count
 use Rattle.layout.proofs.profile_count as profile-count
@@ -108,6 +108,11 @@ get4-decided x = decides (x .𝓤) (λ o o′ p q. (joined p q, refl))
 pub part-decided : DecidedAs part.ended (λ M. part.clauses) (λ M. part.spec) (λ κs r. seen r)
 part-decided x = decides (x .𝓤) (λ o o′ p q. (same-part p q, refl))
 
+-- ---- refusal
+
+pub refusal-placed-decided : Decided refusal-placed.ended (λ M. refusal-placed.clauses) (λ M. refusal-placed.spec)
+refusal-placed-decided x = decides (x .𝓤) (λ o o′ p q. (joined p q, refl))
+
 -- ---- lent
 
 pub made-refused-decided : Decided made-refused.ended (λ M. made-refused.clauses) (λ M. made-refused.spec)
@@ -164,9 +169,6 @@ pub header-new-decided : Decided header-new.ended (λ M. header-new.clauses) (λ
 header-new-decided = text-decides.new-decided
 
 -- ---- profiles
-
-pub profiles-fault-decided : Decided profiles-fault.ended (λ M. profiles-fault.clauses) (λ M. profiles-fault.spec)
-profiles-fault-decided x = decides (x .𝓤) (λ o o′ p q. (joined p q, refl))
 
 pub profiles-current-decided : Decided profiles-current.ended (λ M. profiles-current.clauses) (λ M. profiles-current.spec)
 profiles-current-decided x = decides (x .𝓤) (λ o o′ p q. ((λ i. record { 0 = joined p q i }), refl))
@@ -336,7 +338,7 @@ numbers : {B : Type 0} {a b : Left B} → a ≡ b → a .numbers ≡ b .numbers
 numbers {B} p = ap (λ (z : Left B). z .numbers) p
 
 pub gcf-check-sheet-decided : Decided gcf-check-sheet.ended (λ M. gcf-check-sheet.clauses) (λ M. gcf-check-sheet.spec)
-gcf-check-sheet-decided x = decides (x .𝓤) (λ o o′ p q. (joined p q, refl))
+gcf-check-sheet-decided x = decides (x .𝓤) (λ o o′ p q. (number (joined p q), refl & numbers (joined p q) & refl))
 
 pub gcf-respond-decided : Decided gcf-respond.ended (λ M. gcf-respond.clauses) (λ M. gcf-respond.spec)
 gcf-respond-decided x = decides (x .𝓤) (λ o o′ p q. (number (joined p q), refl & refl & buffers (joined p q) & numbers (joined p q) & refl))

@@ -24,7 +24,7 @@ use Rattle.responder.specs.Answer.{due}
 use Rattle.responder.proofs.respond as respond
 use Rattle.reading.proofs.read as read
 use Rattle.import.proofs.import as import
-use Rattle.abi.specs.Left.{left, showMade}
+use Rattle.abi.specs.Left.{left, showPlaced}
 use Rattle.abi.proofs.gcf_respond as gcf-respond
 use Rattle.base.proofs.Promise.{by, beside, both}
 use Rattle.demands.proofs.Sending.{Answers, demand2}
@@ -123,5 +123,5 @@ module _ (x : Call gcf-respond.ended (λ M. gcf-respond.clauses)) (κs : Lfts (r
   pub gcf-respond-same : (o : Outcome gcf-respond.ended (λ M. gcf-respond.clauses) x) (p : Outcome respond.ended (λ M. respond.clauses) direct)
       → ent (x .𝓤) (conj (x .𝓤) (allowed gcf-respond.ended (λ M. gcf-respond.clauses) x o) (allowed respond.ended (λ M. respond.clauses) direct p)) (fact (x .𝓤) (
       args .0 .now ≡ x .args .0 .now → args .1 .0 .now ≡ x .args .1 .0 .now → args .1 .1 .0 .now ≡ x .args .1 .1 .0 .now
-      → left (o .0) (o .1 .1 .1 .0) (o .1 .1 .1 .1 .0) ≡ showMade (maker.outcome (p .0) (p .1 .1 .1 .0)) (x .args .1 .1 .1 .0 .now)))
-  gcf-respond-same o p = both (x .𝓤) (λ e f a b c. e ∙ ap (λ (w : maker.Outcome). showMade w (x .args .1 .1 .1 .0 .now)) (sym (rw (← a, ← b, ← c) f)))
+      → left (o .0) (o .1 .1 .1 .0) (o .1 .1 .1 .1 .0) ≡ showPlaced (maker.outcome (p .0) (p .1 .1 .1 .0)) (x .args .1 .1 .1 .0 .now)))
+  gcf-respond-same o p = both (x .𝓤) (λ e f a b c. e ∙ ap (λ (w : maker.Outcome). showPlaced w (x .args .1 .1 .1 .0 .now)) (sym (rw (← a, ← b, ← c) f)))

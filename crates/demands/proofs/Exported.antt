@@ -6,7 +6,6 @@ use Prim.Native.Nat.{ℕ, _<_, min}
 use lib.ListN.{length, take}
 use Rattle.lent.specs.Wrote.{Wrote}
 use Rattle.lent.proofs.Laws.{room-left}
-use Rattle.refusal.specs.declared.Refusal.{Refusal}
 use Rattle.bench.specs.Bench as bench
 use Rattle.abi.specs.Left.{left, recordOf}
 use Rattle.abi.specs.Left as abi
@@ -37,11 +36,11 @@ use Rattle.demands.proofs.Importing.{Imports, imports}
 -- ---- the box
 
 pub gcf-check-sheet-tied : Promised gcf-check-sheet.ended (λ M. gcf-check-sheet.clauses) (λ M. gcf-check-sheet.spec)
-    (λ x o. Shows (Checks (x .args .0 .now)) (λ (r : Refusal). r .number) (o .0))
+    (λ x o. Shows (Checks (x .args .0 .now)) (λ z. abi.showVerdict z (x .args .1 .0 .now)) (left (o .0) tt (o .1 .1 .0)))
 gcf-check-sheet-tied x = promises (x .𝓤) (λ o. shows _ (checks _))
 
 pub gcf-respond-tied : Promised gcf-respond.ended (λ M. gcf-respond.clauses) (λ M. gcf-respond.spec)
-    (λ x o. Shows (Answers (x .args .0 .now) (x .args .1 .0 .now) (x .args .1 .1 .0 .now)) (λ z. abi.showMade z (x .args .1 .1 .1 .0 .now))
+    (λ x o. Shows (Answers (x .args .0 .now) (x .args .1 .0 .now) (x .args .1 .1 .0 .now)) (λ z. abi.showPlaced z (x .args .1 .1 .1 .0 .now))
     (left (o .0) (o .1 .1 .1 .0) (o .1 .1 .1 .1 .0)))
 gcf-respond-tied x = promises (x .𝓤) (λ o. shows _ (demand2 _ _ _))
 
@@ -108,5 +107,5 @@ pub gcf-check-profile-tied : Promised gcf-check-profile.ended (λ M. gcf-check-p
 gcf-check-profile-tied x = promises (x .𝓤) (λ o. shows _ (judges _ _))
 
 pub gcf-import-tied : Promised gcf-import.ended (λ M. gcf-import.clauses) (λ M. gcf-import.spec)
-    (λ x o. Shows (Imports (x .args .0 .now) (x .args .1 .0 .now)) (λ z. abi.showMade z (x .args .1 .1 .0 .now)) (left (o .0) (o .1 .1 .0) (o .1 .1 .1 .0)))
+    (λ x o. Shows (Imports (x .args .0 .now) (x .args .1 .0 .now)) (λ z. abi.showPlaced z (x .args .1 .1 .0 .now)) (left (o .0) (o .1 .1 .0) (o .1 .1 .1 .0)))
 gcf-import-tied x = promises (x .𝓤) (λ o. shows _ (imports _ _))

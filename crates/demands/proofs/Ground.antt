@@ -7,12 +7,12 @@ use lib.ListN.{length, take, drop, getD, replicate}
 use Rattle.base.proofs.Promise.{Promised, promises}
 use Rattle.fields.specs.Field.{field, spell}
 use Rattle.fields.specs.Part.{PartOf}
-use Rattle.refusal.specs.First.{accept}
+use Rattle.refusal.specs.First.{accept, placed}
 use Rattle.lent.specs.Wrote.{Wrote}
 use Rattle.text.specs.Flags as text
 use Rattle.text.specs.Command.{commandFault, commandOf}
 use Rattle.text.specs.Response.{currentProfile, headerOf}
-use Rattle.profiles.specs.Profiles.{profilesOf, recordsFault}
+use Rattle.profiles.specs.Profiles.{profilesOf}
 use Rattle.text.specs.Reading.{numberAt, flagsAt, lengthAt, descAt}
 use Rattle.reading.specs.Places.{nextAt}
 use Rattle.reading.specs.Completed.{completed}
@@ -24,6 +24,7 @@ use Rattle.fields.proofs.get2 as get2
 use Rattle.fields.proofs.get3 as get3
 use Rattle.fields.proofs.get4 as get4
 use Rattle.fields.proofs.part as part
+use Rattle.refusal.proofs.Refusal.placed as refusal-placed
 use Rattle.lent.proofs.Made.refused as made-refused
 use Rattle.lent.proofs.Made.written as made-written
 use Rattle.lent.proofs.put as put
@@ -41,7 +42,6 @@ use Rattle.text.proofs.Flags.fault as flags-fault
 use Rattle.text.proofs.Command.fault as command-fault
 use Rattle.text.proofs.Command.read as command-read
 use Rattle.text.proofs.Header.new as header-new
-use Rattle.profiles.proofs.fault as profiles-fault
 use Rattle.profiles.proofs.current as profiles-current
 use Rattle.layout.proofs.feature_count as feature-count
 use Rattle.layout.proofs.profile_count as profile-count
@@ -81,6 +81,11 @@ get4-tied x = promises (x .𝓤) (λ o e. e)
 
 pub part-tied : Promised part.ended (λ M. part.clauses) (λ M. part.spec) (λ x o. PartOf (x .args .0) (x .args .1 .0) (take (x .args .1 .1 .0) (drop (x .args .1 .0) (x .args .0 .now))) (o .0))
 part-tied x = promises (x .𝓤) (λ o e. e)
+
+-- ---- refusal
+
+pub refusal-placed-tied : Promised refusal-placed.ended (λ M. refusal-placed.clauses) (λ M. refusal-placed.spec) (λ x o. o .0 ≡ placed (x .args .0) (x .args .1 .0))
+refusal-placed-tied x = promises (x .𝓤) (λ o e. e)
 
 -- ---- lent
 
@@ -138,9 +143,6 @@ pub header-new-tied : Promised header-new.ended (λ M. header-new.clauses) (λ M
 header-new-tied x = promises (x .𝓤) (λ o e. e)
 
 -- ---- profiles
-
-pub profiles-fault-tied : Promised profiles-fault.ended (λ M. profiles-fault.clauses) (λ M. profiles-fault.spec) (λ x o. o .0 ≡ recordsFault (x .args .0 .now))
-profiles-fault-tied x = promises (x .𝓤) (λ o e. e)
 
 pub profiles-current-tied : Promised profiles-current.ended (λ M. profiles-current.clauses) (λ M. profiles-current.spec) (λ x o. o .0 .0 ≡ currentProfile (profilesOf (x .args .0 .now)))
 profiles-current-tied x = promises (x .𝓤) (λ o e. e)

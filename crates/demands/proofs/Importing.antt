@@ -12,7 +12,7 @@ use lib.ListN.{length, take, drop, replicate}
 use lib.Seq.{take-append-seam}
 use Rattle.base.specs.Lists.{each, flat, keep, Bytes}
 use Rattle.fields.specs.Field.{field, spell}
-use Rattle.refusal.specs.First.{refuse, accept, _if_else_, pickZero, _orElse_, firstOf, unless}
+use Rattle.refusal.specs.First.{refuse, accept, _if_else_, pickZero, _orElse_, firstOf, unless, placed}
 use Rattle.text.specs.Flags as flags
 use Rattle.text.specs.Command.{opcodeOf, rtOf, sfnOf, allocationOf, commandFault}
 use Rattle.text.specs.Drive.{profileBytes}
@@ -182,12 +182,12 @@ unfoldable pub oneOf : List ℕ → ℕ → Bool
 oneOf [] n = false
 oneOf (k ∷ ks) n = eqb n k || oneOf ks n
 
--- For every response and every buffer: no refusal, "the reading's 14 to 18 and 20, 29, then 41, then the sheet's own 3 and 5, then 42", and no
+-- For every response and every buffer: no refusal, "the reading's 14 to 18 and 20, 29, then 41, then the sheet's own 3 and 5", which is 5, 43 or 44, "then 42", and no
 -- other number. The sheet's other numbers cannot occur: an accepted reading ascends (4) and has lengths that are multiples of 4 (6), so that
 -- feature 0's body has at most 252 bytes, 63 profiles (2), and the sheet is written with the counts, offsets and end that it must have (1, 7, 8).
-pub numbers : (r d : List ℕ) → oneOf (0 ∷ 14 ∷ 15 ∷ 16 ∷ 17 ∷ 18 ∷ 20 ∷ 29 ∷ 41 ∷ 3 ∷ 5 ∷ 42 ∷ []) (imported r d .made .refusal .number) ≡ true
+pub numbers : (r d : List ℕ) → oneOf (0 ∷ 14 ∷ 15 ∷ 16 ∷ 17 ∷ 18 ∷ 20 ∷ 29 ∷ 41 ∷ 3 ∷ 5 ∷ 43 ∷ 44 ∷ 42 ∷ []) (imported r d .made .refusal .number) ≡ true
 unfolding oneOf
-numbers = imported-is (λ n. oneOf (0 ∷ 14 ∷ 15 ∷ 16 ∷ 17 ∷ 18 ∷ 20 ∷ 29 ∷ 41 ∷ 3 ∷ 5 ∷ 42 ∷ []) n ≡ true) refl refl refl refl refl refl refl refl refl refl refl refl
+numbers = imported-is (λ n. oneOf (0 ∷ 14 ∷ 15 ∷ 16 ∷ 17 ∷ 18 ∷ 20 ∷ 29 ∷ 41 ∷ 3 ∷ 5 ∷ 43 ∷ 44 ∷ 42 ∷ []) n ≡ true) refl refl refl refl refl refl refl refl refl refl refl refl refl refl
 
 -- It gives each of them.
 abbrev number : (r d : List ℕ) → ℕ
@@ -203,11 +203,13 @@ pub each-number :
     × (number (0 ∷ 0 ∷ 0 ∷ 8 ∷ 0 ∷ 0 ∷ 0 ∷ 0 ∷ []) [] ≡ 29)
     × (number (0 ∷ 0 ∷ 0 ∷ 4 ∷ 0 ∷ 0 ∷ 0 ∷ 0 ∷ []) [] ≡ 41)
     × (number (0 ∷ 0 ∷ 0 ∷ 12 ∷ 0 ∷ 0 ∷ 0 ∷ 0 ∷ 0 ∷ 0 ∷ 3 ∷ 4 ∷ 0 ∷ 0 ∷ 0 ∷ 0 ∷ []) [] ≡ 3)
-    × (number (0 ∷ 0 ∷ 0 ∷ 12 ∷ 0 ∷ 0 ∷ 0 ∷ 0 ∷ 0 ∷ 0 ∷ 3 ∷ 0 ∷ 0 ∷ 1 ∷ 2 ∷ 0 ∷ []) [] ≡ 5)
+    × (number (0 ∷ 0 ∷ 0 ∷ 12 ∷ 0 ∷ 0 ∷ 0 ∷ 0 ∷ 0 ∷ 0 ∷ 3 ∷ 0 ∷ 0 ∷ 1 ∷ 64 ∷ 0 ∷ []) [] ≡ 5)
+    × (number (0 ∷ 0 ∷ 0 ∷ 12 ∷ 0 ∷ 0 ∷ 0 ∷ 0 ∷ 0 ∷ 0 ∷ 3 ∷ 0 ∷ 0 ∷ 1 ∷ 4 ∷ 0 ∷ []) [] ≡ 43)
+    × (number (0 ∷ 0 ∷ 0 ∷ 12 ∷ 0 ∷ 0 ∷ 0 ∷ 0 ∷ 0 ∷ 0 ∷ 3 ∷ 0 ∷ 0 ∷ 1 ∷ 2 ∷ 0 ∷ []) [] ≡ 44)
     × (number (0 ∷ 0 ∷ 0 ∷ 8 ∷ 0 ∷ 0 ∷ 0 ∷ 0 ∷ 0 ∷ 0 ∷ 3 ∷ 0 ∷ []) (0 ∷ 0 ∷ 0 ∷ []) ≡ 42)
     × (number (0 ∷ 0 ∷ 0 ∷ 8 ∷ 0 ∷ 0 ∷ 0 ∷ 0 ∷ 0 ∷ 0 ∷ 3 ∷ 0 ∷ []) (0 ∷ 0 ∷ 0 ∷ 0 ∷ []) ≡ 0)
-unfolding each flat field spell _if_else_ pickZero _orElse_ firstOf profileBytes currentProfile text.statedLength text.statedProfile text.headerRule text.headRule text.numberAt text.flagsAt text.lengthAt text.descAt text.headFault text.walk text.walked text.readFault text.wholes profiles.profileNumber profiles.profileCurrent profiles.profileLast profiles.listed profiles.profilesOf profiles.lists profiles.recordRule profiles.recordFault profiles.recordsFault flagsRule flags.flagsGiving layout.entryBytes contents sheetOf capture.captured capture.ownRule capture.flagsFaults capture.sheetRule completed.completeFault capture.captureFault import.sheetFrom unless refusing making makes import.imported
-each-number = (refl, refl, refl, refl, refl, refl, refl, refl, refl, refl, refl, refl)
+unfolding each flat field spell _if_else_ pickZero _orElse_ firstOf placed profileBytes currentProfile text.statedLength text.statedProfile text.headerRule text.headRule text.numberAt text.flagsAt text.lengthAt text.descAt text.headFault text.walk text.walked text.readFault text.wholes profiles.profileNumber profiles.profileCurrent profiles.profileLast profiles.listed profiles.profilesOf profiles.lists profiles.recordRule profiles.recordFault profiles.recordsFault flagsRule flags.flagsGiving layout.entryBytes contents sheetOf capture.captured capture.ownRule capture.flagsFaults capture.sheetRule completed.completeFault capture.captureFault import.sheetFrom unless refusing making makes import.imported
+each-number = (refl, refl, refl, refl, refl, refl, refl, refl, refl, refl, refl, refl, refl, refl)
 
 -- ---- the premises can be met: the full response of sheet E, 44 bytes, and a buffer of 52
 

@@ -1,7 +1,7 @@
 -- Demand 3: "A sweep of one unchanging sheet collects each wanted descriptor once, ascending, byte for byte, and with D bytes in k commands
 -- (k - 1)(C - 8) < 2D." What it asks for, with the room for each buffer, is `Premises`, and what it promises `Swept`, both in
 -- crates/bench/specs/Swept.antt; `benched` is the contract of `bench::bench`. Assumes nothing.
-use mathlib.Core.Path.{_≡_, refl}
+use mathlib.Core.Path.{_≡_, refl, ap, _∙_}
 use mathlib.Core.Bool.{Bool, true, false, _&&_, false≢true}
 use mathlib.Core.List.{List, [], _∷_}
 use Prim.Native.Nat.{ℕ, zero, suc, _≤_, _<_}
@@ -11,7 +11,9 @@ use lib.ListN.{replicate}
 use borrow.Author.Tests.{ltb-true}
 use Rattle.base.specs.Lists.{each, flat, keep, Bytes}
 use Rattle.fields.specs.Field.{field, spell}
-use Rattle.refusal.specs.First.{_if_else_, pickZero, _orElse_, firstOf}
+use Rattle.refusal.specs.declared.Refusal.{Refusal}
+use Rattle.refusal.specs.First.{_if_else_, pickZero, _orElse_, firstOf, unless, placed}
+use Rattle.refusal.proofs.First.{orElse-fault, unless-fault}
 use Rattle.text.specs.Flags as flags
 use Rattle.text.specs.Drive.{profileBytes}
 use Rattle.text.specs.Response.{feature0, all, wants, selected}
@@ -20,7 +22,8 @@ use Rattle.layout.specs.Layout as layout
 use Rattle.profiles.specs.Profiles as profiles
 use Rattle.sheet.specs.Check.{Accepted, numberBefore, endBefore, flagsRule, entryRule, entryFault, counted, verdict}
 use Rattle.sheet.specs.Meaning.{desc, meaning}
-use Rattle.bench.specs.Bench.{Buffers, buffers, Ending, benched}
+use Rattle.sweep.specs.Sweep.{fresh}
+use Rattle.bench.specs.Bench.{Buffers, buffers, state, Ending, failing, rounds, firstFault, benched}
 use Rattle.bench.specs.Swept.{Premises, Swept, Ended}
 use Rattle.bench.proofs.Demand as bench
 use Rattle.demands.specs.Recorder.{sheetE}
@@ -35,15 +38,23 @@ pub ends : (s : List ℕ) (rt a : ℕ) (b : Buffers) → Bytes s → Accepted s 
     → Ended (meaning s) rt a b (benched s rt a b)
 ends = bench.ended
 
--- Both, of an outcome o.
+-- A sheet that is refused: its number and its place, both counts 0, all three buffers zero throughout.
+pub refuses-sheet : (s : List ℕ) (rt a : ℕ) (b : Buffers) → (verdict s .number ≡ 0 → ⊥) → benched s rt a b ≡ failing b (verdict s)
+unfolding benched firstFault
+refuses-sheet s rt a b h =
+    let rest : Ending = rounds 65537 (meaning s) b (state (fresh rt a) b) in
+    ap (λ (r : Refusal). unless r (failing b) rest) (orElse-fault (verdict s) _ h) ∙ unless-fault (verdict s) (failing b) rest h
+
+-- All of it, of an outcome o.
 pub record Benches (s : List ℕ) (rt a : ℕ) (b : Buffers) (o : Ending) : Type 0 where
   pub exact : o ≡ benched s rt a b
   pub sweeps : Bytes s → Accepted s → Premises (meaning s) rt a b → Swept (meaning s) rt a b o
   pub finishes : Bytes s → Accepted s → rt < 2 → 8 ≤ a → Ended (meaning s) rt a b o
+  pub refuses-sheet : (verdict s .number ≡ 0 → ⊥) → o ≡ failing b (verdict s)
 
 pub benches : (s : List ℕ) (rt a : ℕ) (b : Buffers) → Benches s rt a b (benched s rt a b)
 benches s rt a b =
-    record { exact = refl; sweeps = demand3 s rt a b; finishes = ends s rt a b }
+    record { exact = refl; sweeps = demand3 s rt a b; finishes = ends s rt a b; refuses-sheet = refuses-sheet s rt a b }
 
 -- ---- the premises can be met: sheet E, allocation length 20
 
@@ -66,7 +77,7 @@ unfolding sheetE low
 bytesE = bytes-low sheetE refl
 
 pub acceptedE : Accepted sheetE
-unfolding each field _if_else_ pickZero _orElse_ firstOf layout.featureCount layout.profileCount layout.number layout.flags layout.bodyLength layout.offset layout.profilesPart profiles.profileNumber profiles.profileCurrent profiles.profileLast profiles.lists profiles.recordRule profiles.recordFault profiles.recordsFault numberBefore endBefore flagsRule flags.flagsGiving entryRule entryFault counted verdict sheetE
+unfolding each field _if_else_ pickZero _orElse_ firstOf placed layout.featureCount layout.profileCount layout.number layout.flags layout.bodyLength layout.offset layout.profilesPart profiles.profileNumber profiles.profileCurrent profiles.profileLast profiles.lists profiles.recordRule profiles.recordFault profiles.recordsFault numberBefore endBefore flagsRule flags.flagsGiving entryRule entryFault counted verdict sheetE
 acceptedE = refl
 
 abbrev buffersE : Buffers

@@ -35,7 +35,7 @@ swept s a = sweptNumbers (benched s 0 a (buffers (replicate 64 0xEE) (replicate 
 
 -- a judgement in numbers: the number, whether it conforms, and the missing feature if one is named
 unfoldable pub judgedNumbers : Said → List ℕ
-judgedNumbers j = j .number ∷ bit (j .conforms) ∷ j .missing
+judgedNumbers j = j .refusal .number ∷ bit (j .conforms) ∷ j .missing
 
 unfoldable pub stars : List Star
 stars =

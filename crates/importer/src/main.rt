@@ -10,6 +10,8 @@ use lent::Made;
 use libc::STDERR_FILENO;
 use libc::STDIN_FILENO;
 use libc::STDOUT_FILENO;
+use refusal::Refusal;
+use text::Feature;
 use text::Header;
 
 // One byte more than a response may have: an input that fills it is refused, not shortened.
@@ -32,6 +34,24 @@ fn say(what: &[u8]) {
     io::write_all(STDERR_FILENO, what);
 }
 
+// The feature number of an entry that the sheet would have, counted from 1: its descriptor stands as many places behind feature 0's.
+fn feature_of(response: &[u8], entry: u16) -> Feature {
+    let mut at = Header::LENGTH;
+    let mut i = 0;
+    while i < entry {
+        at = reading::next_at(response, at);
+        i += 1;
+    }
+    reading::number_at(response, at)
+}
+
+// A refusal, with the profile or the entry that it names.
+fn say_refused(refusal: Refusal, response: &[u8]) {
+    let profiles = reading::body_at(response, Header::LENGTH).len() / 4;
+    let feature = feature_of(response, refusal.place);
+    words::say_refused(STDERR_FILENO, refusal, profiles as u64, feature.0);
+}
+
 // ---- the program
 
 fn main() {
@@ -41,7 +61,7 @@ fn main() {
     let imported = sheet_of(&input[..received], &mut sheet);
     let refusal = imported.refusal;
     if refusal.number != 0 {
-        words::say_refused(STDERR_FILENO, refusal);
+        say_refused(refusal, &input[..received]);
         return;
     }
     let count = imported.count;

@@ -11,7 +11,7 @@ use Rattle.base.proofs.Lists.{all-getD, length-each, each-all}
 use Rattle.fields.proofs.Laws.{field-lt}
 use Rattle.refusal.specs.declared.Refusal.{Refusal}
 use Rattle.refusal.specs.First.{accept}
-use Rattle.refusal.proofs.First.{if-false, if-zero, first-all, first-accept}
+use Rattle.refusal.proofs.First.{if-false, if-zero, first-all, first-accept, placed-none, placed-number}
 use Rattle.text.specs.Drive.{Listed}
 use Rattle.profiles.specs.Profiles.{profileNumber, profileCurrent, profileLast, listed, profilesOf, lists, recordRule, recordFault, recordsFault, Kept, Distinct}
 use Rattle.profiles.proofs.Loops.{lists-yes, lists-no}
@@ -37,7 +37,7 @@ differs-lists m b i (suc k) h =
 kept : (b : List ℕ) (i : ℕ) → recordFault b i .number ≡ 0 → Kept b i
 unfolding recordFault recordRule
 kept b i e =
-    let x = if-zero _ _ _ e in
+    let x = if-zero _ _ _ (sym (placed-number _ (suc i)) ∙ e) in
     let y = if-zero _ _ _ (x .1) in
     let z = if-zero _ _ _ (y .1) in
     let n : profileNumber b i ≡ 0 → ⊥ = eqb-false _ _ (x .0) in
@@ -48,9 +48,10 @@ kept b i e =
       nought = eqb-true _ _ (not-false _ (if-zero _ _ _ (z .1) .0));
     }
 
-record-accept : (b : List ℕ) (i : ℕ) → Kept b i → recordFault b i ≡ accept
-unfolding recordFault recordRule
-record-accept b i f =
+rule-accept : (b : List ℕ) (i : ℕ) → Kept b i
+    → recordRule (profileNumber b i) (lists (profileNumber b i) b 0 i) (profileCurrent b i) (profileLast b i) ≡ accept
+unfolding recordRule
+rule-accept b i f =
     rw (
       ne-eqb (profileNumber b i) 0 (λ z. omega (arith, f .above)),
       if-false,
@@ -61,6 +62,10 @@ record-accept b i f =
       eq-eqb (profileLast b i) 0 (f .nought),
       if-false,
     )
+
+record-accept : (b : List ℕ) (i : ℕ) → Kept b i → recordFault b i ≡ accept
+unfolding recordFault
+record-accept b i f = placed-none _ (suc i) (ap (λ (r : Refusal). r .number) (rule-accept b i f))
 
 -- ---- the list
 

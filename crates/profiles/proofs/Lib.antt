@@ -2,3 +2,4 @@
 pub mod Loops
 pub mod Kept
 pub mod Again
+pub mod Lines

@@ -8,7 +8,7 @@ use lib.ListN.{length, getD}
 use Rattle.base.specs.Lists.{each, All}
 use Rattle.fields.specs.Field.{field}
 use Rattle.refusal.specs.declared.Refusal.{Refusal}
-use Rattle.refusal.specs.First.{refuse, accept, _if_else_, firstOf}
+use Rattle.refusal.specs.First.{refuse, accept, _if_else_, firstOf, placed}
 use Rattle.text.specs.Drive.{Listed}
 
 -- record i of the list b: number (2), a byte whose bit 0 is CurrentP, a last byte
@@ -42,8 +42,9 @@ recordRule profileNumber before profileCurrent profileLast =
     refuse 3 if not (eqb profileLast 0) else
     accept
 
+-- record i's refusal, at its place in the list, counted from 1
 unfoldable pub recordFault : List ℕ → ℕ → Refusal
-recordFault b i = recordRule (profileNumber b i) (lists (profileNumber b i) b 0 i) (profileCurrent b i) (profileLast b i)
+recordFault b i = placed (recordRule (profileNumber b i) (lists (profileNumber b i) b 0 i) (profileCurrent b i) (profileLast b i)) (suc i)
 
 -- the first refusal of all records
 unfoldable pub recordsFault : List ℕ → Refusal

@@ -42,20 +42,23 @@ fn listed(b: &[u8], number: Profile, n: usize) -> bool
     false
 }
 
-// Asks: an index inside the list; the walk stops at its end.
+// Asks: an index inside the list, whose places are sixteen-bit numbers; the walk stops at its end.
 fn record_fault(b: &[u8], i: usize) -> Refusal
-    requires { ⌜ i < length (now b) / 4 ⌝ }
+    requires { ⌜ (i < length (now b) / 4) × (i < 65535) ⌝ }
     ensures { λ r. ⌜ r ≡ recordFault (now (b .entry)) i ⌝ }
 {
     let number = Profile(fields::inside2(b, 4 * i));
     let before = listed(b, number, i);
     let current = fields::inside(b, 4 * i + 2);
     let last = fields::inside(b, 4 * i + 3);
-    rule(number, before, current, last)
+    let fault = rule(number, before, current, last);
+    fault.placed((i + 1) as u16)
 }
 
-// The first refusal of the records, which is 3 or none.
+// The first refusal of the records, which is 3 at the place of the record or none.
+// Asks: fewer than 65,536 records, so that a place is a sixteen-bit number; a sheet and a body have at most 63.
 pub fn fault(b: &[u8]) -> Refusal
+    requires { ⌜ length (now b) < 262144 ⌝ }
     ensures { λ r. ⌜ r ≡ recordsFault (now (b .entry)) ⌝ }
 {
     let n = b.len() / 4;

@@ -9,9 +9,10 @@ use lib.Dec.{eqb}
 use lib.ListN.{length}
 use Rattle.refusal.specs.declared.Refusal.{Refusal}
 use Rattle.refusal.specs.First.{refuse, accept, _if_else_}
-use Rattle.refusal.proofs.First.{if-true, if-false, if-zero, orElse-none, orElse-fault, orElse-zero, unless-none, unless-fault}
+use Rattle.refusal.proofs.First.{known, if-true, if-false, if-zero, orElse-none, orElse-fault, orElse-zero, unless-none, unless-fault}
 use Rattle.text.specs.declared.Reading.{Reading}
 use Rattle.text.specs.Reading.{statedEnd, readFault, nothingRead, taken, reading}
+use Rattle.text.proofs.Walk.{readFault-plain}
 use Rattle.text.proofs.Received.{reading-fault, reading-none, reading-cases}
 use Rattle.reading.specs.declared.Scanned.{Scanned}
 use Rattle.reading.specs.inner.Tally.{refusal}
@@ -45,7 +46,7 @@ module _ (s : List ℕ) where
 
   reading-refusal : reading 65534 0 0 s .refusal ≡ readFault 65534 0 0 s
   unfolding nothingRead taken
-  reading-refusal = reading-cases 65534 0 0 s (λ r ds. r .refusal ≡ readFault 65534 0 0 s) (λ k. refl) (λ k. ap refuse (sym k))
+  reading-refusal = reading-cases 65534 0 0 s (λ r ds. r .refusal ≡ readFault 65534 0 0 s) (λ k. refl) (λ k. sym (known _ (readFault-plain 65534 0 0 s) k))
 
   complete-refusal : completed s .refusal ≡ completeFault s
   unfolding completed nothingRead
@@ -54,7 +55,7 @@ module _ (s : List ℕ) where
       go : (n : ℕ) → completeFault s .number ≡ n → completed s .refusal ≡ completeFault s
       go zero e =
           ap (λ (r : Reading). r .refusal) (unless-none (completeFault s) nothingRead (reading 65534 0 0 s) e)
-          ∙ reading-refusal ∙ ap refuse (complete-zero e .read ∙ sym e)
+          ∙ reading-refusal ∙ known _ (readFault-plain 65534 0 0 s) (complete-zero e .read) ∙ sym (complete-accept (complete-zero e))
       go (suc n) e = ap (λ (r : Reading). r .refusal) (unless-fault (completeFault s) nothingRead (reading 65534 0 0 s) (λ z. omega arith))
 
   -- by such a reading r: its refusal, and what it is where it has none

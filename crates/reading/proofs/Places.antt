@@ -78,13 +78,13 @@ module _ (s : List ℕ) (at end : ℕ) (P : List Desc → Type 0) (p : P (betwee
 pub left-less : (s : List ℕ) (at end next : ℕ) → at < end → end ≤ length s → next ≡ nextAt s at → end - next < end - at
 left-less s at end next h l n = omega (arith, next-is s at next (omega arith) n)
 
--- where the property is that F of those left is the answer w: w is found here, a further turn, the end
+-- where the property is that F of those left is the answer w: w is found here, a further turn that leaves G to be asked, the end
 module _ {B : Type 0} (F : List Desc → B) (w : B) (s : List ℕ) (at end : ℕ) (e : w ≡ F (between s at end)) where
   pub left-here : (v : B) → at < end → ((ds : List Desc) → F (descAt s at ∷ ds) ≡ v) → v ≡ w
   left-here v h f = sym (left-more s at end (λ (ds : List Desc). w ≡ F ds) e (at + 4 + lengthAt s at) h refl ∙ f _)
 
-  pub left-next : (next : ℕ) → at < end → next ≡ at + 4 + lengthAt s at → ((ds : List Desc) → F (descAt s at ∷ ds) ≡ F ds) → w ≡ F (between s next end)
-  left-next next h n f = left-more s at end (λ (ds : List Desc). w ≡ F ds) e next h n ∙ f _
+  pub left-next : (G : List Desc → B) (next : ℕ) → at < end → next ≡ at + 4 + lengthAt s at → ((ds : List Desc) → F (descAt s at ∷ ds) ≡ G ds) → w ≡ G (between s next end)
+  left-next G next h n f = left-more s at end (λ (ds : List Desc). w ≡ F ds) e next h n ∙ f _
 
   pub left-end : end ≤ at → F [] ≡ w
   left-end h = sym (left-none s at end (λ (ds : List Desc). w ≡ F ds) e h)

@@ -6,7 +6,7 @@ use Prim.Native.Nat.{ℕ, zero, suc, _+_, _-_, _≤_, _<_}
 use native.Mathlib.Numerals.{add-one}
 use native.Mathlib.Omega.{arith}
 use Rattle.refusal.specs.declared.Refusal.{Refusal}
-use Rattle.refusal.specs.First.{refuse, accept, _if_else_, pickZero, _orElse_, firstOf, unless}
+use Rattle.refusal.specs.First.{refuse, accept, _if_else_, pickZero, _orElse_, firstOf, unless, placed}
 
 -- ---- a chain of early returns
 
@@ -38,12 +38,30 @@ pub orElse-fault : (a b : Refusal) → (a .number ≡ 0 → ⊥) → a orElse b 
 unfolding _orElse_
 orElse-fault a b h = pick-suc (a .number) a b h
 
+-- a refusal that has no place is known by its number
+pub known : (a : Refusal) {n : ℕ} → a .place ≡ 0 → a .number ≡ n → a ≡ refuse n
+known a p e = λ i. record { number = e i; place = p i }
+
+-- no rule without a place brings one in
+pub if-plain : (k : ℕ) (b : Bool) (y : Refusal) → y .place ≡ 0 → (refuse k if b else y) .place ≡ 0
+unfolding _if_else_
+if-plain k true y e = refl
+if-plain k false y e = e
+
+pub orElse-plain : (a b : Refusal) → a .place ≡ 0 → b .place ≡ 0 → (a orElse b) .place ≡ 0
+unfolding _orElse_ pickZero
+orElse-plain a b e f = go (a .number)
+  where
+    go : (n : ℕ) → pickZero n a b .place ≡ 0
+    go zero = f
+    go (suc n) = e
+
 -- nothing comes behind
-pub orElse-accept : (a : Refusal) → a orElse accept ≡ a
-orElse-accept a = go (a .number) refl
+pub orElse-accept : (a : Refusal) → a .place ≡ 0 → a orElse accept ≡ a
+orElse-accept a p = go (a .number) refl
   where
     go : (n : ℕ) → a .number ≡ n → a orElse accept ≡ a
-    go zero e = orElse-none a accept e ∙ ap refuse (sym e)
+    go zero e = orElse-none a accept e ∙ sym (known a p e)
     go (suc n) e = orElse-fault a accept (λ z. omega arith)
 
 -- a call gave the refusal r, which was tested: the definition that its contract cites is a refusal too, or none
@@ -116,6 +134,23 @@ pub orElse-zero : (a b : Refusal) → (a orElse b) .number ≡ 0 → (a .number 
 unfolding _orElse_
 orElse-zero a b e = pick-parts (a .number) a b refl e
 
+-- what refuses nothing is no refusal at all, if that holds of its end
+pub orElse-accepts : (a b : Refusal) → (b .number ≡ 0 → b ≡ accept) → (a orElse b) .number ≡ 0 → a orElse b ≡ accept
+orElse-accepts a b h e = let x = orElse-zero a b e in orElse-none a b (x .0) ∙ h (x .1)
+
+pub if-accepts : (x : Refusal) (b : Bool) (y : Refusal) → (x .number ≡ 0 → x ≡ accept) → (y .number ≡ 0 → y ≡ accept) → (x if b else y) .number ≡ 0 → (x if b else y) ≡ accept
+unfolding _if_else_
+if-accepts x true y h k e = h e
+if-accepts x false y h k e = k e
+
+pub rule-accepts : (k : ℕ) (b : Bool) (y : Refusal) → (y .number ≡ 0 → y ≡ accept) → (refuse k if b else y) .number ≡ 0 → (refuse k if b else y) ≡ accept
+rule-accepts k b y h e = if-accepts (refuse k) b y (λ z. ap refuse z) h e
+
+pub first-accepts : (f : ℕ → Refusal) (i k : ℕ) → firstOf f i k .number ≡ 0 → firstOf f i k ≡ accept
+unfolding firstOf
+first-accepts f i zero e = refl
+first-accepts f i (suc k) e = orElse-accepts (f i) (firstOf f (suc i) k) (first-accepts f (suc i) k) e
+
 first-zero : (f : ℕ → Refusal) (i k : ℕ) → firstOf f i k .number ≡ 0 → (j : ℕ) → j < k → f (i + j) .number ≡ 0
 unfolding firstOf
 first-zero f i zero e j h = absurd (omega arith)
@@ -135,6 +170,29 @@ first-accept f i zero h = refl
 first-accept f i (suc k) h =
     orElse-none (f i) (firstOf f (suc i) k) (h i (omega arith) (omega arith))
     ∙ first-accept f (suc i) k (λ j l m. h j (omega arith) (omega arith))
+
+-- ---- a refusal at a place
+
+pub placed-none : (r : Refusal) (k : ℕ) → r .number ≡ 0 → placed r k ≡ accept
+unfolding placed
+placed-none r k e = rw (e, placed)
+
+pub placed-fault : (r : Refusal) (k : ℕ) → (r .number ≡ 0 → ⊥) → placed r k ≡ record { number = r .number; place = k }
+unfolding placed
+placed-fault r k h = go (r .number) h
+  where
+    go : (n : ℕ) → (n ≡ 0 → ⊥) → _≡_ {A = Refusal} (elim n [ zero ↦ accept | suc j ↦ record { number = suc j; place = k } ]) record { number = n; place = k }
+    go zero h = absurd (h refl)
+    go (suc n) h = refl
+
+-- its number stays
+pub placed-number : (r : Refusal) (k : ℕ) → placed r k .number ≡ r .number
+unfolding placed
+placed-number r k = go (r .number)
+  where
+    go : (n : ℕ) → _≡_ {A = ℕ} ((elim n as (λ m. Refusal) [ zero ↦ accept | suc j ↦ record { number = suc j; place = k } ]) .number) n
+    go zero = refl
+    go (suc n) = refl
 
 -- ---- an answer
 

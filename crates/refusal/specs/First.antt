@@ -5,12 +5,16 @@ use Rattle.refusal.specs.declared.Refusal.{Refusal}
 
 infixr 20 _if_else_
 infixr 20 _orElse_
--- the refusal with this number
+-- the refusal with this number, which has no place
 abbrev pub refuse : ℕ → Refusal
-refuse k = record { number = k }
+refuse k = record { number = k; place = 0 }
 
 abbrev pub accept : Refusal
-accept = record { number = 0 }
+accept = refuse 0
+
+-- a refusal at a place; what refuses nothing has none
+unfoldable pub placed : Refusal → (place : ℕ) → Refusal
+placed r place = elim (r .number) [ zero ↦ accept | suc k ↦ record { number = suc k; place = place } ]
 
 -- x where the test holds, else y
 unfoldable pub _if_else_ : Refusal → Bool → Refusal → Refusal

@@ -12,7 +12,7 @@ use Rattle.refusal.specs.declared.Refusal.{Refusal}
 use Rattle.refusal.specs.First.{refuse, accept, _if_else_, unless}
 use Rattle.text.specs.Command.{commandFault, rtOf, sfnOf, allocationOf}
 use Rattle.text.specs.Response.{full, most, sent}
-use Rattle.refusal.proofs.First.{orElse-none, orElse-accept}
+use Rattle.refusal.proofs.First.{if-plain, orElse-none, orElse-accept}
 use Rattle.text.proofs.Sent.{length-sent}
 use Rattle.sheet.specs.Check.{verdict, Accepted}
 use Rattle.sheet.specs.Meaning.{meaning}
@@ -21,6 +21,11 @@ use Rattle.responder.specs.inner.Index.{takenSize, planOf, fullBytes, li
 use Rattle.responder.specs.Sized.{sized}
 use Rattle.responder.specs.Trusting.{trusting, trustingCommand}
 use Rattle.responder.proofs.Full.{found-length, found-full}
+
+-- a command's refusal has no place
+command-plain : (c : List ℕ) → commandFault c .place ≡ 0
+unfolding commandFault
+command-plain c = if-plain _ _ _ (if-plain _ _ _ (if-plain _ _ _ refl))
 
 -- ---- from an accepted sheet
 
@@ -44,7 +49,7 @@ module _ (s : List ℕ) (b : Bytes s) (ok : Accepted s) where
   trusting-commanded c d =
       ap (unless (commandFault c) (refusing d)) (trusting-accepted (rtOf c) (sfnOf c) (allocationOf c) d)
       ∙ sym (makes-after (commandFault c) accept 12 (due s c) d)
-      ∙ ap (λ (r : Refusal). makes r 12 (due s c) d) (orElse-accept (commandFault c))
+      ∙ ap (λ (r : Refusal). makes r 12 (due s c) d) (orElse-accept (commandFault c) (command-plain c))
 
 -- ---- the checked entry
 

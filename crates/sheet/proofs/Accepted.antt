@@ -1,5 +1,5 @@
 -- A sheet is accepted exactly when the facts of an accepted sheet hold of it, and what follows from these. Assumes nothing.
-use mathlib.Core.Path.{_≡_, refl, ap}
+use mathlib.Core.Path.{_≡_, refl, sym, ap, _∙_}
 use mathlib.Core.List.{List}
 use Prim.Native.Nat.{ℕ, zero, suc, _+_, _*_, _-_, _%_, _≤_, _<_}
 use native.Mathlib.Nat.{add-suc, add-zero, le-refl, div-add-mod}
@@ -12,7 +12,7 @@ use Rattle.base.proofs.Lists.{bytes-drop, bytes-take}
 use Rattle.fields.proofs.Laws.{field-lt}
 use Rattle.refusal.specs.declared.Refusal.{Refusal}
 use Rattle.refusal.specs.First.{accept, firstOf}
-use Rattle.refusal.proofs.First.{if-false, orElse-none, if-zero, orElse-zero, first-all, first-accept}
+use Rattle.refusal.proofs.First.{if-false, orElse-none, if-zero, orElse-zero, first-all, first-accept, placed-none, placed-number}
 use Rattle.profiles.proofs.Kept.{fault-kept, kept-accept}
 use Rattle.layout.specs.Layout.{featureCount, profileCount, profilesAt, bodiesAt, number, flags, bodyLength, offset, profilesPart}
 use Rattle.sheet.specs.Check.{numberBefore, endBefore, flagsRule, entryRule, entryFault, counted, verdict, Accepted}
@@ -103,7 +103,7 @@ facts s bs e =
     let k = if-zero _ _ _ (g .1) in
     let room : bodiesAt s ≤ length s = ltb-false _ _ (a .0) in
     let q : (i : ℕ) → i < featureCount s → EntryGood (number s i) (numberBefore s i) (flags s i) (bodyLength s i) (offset s i) (endBefore s i) =
-    λ i h. entry-good _ _ _ _ _ _ (first-all _ _ (g .0) i h) in
+    λ i h. entry-good _ _ _ _ _ _ (sym (placed-number _ (suc i)) ∙ first-all _ _ (g .0) i h) in
     let end : length s ≡ endBefore s (featureCount s) = eqb-true _ _ (not-false _ (k .0)) in
     let fol : (i : ℕ) → i < featureCount s → offset s i ≡ endBefore s i = λ i h. q i h .follows in
     record {
@@ -122,7 +122,8 @@ facts s bs e =
 module _ (s : List ℕ) (f : Facts s) where
   entry-fine : (i : ℕ) → i < featureCount s → entryFault s i ≡ accept
   unfolding entryFault
-  entry-fine i h = entry-accept _ _ _ _ _ _ record { above = f .above i h; legal = f .legal i h; four = f .four i h; follows = f .follows i h }
+  entry-fine i h =
+      placed-none _ (suc i) (ap (λ (r : Refusal). r .number) (entry-accept _ _ _ _ _ _ record { above = f .above i h; legal = f .legal i h; four = f .four i h; follows = f .follows i h }))
 
 all-fine : (fault : ℕ → Refusal) (n : ℕ) → ((i : ℕ) → i < n → fault i ≡ accept) → firstOf fault 0 n .number ≡ 0
 all-fine fault n h =
@@ -140,7 +141,7 @@ accept-of s f =
       if-false,
       kept-accept (profilesPart s) (λ i h. f .profiles i (omega (arith, length-profilesPart s (f .room)))),
       orElse-none accept _ refl,
-      orElse-none _ _ (all-fine (entryFault s) (featureCount s) (entry-fine s f)),
+      orElse-none (firstOf (entryFault s) 0 (featureCount s)) _ (all-fine (entryFault s) (featureCount s) (entry-fine s f)),
       eq-eqb (length s) (endBefore s (featureCount s)) (f .ends),
       if-false,
     )

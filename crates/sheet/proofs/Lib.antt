@@ -7,4 +7,5 @@ pub mod Fine
 pub mod Longest
 pub mod Build
 pub mod Bisection
+pub mod Lines
 pub mod Decides

@@ -5,7 +5,7 @@ use Prim.Native.Nat.{ℕ, zero, suc, _+_, _%_}
 use lib.Dec.{ltb, leb, eqb}
 use lib.ListN.{length}
 use Rattle.refusal.specs.declared.Refusal.{Refusal}
-use Rattle.refusal.specs.First.{refuse, accept, _if_else_, _orElse_, firstOf}
+use Rattle.refusal.specs.First.{refuse, accept, _if_else_, _orElse_, firstOf, placed}
 use Rattle.profiles.specs.Profiles.{recordsFault}
 use Rattle.text.specs.Flags as text
 use Rattle.layout.specs.Layout.{featureCount, profileCount, bodiesAt, number, flags, bodyLength, offset, profilesPart}
@@ -19,11 +19,11 @@ unfoldable pub endBefore : List ℕ → ℕ → ℕ
 endBefore s zero = bodiesAt s
 endBefore s (suc i) = offset s i + bodyLength s i
 
--- 5: reserved flag bits or Version not 0; Persistent without Current
+-- 5: reserved flag bits. 43: Version not 0. 44: Persistent without Current
 unfoldable pub flagsRule : ℕ → Refusal
-flagsRule f = text.flagsGiving (refuse 5) (refuse 5) (refuse 5) f
+flagsRule f = text.flagsGiving (refuse 5) (refuse 43) (refuse 44) f
 
--- 4: feature number 0, or not above the one before. 5: flags. 6: body length no multiple of 4. 7: offset not the end of the body before
+-- 4: feature number 0, or not above the one before. 5, 43, 44: flags. 6: body length no multiple of 4. 7: offset not the end of the body before
 unfoldable pub entryRule : (number before flags len offset end : ℕ) → Refusal
 entryRule number before flags len offset end =
     refuse 4 if eqb number 0 else
@@ -33,8 +33,9 @@ entryRule number before flags len offset end =
     refuse 7 if not (eqb offset end) else
     accept
 
+-- entry i's refusal, at its place in the contents, counted from 1
 unfoldable pub entryFault : List ℕ → ℕ → Refusal
-entryFault s i = entryRule (number s i) (numberBefore s i) (flags s i) (bodyLength s i) (offset s i) (endBefore s i)
+entryFault s i = placed (entryRule (number s i) (numberBefore s i) (flags s i) (bodyLength s i) (offset s i) (endBefore s i)) (suc i)
 
 -- 2: p over 63. Then 3 of the profiles, all n entries in order, and 8: the sheet does not end where the last body ends
 unfoldable pub counted : (s : List ℕ) (n p : ℕ) → Refusal

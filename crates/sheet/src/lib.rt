@@ -2,7 +2,7 @@
 ghost use mathlib.Core.Path.{_≡_};
 ghost use Prim.Native.Nat.{_≤_, _<_};
 ghost use lib.ListN.{length};
-ghost use Rattle.layout.specs.Layout.{entryAt};
+ghost use Rattle.layout.specs.Layout.{entryAt, profileCount};
 ghost use Rattle.refusal.specs.First.{firstOf};
 ghost use Rattle.sheet.specs.Check.{endBefore, flagsRule, entryRule, entryFault, counted, verdict};
 ghost use Rattle.sheet.specs.inner.Search.{half, firstFrom};
@@ -12,11 +12,15 @@ use text::Flags;
 
 // ---- the rules, on numbers
 
-// 5 of a flags byte.
+// 5, 43 and 44 of a flags byte.
 pub fn flags_rule(flags: Flags) -> Refusal
     ensures { λ r. ⌜ r ≡ flagsRule (flags .0) ⌝ }
 {
-    flags.fault(refusal::FLAGS_BAD, refusal::FLAGS_BAD, refusal::FLAGS_BAD)
+    flags.fault(
+        refusal::FLAGS_BAD,
+        refusal::VERSION_SET,
+        refusal::PERSISTENT_UNCURRENT,
+    )
 }
 
 fn entry_rule(
@@ -71,7 +75,8 @@ fn entries_fault(s: &[u8], n: u16) -> Refusal
     let mut end = layout::bodies_at(s);
     while i < n {
         let e = layout::entry_in(s, i);
-        let fault = entry_rule(e.number, before, e.flags, e.length, e.offset, end);
+        let rule = entry_rule(e.number, before, e.flags, e.length, e.offset, end);
+        let fault = rule.placed(i + 1);
         if fault.number != 0 {
             return fault;
         }
@@ -85,9 +90,9 @@ fn entries_fault(s: &[u8], n: u16) -> Refusal
 // ---- the check
 
 // The check of a sheet that has room for n entries and p profiles.
-// Asks: a sheet that has the entries; the check has looked at its length.
+// Asks: a sheet that has the entries and the profiles; the check has looked at its length.
 fn counted_fault(s: &[u8], n: u16, p: u16) -> Refusal
-    requires { ⌜ entryAt n ≤ length (now s) ⌝ }
+    requires { ⌜ (entryAt n ≤ length (now s)) × (p ≡ profileCount (now s)) ⌝ }
     ensures { λ r. ⌜ r ≡ counted (now (s .entry)) n p ⌝ }
 {
     if 63 < p {

@@ -12,7 +12,7 @@ use Rattle.refusal.specs.declared.Refusal.{Refusal}
 use Rattle.refusal.specs.First.{refuse, accept, _if_else_, _orElse_}
 use Rattle.text.specs.Response.{bytes, headerLength, most}
 use Rattle.text.specs.Reading.{readFault, lastNumber}
-use Rattle.refusal.proofs.First.{if-zero, orElse-none, orElse-fault, orElse-assoc, orElse-zero, unless-none, unless-fault}
+use Rattle.refusal.proofs.First.{if-zero, orElse-none, orElse-fault, orElse-assoc, orElse-zero, unless-none, unless-fault, orElse-accepts, rule-accepts}
 use Rattle.sweep.specs.declared.Sweep.{Sweep}
 use Rattle.sweep.specs.Sweep.{step, startRule, fresh, started, cut, wholesOf, takeFault, endedNow, leftBy, turn, taking, stepped}
 use Rattle.sweep.specs.inner.Numbers.{closedRule}
@@ -41,13 +41,19 @@ module _ (w : Sweep) (s out : List ℕ) where
   unfolding stepped
   stepped-none h = unless-none (takeFault w s (length out)) _ _ h
 
+  -- and then there is no refusal at all
+  pub take-accepts : takeFault w s (length out) .number ≡ 0 → takeFault w s (length out) ≡ accept
+  unfolding takeFault
+  take-accepts e =
+      orElse-accepts _ _ (rule-accepts _ _ _ (rule-accepts _ _ _ (orElse-accepts _ _ (rule-accepts _ _ _ (rule-accepts _ _ _ (rule-accepts _ _ _ (rule-accepts _ _ _ (λ z. refl)))))))) e
+
   -- the refusal, whatever comes of it
   pub step-refusal : stepped w s out .step .refusal ≡ takeFault w s (length out)
   unfolding taking
   step-refusal = go (takeFault w s (length out) .number) refl
     where
       go : (n : ℕ) → takeFault w s (length out) .number ≡ n → stepped w s out .step .refusal ≡ takeFault w s (length out)
-      go zero e = rw (stepped-none e) (ap refuse (sym e))
+      go zero e = rw (stepped-none e) (sym (take-accepts e))
       go (suc n) e = rw (stepped-fault (λ z. omega arith)) refl
 
 -- what its acceptance says

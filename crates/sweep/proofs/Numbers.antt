@@ -6,7 +6,7 @@ use native.Mathlib.Omega.{arith}
 use borrow.Author.Tests.{lt-ltb, le-ltb, eq-eqb, ne-eqb}
 use Rattle.refusal.specs.declared.Refusal.{Refusal}
 use Rattle.refusal.specs.First.{refuse, accept, _if_else_, unless}
-use Rattle.refusal.proofs.First.{unless-none, unless-fault}
+use Rattle.refusal.proofs.First.{unless-none, unless-fault, rule-accepts}
 use Rattle.reading.specs.declared.Scanned.{Scanned}
 use Rattle.sweep.specs.declared.Sweep.{Sweep}
 use Rattle.sweep.specs.declared.Step.{Step}
@@ -34,8 +34,12 @@ module _ (rt a : ℕ) (r : Refusal) (q : r ≡ startRule rt a) where
   pub start-fault : (r .number ≡ 0 → ⊥) → step r (endedNow (fresh 0 0)) ≡ started rt a
   start-fault h = sym (opens ∙ unless-fault r _ _ h)
 
+  start-accepts : r .number ≡ 0 → r ≡ accept
+  unfolding startRule
+  start-accepts h = q ∙ rule-accepts _ _ _ (rule-accepts _ _ _ (λ z. refl)) (sym (ap (λ (x : Refusal). x .number) q) ∙ h)
+
   pub start-fresh : r .number ≡ 0 → step r (fresh rt a) ≡ started rt a
-  start-fresh h = ap (λ (n : ℕ). step (refuse n) (fresh rt a)) h ∙ sym (opens ∙ unless-none r _ _ h)
+  start-fresh h = ap (λ (x : Refusal). step x (fresh rt a)) (start-accepts h) ∙ sym (opens ∙ unless-none r _ _ h)
 
 -- the refusal, whatever record it comes with
 pub start-refusal : (rt a : ℕ) → started rt a .refusal ≡ startRule rt a

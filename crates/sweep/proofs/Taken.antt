@@ -24,7 +24,7 @@ use Rattle.sweep.specs.declared.Sweep.{Sweep}
 use Rattle.sweep.specs.declared.Step.{Step}
 use Rattle.sweep.specs.Sweep.{step, cut, wholesOf, takeFault, leftBy, advanced, turn, taking, stepped}
 use Rattle.sweep.specs.inner.Numbers.{closedRule, cutRule, spaceRule, scanRule}
-use Rattle.sweep.proofs.Cases.{stepped-fault, stepped-none, Taken, taken-facts, roomRule, closed-first}
+use Rattle.sweep.proofs.Cases.{stepped-fault, stepped-none, Taken, taken-facts, roomRule, closed-first, take-accepts}
 
 -- ---- the rules of a scan are those of the definition
 
@@ -134,6 +134,6 @@ module _ (w : Sweep) (s out : List ℕ) where
               let y : n ≡ w .collected + length (flat bytes (wholesOf w s)) = omega (arith, ap length part-found, part-fits, o .next) in
               let z : v ≡ advanced w (cut s) (lastNumber (wholesOf w s)) (w .collected + length (flat bytes (wholesOf w s))) =
               t ∙ ap (λ (c : Scanned). advanced w (not (c .reading .complete)) (c .last .0) n) scan-seen ∙ seen-moved w s (wholesOf w s) n ∙ ap (advanced w (cut s) (lastNumber (wholesOf w s))) y in
-              ap₂ (λ (a : ℕ) (c : Sweep). turn (step (refuse a) c) e) h z
+              ap₂ (λ (a : Refusal) (c : Sweep). turn (step a c) e) (fault-is ∙ take-accepts w s out fault-zero) z
               ∙ ap (turn _) (rw (← part-found) at (placed o part-fits))
               ∙ sym (stepped-none w s out fault-zero)

@@ -60,7 +60,7 @@ module _ (rt sfn end : ℕ) (s : List ℕ) where
   pub walk-again : Bytes s → (k lo at : ℕ) → flat bytes (walk k rt sfn end s lo at .found) ≡ take (length (flat bytes (walk k rt sfn end s lo at .found))) (drop at s)
   unfolding flat
   walk-again b = walk-induct rt sfn end s (λ lo at w. flat bytes (w .found) ≡ take (length (flat bytes (w .found))) (drop at s))
-      (λ lo at r. refl)
+      (λ lo at r p. refl)
       (λ lo at w e l h.
       let x : List ℕ = flat bytes (w .found) in
       let p : at + 4 + lengthAt s at ≡ at + (4 + lengthAt s at) = omega arith in
@@ -77,13 +77,13 @@ module _ (rt sfn end : ℕ) (s : List ℕ) where
 
   pub walk-good : Bytes s → (k lo at : ℕ) → All Good (walk k rt sfn end s lo at .found)
   walk-good b = walk-induct rt sfn end s (λ lo at w. All Good (w .found))
-      (λ lo at r. tt)
+      (λ lo at r p. tt)
       (λ lo at w e l h. (descAt-good s at b l (head-facts lo at e .four), h))
 
   pub walk-asc : (k lo at : ℕ) → Asc lo (walk k rt sfn end s lo at .found)
   unfolding descAt
   walk-asc = walk-induct rt sfn end s (λ lo at w. Asc lo (w .found))
-      (λ lo at r. tt)
+      (λ lo at r p. tt)
       (λ lo at w e l h. (head-facts lo at e .from, asc-down (1 + numberAt s at) (numberAt s at + 1) (w .found) (omega arith) h))
 
 -- ---- all of a response

@@ -11,3 +11,4 @@ pub mod Again
 pub mod Next
 pub mod Received
 pub mod Decides
+pub mod Lines

@@ -36,7 +36,7 @@ Stand s at (d ∷ ds) = (d ≡ descAt s at) × (at + 4 + lengthAt s at ≤ lengt
 module _ (k rt sfn end : ℕ) (s : List ℕ) (lo at : ℕ) where
   pub walk-stand : Stand s at (walk k rt sfn end s lo at .found)
   walk-stand =
-      walk-induct rt sfn end s (λ lo at w. Stand s at (w .found)) (λ lo at r. tt) (λ lo at w e h r. (refl, h, r)) k lo at
+      walk-induct rt sfn end s (λ lo at w. Stand s at (w .found)) (λ lo at r p. tt) (λ lo at w e h r. (refl, h, r)) k lo at
 
 -- their bytes are those received
 pub stand-flat : (s : List ℕ) (at : ℕ) (ds : List Desc) → Bytes s → Stand s at ds → flat bytes ds ≡ take (length (flat bytes ds)) (drop at s)

@@ -16,9 +16,9 @@ use Rattle.refusal.specs.declared.Refusal.{Refusal}
 use Rattle.refusal.specs.First.{refuse, accept, _if_else_}
 use Rattle.text.specs.Flags.{current}
 use Rattle.text.specs.Drive.{Desc}
-use Rattle.text.specs.Response.{bytes}
-use Rattle.text.specs.Reading.{statedLength, headerRule, headRule, numberAt, flagsAt, lengthAt, descAt, headFault, Walked, stop, onward, walk, walked, readFault, wholes}
-use Rattle.refusal.proofs.First.{if-zero, orElse-none, orElse-zero, unless-none, unless-fault}
+use Rattle.text.specs.Response.{bytes, headerLength}
+use Rattle.text.specs.Reading.{statedLength, statedEnd, headerRule, headRule, numberAt, flagsAt, lengthAt, descAt, headFault, Walked, stop, onward, walk, walked, readFault, wholes}
+use Rattle.refusal.proofs.First.{known, if-plain, orElse-plain, if-zero, orElse-none, orElse-zero, unless-none, unless-fault}
 use Rattle.base.proofs.Compare.{le-or-lt}
 
 module _ (k rt sfn end : ℕ) (s : List ℕ) (lo at : ℕ) where
@@ -54,14 +54,24 @@ pub walk-end : (k rt sfn end : ℕ) (s : List ℕ) (lo at : ℕ) → length s < 
 walk-end zero rt sfn end s lo at h = walk-none rt sfn end s lo at
 walk-end (suc k) rt sfn end s lo at h = walk-few k rt sfn end s lo at h
 
+-- no refusal of a reading has a place
+headFault-plain : (rt sfn end : ℕ) (s : List ℕ) (lo at : ℕ) → headFault rt sfn end s lo at .place ≡ 0
+unfolding headFault headRule
+headFault-plain rt sfn end s lo at = if-plain _ _ _ (if-plain _ _ _ (if-plain _ _ _ (if-plain _ _ _ (if-plain _ _ _ refl))))
+
+headerRule-plain : (limit rt received stated : ℕ) → headerRule limit rt received stated .place ≡ 0
+unfolding headerRule
+headerRule-plain limit rt received stated =
+    if-plain _ _ _ (if-plain _ _ _ (if-plain _ _ _ (if-plain _ _ _ (if-plain _ _ _ (if-plain _ _ _ (if-plain _ _ _ refl))))))
+
 -- what holds of every walk over s, by induction: of one that stops, and of one that finds a whole descriptor and goes on
 pub walk-induct : (rt sfn end : ℕ) (s : List ℕ) (P : (lo at : ℕ) → Walked → Type 0)
-    → ((lo at : ℕ) (r : Refusal) → P lo at (stop r))
+    → ((lo at : ℕ) (r : Refusal) → r .place ≡ 0 → P lo at (stop r))
     → ((lo at : ℕ) (w : Walked) → headFault rt sfn end s lo at .number ≡ 0 → at + 4 + lengthAt s at ≤ length s
     → P (numberAt s at + 1) (at + 4 + lengthAt s at) w → P lo at (onward (descAt s at) w))
     → (k lo at : ℕ) → P lo at (walk k rt sfn end s lo at)
 unfolding walk
-walk-induct rt sfn end s P none more zero lo at = none lo at accept
+walk-induct rt sfn end s P none more zero lo at = none lo at accept refl
 walk-induct rt sfn end s P none more (suc k) lo at =
     go (headFault rt sfn end s lo at .number) refl (le-or-lt (at + 4) (length s)) (le-or-lt (at + 4 + lengthAt s at) (length s))
     (walk-induct rt sfn end s P none more k (numberAt s at + 1) (at + 4 + lengthAt s at))
@@ -69,10 +79,10 @@ walk-induct rt sfn end s P none more (suc k) lo at =
     go : (n : ℕ) → headFault rt sfn end s lo at .number ≡ n → (at + 4 ≤ length s) ⊎ (length s < at + 4)
         → (at + 4 + lengthAt s at ≤ length s) ⊎ (length s < at + 4 + lengthAt s at)
         → P (numberAt s at + 1) (at + 4 + lengthAt s at) (walk k rt sfn end s (numberAt s at + 1) (at + 4 + lengthAt s at)) → P lo at (walk (suc k) rt sfn end s lo at)
-    go n e (inr few) q h = rw (walk-few k rt sfn end s lo at few) (none lo at accept)
+    go n e (inr few) q h = rw (walk-few k rt sfn end s lo at few) (none lo at accept refl)
     go zero e (inl four) (inl all) h = rw (walk-step k rt sfn end s lo at four e all) (more lo at (walk k rt sfn end s (numberAt s at + 1) (at + 4 + lengthAt s at)) e all h)
-    go zero e (inl four) (inr cut) h = rw (walk-short k rt sfn end s lo at four e cut) (none lo at accept)
-    go (suc n) e (inl four) q h = rw (walk-bad k rt sfn end s lo at four (λ z. omega arith)) (none lo at (headFault rt sfn end s lo at))
+    go zero e (inl four) (inr cut) h = rw (walk-short k rt sfn end s lo at four e cut) (none lo at accept refl)
+    go (suc n) e (inl four) q h = rw (walk-bad k rt sfn end s lo at four (λ z. omega arith)) (none lo at (headFault rt sfn end s lo at) (headFault-plain rt sfn end s lo at))
 
 -- ---- a response's header
 
@@ -180,6 +190,14 @@ module _ (s : List ℕ) (at : ℕ) (d : Desc) (x : List ℕ) (e : drop at s ≡ 
 -- ---- a whole reading
 
 module _ (limit rt sfn : ℕ) (s : List ℕ) where
+  walked-plain : walked rt sfn s .fault .place ≡ 0
+  unfolding walked
+  walked-plain = walk-induct rt sfn (statedEnd s) s (λ lo at w. w .fault .place ≡ 0) (λ lo at r e. e) (λ lo at w e l h. h) (length s) sfn headerLength
+
+  pub readFault-plain : readFault limit rt sfn s .place ≡ 0
+  unfolding readFault
+  readFault-plain = orElse-plain _ _ (headerRule-plain limit rt (length s) (statedLength s)) walked-plain
+
   -- what its acceptance says, and the other way round
   pub readFault-header : readFault limit rt sfn s .number ≡ 0 → HeaderFine limit rt (length s) (statedLength s)
   unfolding readFault
@@ -193,7 +211,7 @@ module _ (limit rt sfn : ℕ) (s : List ℕ) where
   unfolding readFault
   readFault-accept h e =
       orElse-none (headerRule limit rt (length s) (statedLength s)) (walked rt sfn s .fault) (ap (λ (r : Refusal). r .number) (headerRule-accept limit rt (length s) (statedLength s) h))
-      ∙ ap refuse e
+      ∙ known (walked rt sfn s .fault) walked-plain e
 
   pub wholes-accepted : readFault limit rt sfn s .number ≡ 0 → wholes limit rt sfn s ≡ walked rt sfn s .found
   unfolding wholes

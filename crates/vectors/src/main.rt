@@ -19,11 +19,11 @@
 //                     has four bytes too: `descriptors` with a length of 0 are profiles.
 //
 // The operations, their numbers, and what comes back beside the buffer:
-//     sheet | SHEET = refusal
+//     sheet | SHEET = refusal, place
 //     end I | SHEET = where the body before that of entry I ends
-//     respond | SHEET | COMMAND = refusal, count
+//     respond | SHEET | COMMAND = refusal, count, place
 //     accepted | SHEET | COMMAND = refusal, count: the same by `respond_accepted`
-//     import | RESPONSE = refusal, count
+//     import | RESPONSE = refusal, count, place
 //     read RT SFN | RESPONSE = refusal, profile, Data Length, whole descriptors, the place behind the last, 1 if complete
 //     held FEATURE | FRESH | KEPT = count; the descriptor is copied to the buffer
 //     list | RESPONSE = count
@@ -33,7 +33,7 @@
 //     start RT A = refusal, RT, A, next start, commands, bytes collected, 1 if ended
 //     take RT A NEXT COMMANDS COLLECTED ENDED | RESPONSE = the same seven
 //     lend RT A NEXT COMMANDS COLLECTED ENDED | RESPONSE = the same by `take_response`, which is lent the record
-//     bench RT A | SHEET = refusal, commands, bytes collected; the buffer is 64 bytes for the response, 40 to collect, 12 for six starts
+//     bench RT A | SHEET = refusal, commands, bytes collected, place; the buffer is 64 bytes for the response, 40 to collect, 12 for six starts
 //
 // A line of output for each: the title and `ok`, or `WRONG` and what was got, or `UNREADABLE`; last, how many of how many are ok.
 ghost use mathlib.Core.Path.{_≡_};
@@ -458,11 +458,15 @@ fn one(n: u64) -> [u64; 8] {
 // The operations on a sheet, and import, which makes one.
 fn run_box(operation: u8, n: [u64; 8], a: &[u8], b: &[u8], out: &mut [u8]) -> [u64; 8] {
     match operation {
-        0 => return told(sheet::check(a), 0, 0),
+        0 => {
+            let verdict = sheet::check(a);
+            return told(verdict, verdict.place as u64, 0);
+        }
         1 => return one(sheet::end_before(a, low16(n[0])) as u64),
         2 => {
             let reply = responder::respond(a, b, out);
-            return told(reply.refusal, reply.count as u64, 0);
+            let refusal = reply.refusal;
+            return told(refusal, reply.count as u64, refusal.place as u64);
         }
         3 => {
             let reply = responder::respond_accepted(a, b, out);
@@ -470,7 +474,8 @@ fn run_box(operation: u8, n: [u64; 8], a: &[u8], b: &[u8], out: &mut [u8]) -> [u
         }
         _ => {
             let made = import::import(a, out);
-            return told(made.refusal, made.count as u64, 0);
+            let refusal = made.refusal;
+            return told(refusal, made.count as u64, refusal.place as u64);
         }
     }
 }
@@ -584,7 +589,17 @@ fn run_bench(rt: u8, a: u16, sheet: &[u8], out: &mut [u8]) -> [u64; 8] {
     lent::copy(out, 0, &response);
     lent::copy(out, 64, &collected);
     put_starts(out, 104, &starts);
-    told(b.refusal, b.commands as u64, b.collected as u64)
+    let refusal = b.refusal;
+    [
+        refusal.number as u64,
+        b.commands as u64,
+        b.collected as u64,
+        refusal.place as u64,
+        0,
+        0,
+        0,
+        0,
+    ]
 }
 
 // The operations of a sweep.

@@ -16,7 +16,7 @@ fn say_box(fd: i32, number: u8) {
             b"a profile's number is 0 or listed before, its third byte is over 1 or its last is not 0",
         ),
         4 => say(fd, b"a feature number is 0, or not above the one before"),
-        5 => say(fd, b"a feature's flags are other than 00h, 01h, 03h"),
+        5 => say(fd, b"a reserved bit of a feature's flags is not 0"),
         6 => say(fd, b"a body length is no multiple of 4"),
         7 => say(fd, b"a body offset is not the end of the body before"),
         8 => say(fd, b"the sheet does not end where the last body ends"),
@@ -81,18 +81,60 @@ fn say_finding(fd: i32, number: u8) {
     }
 }
 
-// Says what a refusal means; of the four tables just one has its number.
+// A sheet's for flags, beside 5.
+fn say_flags(fd: i32, number: u8) {
+    match number {
+        43 => say(fd, b"a feature's Version is not 0"),
+        44 => say(fd, b"a feature is Persistent and not Current"),
+        _ => {}
+    }
+}
+
+// Says what a refusal means; of the five tables just one has its number.
 pub fn say_meaning(fd: i32, refusal: Refusal) {
     say_box(fd, refusal.number);
     say_reading(fd, refusal.number);
     say_sweep(fd, refusal.number);
     say_finding(fd, refusal.number);
+    say_flags(fd, refusal.number);
 }
 
-// Says `refused`, the number and what it means.
-pub fn say_refused(fd: i32, refusal: Refusal) {
+// An upper-case hexadecimal digit.
+fn digit(d: u16) -> u8 {
+    let digits = *b"0123456789ABCDEF";
+    digits[(d % 16) as usize]
+}
+
+// Four upper-case hexadecimal digits.
+pub fn say_hex4(fd: i32, n: u16) {
+    let text = [digit(n / 4096), digit(n / 256), digit(n / 16), digit(n)];
+    say(fd, &text);
+}
+
+// The line of a sheet that a refusal names, if it names one: of so many profiles, or with this feature number.
+fn say_line(fd: i32, refusal: Refusal, profiles: u64, feature: u16) {
+    if refusal.place == 0 {
+        return;
+    }
+    if refusal.number == refusal::PROFILE_BAD.number {
+        say(fd, b" at profile ");
+        io::print_decimal(fd, refusal.place as u64);
+        say(fd, b" of ");
+        io::print_decimal(fd, profiles);
+        return;
+    }
+    say(fd, b" at entry ");
+    io::print_decimal(fd, refusal.place as u64);
+    say(fd, b", feature ");
+    say_hex4(fd, feature);
+    say(fd, b"h");
+}
+
+// Says `refused`, the number, the line at fault of a sheet with so many profiles, whose entry there has this feature number, and what the number means.
+pub fn say_refused(fd: i32, refusal: Refusal, profiles: u64, feature: u16) {
     say(fd, b"refused ");
     io::print_decimal(fd, refusal.number as u64);
+    say_line(fd, refusal, profiles, feature);
     say(fd, b": ");
     say_meaning(fd, refusal);
     say(fd, b"\n");

@@ -14,7 +14,7 @@ struct Feature(u16);
 struct Profile(u16);
 
 extern "C" {
-    fn gcf_check_sheet(sheet: *const u8, sheet_len: usize) -> u8;
+    fn gcf_check_sheet(sheet: *const u8, sheet_len: usize, numbers: *mut u64, numbers_len: usize) -> u8;
     fn gcf_respond(
         sheet: *const u8,
         sheet_len: usize,
@@ -106,12 +106,12 @@ extern "C" {
     ) -> u8;
 }
 
-/// Checks a sheet.
-pub fn check_sheet(sheet: &[u8]) -> u8 {
-    unsafe { gcf_check_sheet(sheet.as_ptr(), sheet.len()) }
+/// Checks a sheet; the numbers are: place.
+pub fn check_sheet(sheet: &[u8], numbers: &mut [u64]) -> u8 {
+    unsafe { gcf_check_sheet(sheet.as_ptr(), sheet.len(), numbers.as_mut_ptr(), numbers.len()) }
 }
 
-/// Answers a command; the numbers are: bytes sent.
+/// Answers a command; the numbers are: bytes sent, place.
 pub fn respond(sheet: &[u8], command: &[u8], response: &mut [u8], numbers: &mut [u64]) -> u8 {
     unsafe {
         gcf_respond(
@@ -200,7 +200,7 @@ pub fn sweep_take(record: Record, response: &[u8], collecting: &mut [u8], number
     }
 }
 
-/// Sweeps a sheet; the numbers are: commands, bytes collected.
+/// Sweeps a sheet; the numbers are: commands, bytes collected, place.
 pub fn bench(
     sheet: &[u8],
     rt: u8,
@@ -246,7 +246,7 @@ pub fn check_profile(profile: u16, response: &[u8], numbers: &mut [u64]) -> u8 {
     }
 }
 
-/// Makes a sheet of a captured response; the numbers are: bytes of the sheet.
+/// Makes a sheet of a captured response; the numbers are: bytes of the sheet, place.
 pub fn import(response: &[u8], sheet: &mut [u8], numbers: &mut [u64]) -> u8 {
     unsafe {
         gcf_import(

@@ -5,6 +5,7 @@ use std::fmt::{Debug, Write};
 
 use crate::lent::{Cell, Given, Lent, Memory};
 use crate::random::Random;
+use second::refusal::Refusal;
 
 /// Longer inputs are written to a file rather than printed.
 const PRINTED_MOST: usize = 2_048;
@@ -19,6 +20,17 @@ pub struct Kind {
     pub fixed: fn(&mut Run),
     /// Some made-up cases.
     pub random: fn(&mut Run, &mut Random),
+}
+
+/// What a call that can tell a place gives: the number and the place, both 0 where it is accepted.
+pub type Told = (u8, usize);
+
+/// The number and the place of what the plain side gives.
+pub fn told<T>(given: &Result<T, Refusal>) -> Told {
+    match given {
+        Ok(_) => (0, 0),
+        Err(refusal) => (refusal.number, refusal.place),
+    }
 }
 
 /// An input of a call, with its name.
@@ -80,13 +92,34 @@ impl Run {
         wanted
     }
 
+    /// Compares likewise where both sides also tell a place; gives the plain number and place.
+    pub fn compare_told(
+        &mut self,
+        inputs: &[Input],
+        memory: Memory,
+        proved: impl FnOnce(&mut Memory) -> u8,
+        plain: impl FnOnce(&mut Memory) -> Told,
+    ) -> Told {
+        let mut told = (0, 0);
+        self.compare(
+            inputs,
+            memory,
+            |memory| u64::from(proved(memory)),
+            |memory| {
+                told = plain(memory);
+                u64::from(told.0)
+            },
+        );
+        told
+    }
+
     /// Calls the proved side only, where it may write anything between the guards and to the first of the numbers.
     pub fn only_returns(
         &mut self,
         inputs: &[Input],
         memory: Memory,
         results: usize,
-        proved: impl FnOnce(&mut Memory) -> u64,
+        proved: impl FnOnce(&mut Memory) -> u8,
     ) {
         if self.failure.is_some() {
             return;
@@ -126,6 +159,16 @@ impl Run {
     pub fn expect(&mut self, answer: u64, wanted: u64) {
         if answer != wanted && self.failure.is_none() {
             self.fail(format!("a case made for {wanted} gets {answer} from both sides"));
+        }
+    }
+
+    /// Fails where the number and the place of a case are not those it was made for.
+    pub fn expect_told(&mut self, told: Told, wanted: Told) {
+        if told != wanted && self.failure.is_none() {
+            self.fail(format!(
+                "a case made for {} at {} gets {} at {} from both sides",
+                wanted.0, wanted.1, told.0, told.1
+            ));
         }
     }
 

@@ -7,6 +7,7 @@ use super::wire::first16;
 use crate::bench::Outcome;
 use crate::command::most_bytes;
 use crate::numbers::*;
+use crate::refusal::Refusal;
 use crate::wire::Feature;
 
 /// Sweeps the sheet; on a refusal all three buffers are set to zero.
@@ -17,31 +18,28 @@ pub fn bench(
     response: &mut [u8],
     collected: &mut [u8],
     starts: &mut [u16],
-) -> Outcome {
+) -> Result<Outcome, Refusal> {
     let swept = begin(sheet, rt, allocation, response.len())
-        .and_then(|parts| Sweep::new(parts, rt, allocation, response).run(response, collected, starts));
-    match swept {
-        Ok(outcome) => outcome,
-        Err(number) => {
-            response.fill(0);
-            collected.fill(0);
-            starts.fill(0);
-            Outcome { number, commands: 0, collected: 0 }
-        }
+        .and_then(|parts| Ok(Sweep::new(parts, rt, allocation, response).run(response, collected, starts)?));
+    if swept.is_err() {
+        response.fill(0);
+        collected.fill(0);
+        starts.fill(0);
     }
+    swept
 }
 
 /// Checks what a sweep is given.
-fn begin(sheet: &[u8], rt: u8, allocation: u16, room: usize) -> Result<Parts<'_>, u8> {
+fn begin(sheet: &[u8], rt: u8, allocation: u16, room: usize) -> Result<Parts<'_>, Refusal> {
     let parts = accept(sheet)?;
     if rt > 1 {
-        return Err(SWEEP_RT);
+        return Err(SWEEP_RT.into());
     }
     if usize::from(allocation) < HEADER_BYTES {
-        return Err(SWEEP_ALLOCATION);
+        return Err(SWEEP_ALLOCATION.into());
     }
     if room < most_bytes(allocation) {
-        return Err(BUFFER_SHORT);
+        return Err(BUFFER_SHORT.into());
     }
     Ok(parts)
 }
@@ -84,7 +82,7 @@ impl<'a> Sweep<'a> {
             self.commands += 1;
             let sent = self.send(response);
             if self.take(sent, collected)? {
-                return Ok(Outcome { number: ACCEPTED, commands: self.commands, collected: self.collected });
+                return Ok(Outcome { commands: self.commands, collected: self.collected });
             }
         }
     }

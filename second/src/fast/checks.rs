@@ -48,7 +48,7 @@ fn first_finding(mut descriptors: &[u8], removable: bool) -> (u8, Feature) {
 
 /// Checks one descriptor; gives the first finding or 0.
 fn finding(header: Header, body: &[u8], removable: bool) -> u8 {
-    if header.flags() & RESERVED_AND_VERSION != 0 {
+    if header.flags() & (RESERVED | VERSION) != 0 {
         return FINDING_FLAGS;
     }
     if header.flags() == PERSISTENT {

@@ -4,23 +4,17 @@ use super::sheet::{accept, header_of, offset_of, Parts};
 use super::wire::{copy_body, first16};
 use crate::command::{most_bytes, RT_ALL, RT_CURRENT, RT_ONE, RT_RESERVED};
 use crate::numbers::*;
+use crate::refusal::Refusal;
 
-/// Checks the sheet and answers the command; gives the number and the count of bytes sent.
-pub fn respond(sheet: &[u8], command: &[u8], out: &mut [u8]) -> (u8, usize) {
-    numbered(accept(sheet).and_then(|parts| answer(parts, command, out)))
+/// Checks the sheet and answers the command; gives the count of bytes sent.
+pub fn respond(sheet: &[u8], command: &[u8], out: &mut [u8]) -> Result<usize, Refusal> {
+    accept(sheet).and_then(|parts| Ok(answer(parts, command, out)?))
 }
 
-/// Answers the command from a sheet accepted before; gives the number and the count of bytes sent.
-pub fn respond_checked(sheet: &[u8], command: &[u8], out: &mut [u8]) -> (u8, usize) {
-    numbered(Parts::of(sheet).ok_or(SHEET_SHORT).and_then(|parts| answer(parts, command, out)))
-}
-
-/// A result as the number and the count of bytes sent.
-fn numbered(sent: Result<usize, u8>) -> (u8, usize) {
-    match sent {
-        Ok(count) => (ACCEPTED, count),
-        Err(number) => (number, 0),
-    }
+/// Answers the command from a sheet accepted before; gives the count of bytes sent.
+pub fn respond_checked(sheet: &[u8], command: &[u8], out: &mut [u8]) -> Result<usize, u8> {
+    let parts = Parts::of(sheet).ok_or(SHEET_SHORT)?;
+    answer(parts, command, out)
 }
 
 /// Answers the command; gives the count of bytes sent.

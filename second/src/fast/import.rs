@@ -1,33 +1,46 @@
 //! Turns a captured response into a sheet: one walk to judge it, one to write.
 
 use super::reading::read_complete;
-use super::sheet::{flags_are_legal, profiles_are_legal};
+use super::sheet::{check_profiles, flags_are_legal, flags_refused};
 use super::wire::{copy_body, first16, Header};
 use crate::numbers::*;
+use crate::refusal::Refusal;
 
-/// Makes the sheet whose full response was captured; gives its length, or the number that refuses the capture.
-pub fn import(response: &[u8], sheet: &mut [u8]) -> Result<usize, u8> {
+/// Makes the sheet whose full response was captured; gives its length, or why the capture is refused.
+pub fn import(response: &[u8], sheet: &mut [u8]) -> Result<usize, Refusal> {
     let mut flags_legal = true;
     let reading = read_complete(response, |header, _| flags_legal &= flags_are_legal(header.flags()))?;
     let (list, behind) = Header::split(&response[HEADER_BYTES..]).ok_or(CAPTURE_BAD)?;
     if list.feature() != 0 || list.flags() != PERSISTENT | CURRENT || first16(&response[4..]) != 0 {
-        return Err(CAPTURE_BAD);
+        return Err(CAPTURE_BAD.into());
     }
     let (profiles, features) = behind.split_at(list.length());
     if reading.profile.0 != first_current(profiles) {
-        return Err(CAPTURE_BAD);
+        return Err(CAPTURE_BAD.into());
     }
-    if !profiles_are_legal(profiles) {
-        return Err(PROFILE_BAD);
-    }
+    check_profiles(profiles)?;
     if !flags_legal {
-        return Err(FLAGS_BAD);
+        check_flags(features)?;
     }
     let count = reading.count - 1;
     // An entry has four bytes more than the descriptor's header; the sheet's header has the list's four.
     let length = response.len() - HEADER_BYTES + 4 * count;
     write(sheet.get_mut(..length).ok_or(SHEET_BUFFER_SHORT)?, count, profiles, features);
     Ok(length)
+}
+
+/// Refuses the first of the descriptors behind feature 0 whose flags are not legal: walked only where there is one.
+#[cold]
+fn check_flags(mut features: &[u8]) -> Result<(), Refusal> {
+    let mut index = 0;
+    while let Some((header, behind)) = Header::split(features) {
+        if !flags_are_legal(header.flags()) {
+            return Err(Refusal::of_index(flags_refused(header.flags()), index));
+        }
+        features = &behind[header.length()..];
+        index += 1;
+    }
+    Ok(())
 }
 
 /// Writes the sheet to a room of its length.

@@ -2,6 +2,7 @@
 
 use super::wire::{first16, first32, Header};
 use crate::numbers::*;
+use crate::refusal::Refusal;
 
 /// The header of an entry of eight bytes, as a response has it.
 pub(super) fn header_of(entry: &[u8]) -> Header<'_> {
@@ -60,40 +61,36 @@ impl<'a> Parts<'a> {
     }
 }
 
-/// Checks a sheet; gives 0, or the first of 1 to 8 that refuses it.
-pub fn check(bytes: &[u8]) -> u8 {
-    match accept(bytes) {
-        Ok(_) => ACCEPTED,
-        Err(number) => number,
-    }
+/// Checks a sheet; gives the first of its numbers that refuses it, with the profile's or the entry's place.
+#[inline]
+pub fn check(bytes: &[u8]) -> Result<(), Refusal> {
+    accept(bytes).map(|_| ())
 }
 
 /// Checks a sheet; gives its parts.
-pub(super) fn accept(bytes: &[u8]) -> Result<Parts<'_>, u8> {
+pub(super) fn accept(bytes: &[u8]) -> Result<Parts<'_>, Refusal> {
     let parts = Parts::of(bytes).ok_or(SHEET_SHORT)?;
     if parts.profiles.len() > PROFILE_BYTES * PROFILES_MOST {
-        return Err(PROFILE_COUNT);
+        return Err(PROFILE_COUNT.into());
     }
-    if !profiles_are_legal(parts.profiles) {
-        return Err(PROFILE_BAD);
-    }
+    check_profiles(parts.profiles)?;
     if check_entries(parts)? != bytes.len() {
-        return Err(SHEET_END);
+        return Err(SHEET_END.into());
     }
     Ok(parts)
 }
 
-/// Whether each of at most 63 profiles has a new number that isn't 0, a current byte of 0 or 1, and a zero byte.
-pub(super) fn profiles_are_legal(profiles: &[u8]) -> bool {
+/// Checks that each of at most 63 profiles has a new number that isn't 0, a current byte of 0 or 1, and a zero byte.
+pub(super) fn check_profiles(profiles: &[u8]) -> Result<(), Refusal> {
     let mut numbers = [0; PROFILES_MOST];
     for (index, profile) in profiles.chunks_exact(PROFILE_BYTES).enumerate() {
         let number = first16(profile);
         if number == 0 || profile[2] > 1 || profile[3] != 0 || numbers[..index].contains(&number) {
-            return false;
+            return Err(Refusal::of_index(PROFILE_BAD, index));
         }
         numbers[index] = number;
     }
-    true
+    Ok(())
 }
 
 /// Whether the reserved bits and Version are 0, and Persistent isn't set without Current.
@@ -101,25 +98,38 @@ pub(super) fn flags_are_legal(flags: u8) -> bool {
     flags < 2 || flags == PERSISTENT | CURRENT
 }
 
+/// Why flags that are not legal are refused; only then are the reasons told apart.
+#[cold]
+pub(super) fn flags_refused(flags: u8) -> u8 {
+    if flags & RESERVED != 0 {
+        return FLAGS_RESERVED;
+    }
+    if flags & VERSION != 0 {
+        return VERSION_SET;
+    }
+    PERSISTENT_UNCURRENT
+}
+
 /// Checks the entries in order; gives where the last body ends.
-fn check_entries(parts: Parts) -> Result<usize, u8> {
+fn check_entries(parts: Parts) -> Result<usize, Refusal> {
     let mut before = 0;
     let mut end = parts.bodies_at();
-    for entry in parts.contents.chunks_exact(ENTRY_BYTES) {
+    for (index, entry) in parts.contents.chunks_exact(ENTRY_BYTES).enumerate() {
+        let refused = |number| Err(Refusal::of_index(number, index));
         // The eight bytes in one go.
         let word = entry.try_into().map_or(0, u64::from_be_bytes);
         let (feature, flags, length) = ((word >> 48) as u16, (word >> 40) as u8, (word >> 32) as u8);
         if feature <= before {
-            return Err(FEATURE_ORDER);
+            return refused(FEATURE_ORDER);
         }
         if !flags_are_legal(flags) {
-            return Err(FLAGS_BAD);
+            return refused(flags_refused(flags));
         }
         if length % 4 != 0 {
-            return Err(BODY_LENGTH);
+            return refused(BODY_LENGTH);
         }
         if word as u32 as usize != end {
-            return Err(BODY_OFFSET);
+            return refused(BODY_OFFSET);
         }
         before = feature;
         end += usize::from(length);

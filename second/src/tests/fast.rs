@@ -3,7 +3,7 @@
 use std::collections::BTreeSet;
 
 use super::cross::make_sheet;
-use super::{ask, command, response, Numbers, E, E_FULL, FILL};
+use super::{ask, command, response, told, Numbers, E, E_FULL, FILL};
 use crate::sheet::{build, ListedProfile, Sheet};
 use crate::wire::{Descriptor, Feature, Profile};
 use crate::{bench, checks, command as plain_command, fast, import, reading, sheet};
@@ -27,15 +27,15 @@ impl Seen {
 
 /// Both checks of a sheet.
 fn same_check(seen: &mut Seen, bytes: &[u8]) {
-    let number = sheet::check(bytes);
-    seen.same(number, number, fast::sheet::check(bytes));
+    let answer = sheet::check(bytes);
+    seen.same(told(answer).0, answer, fast::sheet::check(bytes));
 }
 
 /// Both answers to a command, with the sheet's check and, where it is accepted, without.
 fn same_answer(seen: &mut Seen, bytes: &[u8], command: &[u8], room: usize) {
     let (mut plain, mut fast) = (vec![FILL; room], vec![FILL; room]);
     let answer = plain_command::respond(bytes, command, &mut plain);
-    seen.same(answer.0, answer, fast::command::respond(bytes, command, &mut fast));
+    seen.same(told(answer).0, answer, fast::command::respond(bytes, command, &mut fast));
     assert!(plain == fast);
     if let Ok(sheet) = Sheet::accept(bytes) {
         let answer = plain_command::respond_checked(sheet, command, &mut plain);
@@ -55,7 +55,7 @@ fn same_sweep(seen: &mut Seen, bytes: &[u8], rt: u8, allocation: u16, rooms: Roo
     let mut fast = plain.clone();
     let outcome = bench::bench(bytes, rt, allocation, &mut plain.0, &mut plain.1, &mut plain.2);
     let other = fast::bench::bench(bytes, rt, allocation, &mut fast.0, &mut fast.1, &mut fast.2);
-    seen.same(outcome.number, outcome, other);
+    seen.same(told(outcome).0, outcome, other);
     assert!(plain == fast);
 }
 
@@ -83,7 +83,7 @@ fn same_profiles(seen: &mut Seen, received: &[u8]) {
 fn same_import(seen: &mut Seen, capture: &[u8], room: usize) {
     let (mut plain, mut fast) = (vec![FILL; room], vec![FILL; room]);
     let answer = import::import(capture, &mut plain);
-    seen.same(answer.err().unwrap_or(0), answer, fast::import::import(capture, &mut fast));
+    seen.same(told(answer).0, answer, fast::import::import(capture, &mut fast));
     assert!(plain == fast);
 }
 
@@ -196,8 +196,35 @@ fn sheets_and_commands() {
     for most in [63, 64] {
         same_check(&mut checked, &build(&(1..=most).map(listed).collect::<Vec<_>>(), &[]).unwrap());
     }
-    checked.are(0..=8);
-    answered.are((0..=1).chain(3..=12));
+    checked.are((0..=8).chain([43, 44]));
+    answered.are((0..=1).chain(3..=12).chain([43, 44]));
+}
+
+#[test]
+fn flags() {
+    // Where the flags of E's features stand in the sheet and in its full response.
+    let in_sheet = [6, 14, 22, 30];
+    let in_response = [22, 30, 38, 42];
+    let (mut in_sheets, mut in_captures) = (Seen::default(), Seen::default());
+    for flags in 0..=255 {
+        for feature in 0..4 {
+            // Alone, and with other flags that are not legal behind them.
+            for last in [3, 2, 4, 0x40] {
+                let mut bytes = E;
+                bytes[in_sheet[3]] = last;
+                bytes[in_sheet[feature]] = flags;
+                same_check(&mut in_sheets, &bytes);
+                same_answer(&mut in_sheets, &bytes, &command(0, 0, 44), 44);
+                same_sweep(&mut in_sheets, &bytes, 0, 44, [44, 36, 1]);
+                let mut capture = E_FULL;
+                capture[in_response[3]] = last;
+                capture[in_response[feature]] = flags;
+                same_import(&mut in_captures, &capture, 52);
+            }
+        }
+    }
+    in_sheets.are([0, 5, 43, 44]);
+    in_captures.are([0, 5, 43, 44]);
 }
 
 #[test]
@@ -232,7 +259,7 @@ fn readings_checks_and_imports() {
     read.are((13..=20).chain([0]));
     found.are((14..=18).chain([0, 20]).chain(29..=37).chain([39]));
     conforming.are((14..=18).chain([0, 20, 29, 40]));
-    imported.are((14..=18).chain([0, 3, 5, 20, 29, 41, 42]));
+    imported.are((14..=18).chain([0, 3, 5, 20, 29]).chain(41..=44));
 }
 
 #[test]
@@ -241,7 +268,7 @@ fn bench_sweeps() {
     let mut seen = Seen::default();
     for _ in 0..4_000 {
         let mut bytes = make_sheet(&mut numbers, 40);
-        if numbers.below(8) == 0 {
+        if numbers.below(4) == 0 {
             damage(&mut numbers, &mut bytes);
         }
         let allocation = numbers.below(400) as u16;
@@ -251,7 +278,7 @@ fn bench_sweeps() {
         let rt = [0, 1, 0, 1, 2][numbers.below(5) as usize];
         same_sweep(&mut seen, &bytes, rt, allocation, [response, collected, starts]);
     }
-    seen.are([0, 1, 3, 4, 5, 6, 7, 8, 12, 21, 22, 23, 24, 25]);
+    seen.are([0, 1, 3, 4, 5, 6, 7, 8, 12, 21, 22, 23, 24, 25, 43, 44]);
 }
 
 #[test]

@@ -16,20 +16,20 @@ fn imported(capture: &[u8]) -> Vec<u8> {
     let mut exact = vec![FILL; length];
     assert_eq!(import(capture, &mut exact), Ok(length));
     assert_eq!(exact, sheet);
-    assert_eq!(refused(capture, length - 1), SHEET_BUFFER_SHORT);
+    assert_eq!(refused(capture, length - 1), (SHEET_BUFFER_SHORT, 0));
     sheet
 }
 
-/// The number that refuses a capture; sees that the buffer is unchanged.
-fn refused(capture: &[u8], room: usize) -> u8 {
+/// The number and the place with which a capture is refused; sees that the buffer is unchanged.
+fn refused(capture: &[u8], room: usize) -> (u8, usize) {
     let mut sheet = vec![FILL; room];
-    let number = import(capture, &mut sheet).unwrap_err();
+    let refusal = import(capture, &mut sheet).unwrap_err();
     assert!(sheet.iter().all(|&byte| byte == FILL));
-    number
+    (refusal.number, refusal.place)
 }
 
-/// The number that refuses E's response with some bytes changed.
-fn with(changes: &[(usize, u8)]) -> u8 {
+/// The number and the place with which E's response is refused after some bytes are changed.
+fn with(changes: &[(usize, u8)]) -> (u8, usize) {
     let mut capture = E_FULL;
     for &(at, value) in changes {
         capture[at] = value;
@@ -52,96 +52,106 @@ fn the_smallest_capture() {
 
 #[test]
 fn readings() {
-    assert_eq!(refused(&[], 52), RECEIVED_LENGTH);
-    assert_eq!(refused(&E_FULL[..7], 52), RECEIVED_LENGTH);
+    assert_eq!(refused(&[], 52), (RECEIVED_LENGTH, 0));
+    assert_eq!(refused(&E_FULL[..7], 52), (RECEIVED_LENGTH, 0));
     let mut long = E_FULL.to_vec();
     long.resize(65_535, 0);
-    assert_eq!(refused(&long, 52), RECEIVED_LENGTH);
-    assert_eq!(with(&[(3, 0)]), DATA_LENGTH);
-    assert_eq!(with(&[(3, 0x29)]), DATA_LENGTH);
-    assert_eq!(with(&[(3, 0x24)]), RECEIVED_TOO_MUCH);
-    assert_eq!(with(&[(11, 9)]), ADDITIONAL_LENGTH);
-    assert_eq!(with(&[(29, 1)]), RESPONSE_ORDER);
-    assert_eq!(with(&[(43, 4)]), BEYOND_DATA);
+    assert_eq!(refused(&long, 52), (RECEIVED_LENGTH, 0));
+    assert_eq!(with(&[(3, 0)]), (DATA_LENGTH, 0));
+    assert_eq!(with(&[(3, 0x29)]), (DATA_LENGTH, 0));
+    assert_eq!(with(&[(3, 0x24)]), (RECEIVED_TOO_MUCH, 0));
+    assert_eq!(with(&[(11, 9)]), (ADDITIONAL_LENGTH, 0));
+    assert_eq!(with(&[(29, 1)]), (RESPONSE_ORDER, 0));
+    assert_eq!(with(&[(43, 4)]), (BEYOND_DATA, 0));
     for cut in 8..44 {
-        assert_eq!(refused(&E_FULL[..cut], 52), CHECK_CUT);
+        assert_eq!(refused(&E_FULL[..cut], 52), (CHECK_CUT, 0));
     }
-    assert_eq!(with(&[(3, 0x2C)]), CHECK_CUT);
+    assert_eq!(with(&[(3, 0x2C)]), (CHECK_CUT, 0));
 }
 
 #[test]
 fn what_no_sheet_sends() {
-    assert_eq!(refused(&response(0, &[]), 52), CAPTURE_BAD);
-    assert_eq!(refused(&response(0, &[0, 1, 3, 0]), 52), CAPTURE_BAD);
+    assert_eq!(refused(&response(0, &[]), 52), (CAPTURE_BAD, 0));
+    assert_eq!(refused(&response(0, &[0, 1, 3, 0]), 52), (CAPTURE_BAD, 0));
     for bit in 0..8 {
-        assert_eq!(with(&[(10, 3 ^ (1 << bit))]), CAPTURE_BAD);
-        assert_eq!(with(&[(4, 1 << bit)]), CAPTURE_BAD);
-        assert_eq!(with(&[(5, 1 << bit)]), CAPTURE_BAD);
-        assert_eq!(with(&[(6, 1 << bit)]), CAPTURE_BAD);
-        assert_eq!(with(&[(7, 0x12 ^ (1 << bit))]), CAPTURE_BAD);
+        assert_eq!(with(&[(10, 3 ^ (1 << bit))]), (CAPTURE_BAD, 0));
+        assert_eq!(with(&[(4, 1 << bit)]), (CAPTURE_BAD, 0));
+        assert_eq!(with(&[(5, 1 << bit)]), (CAPTURE_BAD, 0));
+        assert_eq!(with(&[(6, 1 << bit)]), (CAPTURE_BAD, 0));
+        assert_eq!(with(&[(7, 0x12 ^ (1 << bit))]), (CAPTURE_BAD, 0));
     }
     // The first current profile counts: not the second, not 0, and none where none is current.
-    assert_eq!(with(&[(7, 0x10), (18, 1)]), CAPTURE_BAD);
-    assert_eq!(with(&[(7, 0)]), CAPTURE_BAD);
-    assert_eq!(with(&[(14, 0)]), CAPTURE_BAD);
+    assert_eq!(with(&[(7, 0x10), (18, 1)]), (CAPTURE_BAD, 0));
+    assert_eq!(with(&[(7, 0)]), (CAPTURE_BAD, 0));
+    assert_eq!(with(&[(14, 0)]), (CAPTURE_BAD, 0));
     let mut second = E_FULL;
     (second[7], second[14], second[18]) = (0x10, 0, 1);
-    assert_eq!(check(&imported(&second)), ACCEPTED);
+    assert_eq!(check(&imported(&second)), Ok(()));
     let mut none = E_FULL;
     (none[7], none[14]) = (0, 0);
-    assert_eq!(check(&imported(&none)), ACCEPTED);
+    assert_eq!(check(&imported(&none)), Ok(()));
     // CurrentP is one bit of its byte; the others are the sheet's trouble.
-    assert_eq!(with(&[(14, 2)]), CAPTURE_BAD);
-    assert_eq!(with(&[(14, 2), (7, 0)]), PROFILE_BAD);
-    assert_eq!(with(&[(14, 3)]), PROFILE_BAD);
-    assert_eq!(with(&[(18, 3)]), PROFILE_BAD);
+    assert_eq!(with(&[(14, 2)]), (CAPTURE_BAD, 0));
+    assert_eq!(with(&[(14, 2), (7, 0)]), (PROFILE_BAD, 1));
+    assert_eq!(with(&[(14, 3)]), (PROFILE_BAD, 1));
+    assert_eq!(with(&[(18, 3)]), (PROFILE_BAD, 2));
 }
 
 #[test]
 fn profiles_and_flags_of_the_sheet() {
     // A current profile of number 0 is what a Current Profile of 0 says, too.
-    assert_eq!(with(&[(7, 0), (13, 0)]), PROFILE_BAD);
-    assert_eq!(with(&[(17, 0)]), PROFILE_BAD);
-    assert_eq!(with(&[(17, 0x12)]), PROFILE_BAD);
-    assert_eq!(with(&[(15, 1)]), PROFILE_BAD);
-    assert_eq!(with(&[(19, 0x80)]), PROFILE_BAD);
-    for at in [22, 30, 38, 42] {
-        assert_eq!(with(&[(at, 2)]), FLAGS_BAD);
-        for bit in 2..8 {
-            assert_eq!(with(&[(at, 1 | 1 << bit)]), FLAGS_BAD);
+    assert_eq!(with(&[(7, 0), (13, 0)]), (PROFILE_BAD, 1));
+    assert_eq!(with(&[(17, 0)]), (PROFILE_BAD, 2));
+    assert_eq!(with(&[(17, 0x12)]), (PROFILE_BAD, 2));
+    assert_eq!(with(&[(15, 1)]), (PROFILE_BAD, 1));
+    assert_eq!(with(&[(19, 0x80)]), (PROFILE_BAD, 2));
+    // Feature 0 is not counted.
+    for (index, at) in [22, 30, 38, 42].into_iter().enumerate() {
+        assert_eq!(with(&[(at, 2)]), (PERSISTENT_UNCURRENT, index + 1));
+        for bit in 2..6 {
+            assert_eq!(with(&[(at, 2 | 1 << bit)]), (VERSION_SET, index + 1));
         }
+        for bit in 6..8 {
+            assert_eq!(with(&[(at, 6 | 1 << bit)]), (FLAGS_RESERVED, index + 1));
+        }
+        // The first descriptor at fault decides, whatever the numbers.
+        assert_eq!(with(&[(at, 2), (42, 0x80)]).1, index + 1);
     }
 }
 
 #[test]
 fn the_earlier_fault_decides() {
-    let faults: [(u8, &[(usize, u8)]); 11] = [
-        (DATA_LENGTH, &[(0, 1), (3, 1)]),
-        (RECEIVED_TOO_MUCH, &[(0, 0), (3, 4)]),
-        (ADDITIONAL_LENGTH, &[(23, 5)]),
-        (RESPONSE_ORDER, &[(28, 0), (29, 1)]),
-        (BEYOND_DATA, &[(31, 252)]),
-        (CHECK_CUT, &[(3, 0x2C)]),
-        (CAPTURE_BAD, &[(10, 1)]),
-        (CAPTURE_BAD, &[(5, 1)]),
-        (CAPTURE_BAD, &[(7, 0x10)]),
-        (PROFILE_BAD, &[(19, 1)]),
-        (FLAGS_BAD, &[(22, 2)]),
+    let faults: [((u8, usize), &[(usize, u8)]); 15] = [
+        ((DATA_LENGTH, 0), &[(0, 1), (3, 1)]),
+        ((RECEIVED_TOO_MUCH, 0), &[(0, 0), (3, 4)]),
+        ((ADDITIONAL_LENGTH, 0), &[(23, 5)]),
+        ((RESPONSE_ORDER, 0), &[(28, 0), (29, 1)]),
+        ((BEYOND_DATA, 0), &[(31, 252)]),
+        ((CHECK_CUT, 0), &[(3, 0x2C)]),
+        ((CAPTURE_BAD, 0), &[(10, 1)]),
+        ((CAPTURE_BAD, 0), &[(5, 1)]),
+        ((CAPTURE_BAD, 0), &[(7, 0x10)]),
+        ((PROFILE_BAD, 1), &[(15, 1)]),
+        ((PROFILE_BAD, 2), &[(19, 1)]),
+        ((FLAGS_RESERVED, 1), &[(22, 0x42)]),
+        ((VERSION_SET, 2), &[(30, 6)]),
+        ((PERSISTENT_UNCURRENT, 3), &[(38, 2)]),
+        ((FLAGS_RESERVED, 4), &[(42, 0x83)]),
     ];
-    for (at, (number, earlier)) in faults.iter().enumerate() {
+    for (at, (wanted, earlier)) in faults.iter().enumerate() {
         for (_, later) in &faults[at..] {
             let mut capture = E_FULL;
             for &(at, value) in later.iter().chain(*earlier) {
                 capture[at] = value;
             }
-            assert_eq!(refused(&capture, 52), *number);
-            assert_eq!(refused(&capture, 51), *number);
-            assert_eq!(refused(&capture, 0), *number);
-            assert_eq!(refused(&capture[..7], 52), RECEIVED_LENGTH);
+            assert_eq!(refused(&capture, 52), *wanted);
+            assert_eq!(refused(&capture, 51), *wanted);
+            assert_eq!(refused(&capture, 0), *wanted);
+            assert_eq!(refused(&capture[..7], 52), (RECEIVED_LENGTH, 0));
         }
     }
     for room in 0..52 {
-        assert_eq!(refused(&E_FULL, room), SHEET_BUFFER_SHORT);
+        assert_eq!(refused(&E_FULL, room), (SHEET_BUFFER_SHORT, 0));
     }
 }
 
@@ -161,12 +171,12 @@ fn the_longest_captures() {
         let capture = ask(&sheet, 0, 0, 65_535).1;
         assert_eq!(capture.len(), 65_532);
         assert_eq!(imported(&capture), sheet);
-        assert_eq!(refused(&capture[..65_531], sheet.len()), CHECK_CUT);
+        assert_eq!(refused(&capture[..65_531], sheet.len()), (CHECK_CUT, 0));
         // With one feature more the response is cut at 65,534 bytes.
         let mut more = descriptors.clone();
         more.push(Descriptor { feature: Feature(65_535), flags: 0, body: &[] });
         let cut = ask(&build(profiles, &more).unwrap(), 0, 0, 65_535).1;
-        assert_eq!((cut.len(), refused(&cut, 200_000)), (65_534, CHECK_CUT));
+        assert_eq!((cut.len(), refused(&cut, 200_000)), (65_534, (CHECK_CUT, 0)));
     }
 }
 
@@ -191,13 +201,15 @@ fn damaged_captures_are_refused_or_come_back() {
         }
         let mut sheet = vec![FILL; 4 * capture.len()];
         match import(&capture, &mut sheet) {
-            Err(number) => {
-                assert!([3, 5, 15, 16, 17, 18, 20, 29, 41].contains(&number));
+            Err(refusal) => {
+                let of_sheet = [3, 5, 43, 44].contains(&refusal.number);
+                assert!(of_sheet || [15, 16, 17, 18, 20, 29, 41].contains(&refusal.number));
+                assert_eq!(of_sheet, refusal.place > 0);
                 assert!(sheet.iter().all(|&byte| byte == FILL));
             }
             Ok(length) => {
                 accepted += 1;
-                assert_eq!(check(&sheet[..length]), ACCEPTED);
+                assert_eq!(check(&sheet[..length]), Ok(()));
                 assert_eq!(ask(&sheet[..length], 0, 0, 2_000), (ACCEPTED, capture));
             }
         }

@@ -3,11 +3,14 @@
 mod cross;
 mod fast;
 mod import;
+mod places;
 mod refusals;
 mod sheets;
 mod worked;
 
 use crate::command::{respond, Request};
+use crate::numbers::ACCEPTED;
+use crate::refusal::Refusal;
 use crate::wire::Feature;
 
 /// Sheet E of the paper.
@@ -44,10 +47,19 @@ pub fn command(rt: u8, sfn: u16, allocation: u16) -> [u8; 10] {
 /// Asks for a response; gives the number and the bytes sent, and sees that no other byte changed.
 pub fn ask(sheet: &[u8], rt: u8, sfn: u16, allocation: u16) -> (u8, Vec<u8>) {
     let mut out = vec![FILL; usize::from(allocation) + 16];
-    let (number, count) = respond(sheet, &command(rt, sfn, allocation), &mut out);
+    let sent = respond(sheet, &command(rt, sfn, allocation), &mut out);
+    let count = sent.unwrap_or(0);
     assert!(out[count..].iter().all(|&byte| byte == FILL));
     out.truncate(count);
-    (number, out)
+    (told(sent).0, out)
+}
+
+/// The number and the place of what is given back; both are 0 where it is no refusal.
+pub fn told<T>(given: Result<T, Refusal>) -> (u8, usize) {
+    match given {
+        Ok(_) => (ACCEPTED, 0),
+        Err(refusal) => (refusal.number, refusal.place),
+    }
 }
 
 /// A complete response with the given descriptors' bytes.

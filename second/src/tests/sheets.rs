@@ -1,76 +1,81 @@
 //! Damaged copies of sheet E, and sheets from their meaning.
 
-use super::E;
+use super::{told, E};
 use crate::numbers::*;
 use crate::sheet::{build, check, ListedProfile, Sheet};
 use crate::wire::{Descriptor, Feature, Profile};
 
-/// The number for a copy of E with one byte changed.
-fn with(at: usize, value: u8) -> u8 {
+/// The number and the place that the check gives.
+fn given(sheet: &[u8]) -> (u8, usize) {
+    told(check(sheet))
+}
+
+/// The number and the place for a copy of E with one byte changed.
+fn with(at: usize, value: u8) -> (u8, usize) {
     let mut sheet = E;
     sheet[at] = value;
-    check(&sheet)
+    given(&sheet)
 }
 
 #[test]
 fn short_sheets() {
-    assert_eq!(check(&[]), SHEET_SHORT);
-    assert_eq!(check(&E[..3]), SHEET_SHORT);
-    assert_eq!(check(&E[..43]), SHEET_SHORT);
-    assert_eq!(with(0, 0x01), SHEET_SHORT);
+    assert_eq!(given(&[]), (SHEET_SHORT, 0));
+    assert_eq!(given(&E[..3]), (SHEET_SHORT, 0));
+    assert_eq!(given(&E[..43]), (SHEET_SHORT, 0));
+    assert_eq!(with(0, 0x01), (SHEET_SHORT, 0));
     // Too many profiles, but they are not there either.
-    assert_eq!(with(3, 64), SHEET_SHORT);
-    assert_eq!(check(&E[..44]), SHEET_END);
+    assert_eq!(with(3, 64), (SHEET_SHORT, 0));
+    assert_eq!(given(&E[..44]), (SHEET_END, 0));
 }
 
 #[test]
 fn too_many_profiles() {
     let mut sheet = vec![0, 0, 0, 64];
     sheet.resize(4 + 4 * 64, 0);
-    assert_eq!(check(&sheet), PROFILE_COUNT);
+    assert_eq!(given(&sheet), (PROFILE_COUNT, 0));
     // With 63 the profiles are looked at, and number 0 is refused.
     sheet[3] = 63;
-    assert_eq!(check(&sheet), PROFILE_BAD);
+    assert_eq!(given(&sheet), (PROFILE_BAD, 1));
 }
 
 #[test]
 fn bad_profiles() {
-    assert_eq!(with(37, 0x00), PROFILE_BAD);
-    assert_eq!(with(41, 0x12), PROFILE_BAD);
-    assert_eq!(with(38, 0x02), PROFILE_BAD);
-    assert_eq!(with(43, 0x01), PROFILE_BAD);
+    assert_eq!(with(37, 0x00), (PROFILE_BAD, 1));
+    assert_eq!(with(41, 0x12), (PROFILE_BAD, 2));
+    assert_eq!(with(38, 0x02), (PROFILE_BAD, 1));
+    assert_eq!(with(43, 0x01), (PROFILE_BAD, 2));
     // The profiles come before the entries.
     let mut sheet = E;
     sheet[5] = 0;
     sheet[43] = 1;
-    assert_eq!(check(&sheet), PROFILE_BAD);
+    assert_eq!(given(&sheet), (PROFILE_BAD, 2));
 }
 
 #[test]
 fn bad_entries() {
-    assert_eq!(with(5, 0x00), FEATURE_ORDER);
-    assert_eq!(with(13, 0x01), FEATURE_ORDER);
-    assert_eq!(with(6, 0x43), FLAGS_BAD);
-    assert_eq!(with(6, 0x07), FLAGS_BAD);
-    assert_eq!(with(6, 0x02), FLAGS_BAD);
-    assert_eq!(with(7, 0x05), BODY_LENGTH);
-    assert_eq!(with(11, 0x2D), BODY_OFFSET);
-    assert_eq!(with(19, 0x2C), BODY_OFFSET);
-    assert_eq!(with(35, 0x30), BODY_OFFSET);
-    assert_eq!(with(8, 0x01), BODY_OFFSET);
+    assert_eq!(with(5, 0x00), (FEATURE_ORDER, 1));
+    assert_eq!(with(13, 0x01), (FEATURE_ORDER, 2));
+    assert_eq!(with(6, 0x43), (FLAGS_RESERVED, 1));
+    assert_eq!(with(6, 0x07), (VERSION_SET, 1));
+    assert_eq!(with(6, 0x02), (PERSISTENT_UNCURRENT, 1));
+    assert_eq!(with(7, 0x05), (BODY_LENGTH, 1));
+    assert_eq!(with(11, 0x2D), (BODY_OFFSET, 1));
+    assert_eq!(with(19, 0x2C), (BODY_OFFSET, 2));
+    assert_eq!(with(35, 0x30), (BODY_OFFSET, 4));
+    assert_eq!(with(8, 0x01), (BODY_OFFSET, 1));
     // A longer first body moves the place where the second should start.
-    assert_eq!(with(7, 0x08), BODY_OFFSET);
+    assert_eq!(with(7, 0x08), (BODY_OFFSET, 2));
 }
 
 #[test]
 fn bad_end() {
     let mut longer = E.to_vec();
     longer.push(0);
-    assert_eq!(check(&longer), SHEET_END);
-    assert_eq!(check(&E[..51]), SHEET_END);
-    assert_eq!(with(31, 0x04), SHEET_END);
-    assert_eq!(check(&[0, 0, 0, 0]), ACCEPTED);
-    assert_eq!(check(&[0, 0, 0, 0, 0]), SHEET_END);
+    assert_eq!(given(&longer), (SHEET_END, 0));
+    assert_eq!(given(&E[..51]), (SHEET_END, 0));
+    assert_eq!(with(31, 0x04), (SHEET_END, 0));
+    assert_eq!(check(&[0, 0, 0, 0]), Ok(()));
+    assert_eq!(given(&[0, 0, 0, 0, 0]), (SHEET_END, 0));
 }
 
 #[test]
@@ -100,7 +105,7 @@ fn the_longest_sheet() {
         (1..=63).map(|number| ListedProfile { number: Profile(number), current: false }).collect();
     let sheet = build(&profiles, &descriptors).unwrap();
     assert_eq!(sheet.len(), 17_039_356);
-    assert_eq!(check(&sheet), ACCEPTED);
+    assert_eq!(check(&sheet), Ok(()));
     let (number, bytes) = super::ask(&sheet, 0, 0, 65_535);
     assert_eq!((number, bytes.len()), (ACCEPTED, 65_534));
     assert_eq!(crate::wire::be32(&bytes, 0), 4 + 256 + 65_535 * 256);
@@ -137,7 +142,8 @@ fn a_sheet_that_was_not_checked_does_no_harm() {
             sheet[at] = 0xFF;
             for rt in 0..3 {
                 let sheet = Sheet::assume_checked(&sheet);
-                crate::command::respond_checked(sheet, &super::command(rt, 0, 512), &mut out);
+                let sent = crate::command::respond_checked(sheet, &super::command(rt, 0, 512), &mut out);
+                assert!(sent.unwrap_or(0) <= 512);
             }
         }
     }

@@ -7,12 +7,13 @@ use crate::command::respond;
 use crate::lister::list;
 use crate::numbers::*;
 use crate::reading::{read, Reading};
+use crate::refusal::Refusal;
 use crate::sheet::{build, check};
 use crate::wire::{be32, Descriptor, Feature, Profile};
 
 #[test]
 fn the_sheet_is_accepted() {
-    assert_eq!(check(&E), ACCEPTED);
+    assert_eq!(check(&E), Ok(()));
 }
 
 #[test]
@@ -25,7 +26,7 @@ fn small_allocations() {
     assert_eq!(ask(&E, 0, 0, 0), (ACCEPTED, vec![]));
     assert_eq!(ask(&E, 0, 0, 4), (ACCEPTED, vec![0x00, 0x00, 0x00, 0x28]));
     // A = 0 needs no buffer at all.
-    assert_eq!(respond(&E, &command(0, 0, 0), &mut []), (ACCEPTED, 0));
+    assert_eq!(respond(&E, &command(0, 0, 0), &mut []), Ok(0));
 }
 
 #[test]
@@ -60,7 +61,7 @@ fn reserved_rt() {
 }
 
 /// Sweeps E with RT 0; gives the outcome and the starts.
-fn sweep_e(allocation: u16) -> (Outcome, Vec<u16>, Vec<u8>) {
+fn sweep_e(allocation: u16) -> (Result<Outcome, Refusal>, Vec<u16>, Vec<u8>) {
     let mut response = [0xA5; 64];
     let mut collected = [0xA5; 64];
     let mut starts = [0xA5A5; 8];
@@ -71,18 +72,18 @@ fn sweep_e(allocation: u16) -> (Outcome, Vec<u16>, Vec<u8>) {
 #[test]
 fn sweeps() {
     let (outcome, starts, collected) = sweep_e(20);
-    assert_eq!(outcome, Outcome { number: ACCEPTED, commands: 4, collected: 36 });
+    assert_eq!(outcome, Ok(Outcome { commands: 4, collected: 36 }));
     assert_eq!(starts, [0, 1, 2, 0x0020, 0xA5A5, 0xA5A5, 0xA5A5, 0xA5A5]);
     assert_eq!(collected[..36], E_FULL[8..]);
     assert!(collected[36..].iter().all(|&byte| byte == 0xA5));
 
     let (outcome, starts, collected) = sweep_e(43);
-    assert_eq!(outcome, Outcome { number: ACCEPTED, commands: 2, collected: 36 });
+    assert_eq!(outcome, Ok(Outcome { commands: 2, collected: 36 }));
     assert_eq!(starts[..3], [0, 0x0020, 0xA5A5]);
     assert_eq!(collected[..36], E_FULL[8..]);
 
     let (outcome, starts, collected) = sweep_e(19);
-    assert_eq!(outcome, Outcome { number: NOTHING_WHOLE, commands: 0, collected: 0 });
+    assert_eq!(outcome, Err(Refusal { number: NOTHING_WHOLE, place: 0 }));
     assert_eq!(starts, [0; 8]);
     assert_eq!(collected, [0; 64]);
 }

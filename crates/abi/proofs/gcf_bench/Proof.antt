@@ -1,4 +1,4 @@
--- `abi::gcf_bench` meets its contract: what the bench sweep answers, and its two counts told. Assumes nothing.
+-- `abi::gcf_bench` meets its contract: what the bench sweep answers, and its two counts and its place told. Assumes nothing.
 use Rattle.abi.proofs.Laws.{leaves}
 use Rattle.abi.specs.Left.{showBenched}
 use mathlib.Core.Path.{ap}
@@ -9,9 +9,9 @@ use Rattle.abi.proofs.gcf_bench.Tie as tie
 
 returns : tie.Need-returns
 unfolding showBenched
-returns c = leaves (c .before .before .tell2 .ensures) (ap (λ x. showBenched x (now (c .before .before .before .before .before .before .before .before .before .before .before .before .before .before .before .before .before .before .before .before .before .args .numbers))) (c .before .before .before .before .before .before .before .before .before .before .before .before .bench .ensures))
+returns c = leaves (c .before .before .tell3 .ensures) (ap (λ x. showBenched x (now (c .before .before .before .before .before .before .before .before .before .before .before .before .before .before .before .before .before .before .before .before .before .before .args .numbers))) (c .before .before .before .before .before .before .before .before .before .before .before .before .before .bench .ensures))
 
 pub gcf-bench-spec : {M : Type 1} → statement M
 gcf-bench-spec =
     tie.close
-    (tie.spec (λ c κs. search needs) (λ c. search needs) (λ c κs. search needs) (λ c. search needs) (λ c. search needs) (λ c. search needs) (λ c. search needs) returns)
+    (tie.spec (λ c κs. search needs) (λ c. search needs) (λ c. search needs) (λ c κs. search needs) (λ c. search needs) (λ c. search needs) (λ c. search needs) (λ c. search needs) returns)

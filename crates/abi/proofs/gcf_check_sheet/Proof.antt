@@ -1,10 +1,17 @@
--- `abi::gcf_check_sheet` meets its contract: the number of what the check answers. Assumes nothing.
+-- `abi::gcf_check_sheet` meets its contract: what the check answers, and its place told. Assumes nothing.
+use denote.Ref.{now}
+use Rattle.abi.proofs.Laws.{leaves}
+use Rattle.abi.specs.Left.{showVerdict}
+use mathlib.Core.Path.{ap}
 use borrow.Author.Needs.{needs}
 use Rattle.abi.proofs.gcf_check_sheet.Statement.{statement}
 use Rattle.abi.proofs.gcf_check_sheet.Tie as tie
 
 returns : tie.Need-returns
-returns c = cc
+unfolding showVerdict
+returns c = leaves (c .before .before .tell .ensures) (ap (λ x. showVerdict x (now (c .before .before .before .before .before .before .before .before .args .numbers))) (c .before .before .before .before .before .check .ensures))
 
 pub gcf-check-sheet-spec : {M : Type 1} → statement M
-gcf-check-sheet-spec = tie.close (tie.spec (λ c κs. search needs) returns)
+gcf-check-sheet-spec =
+    tie.close
+    (tie.spec (λ c κs. search needs) (λ c. search needs) (λ c κs. search needs) (λ c. search needs) returns)

@@ -1,16 +1,17 @@
--- `abi::gcf_respond` meets its contract: what the box answers, and its count told. Assumes nothing.
+-- `abi::gcf_respond` meets its contract: what the box answers, its count and its place told. Assumes nothing.
 use denote.Ref.{now}
 use Rattle.abi.proofs.Laws.{leaves}
-use Rattle.abi.specs.Left.{showMade}
+use Rattle.abi.specs.Left.{showPlaced}
 use mathlib.Core.Path.{ap}
 use borrow.Author.Needs.{needs}
 use Rattle.abi.proofs.gcf_respond.Statement.{statement}
 use Rattle.abi.proofs.gcf_respond.Tie as tie
 
 returns : tie.Need-returns
-unfolding showMade
-returns c = leaves (c .before .before .tell .ensures) (ap (λ x. showMade x (now (c .before .before .before .before .before .before .before .before .before .before .before .before .before .args .numbers))) (c .before .before .before .before .before .before .before .respond .ensures))
+unfolding showPlaced
+returns c = leaves (c .before .before .tell2 .ensures) (ap (λ x. showPlaced x (now (c .before .before .before .before .before .before .before .before .before .before .before .before .before .before .args .numbers))) (c .before .before .before .before .before .before .before .before .respond .ensures))
 
 pub gcf-respond-spec : {M : Type 1} → statement M
 gcf-respond-spec =
-    tie.close (tie.spec (λ c κs. search needs) (λ c κs. search needs) (λ c. search needs) (λ c. search needs) returns)
+    tie.close
+    (tie.spec (λ c κs. search needs) (λ c. search needs) (λ c κs. search needs) (λ c. search needs) (λ c. search needs) returns)

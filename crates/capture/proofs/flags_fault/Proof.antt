@@ -1,20 +1,21 @@
 -- `capture::flags_fault` meets its contract: the loop carries what is left of the search.
 use borrow.Author.Needs.{needs}
-use Prim.Native.Nat.{_-_}
+use Prim.Native.Nat.{_+_, _-_, _*_, _≤_}
+use native.Mathlib.Omega.{arith}
 use mathlib.Core.Path.{_≡_, refl}
 use lib.ListN.{length}
 use Rattle.capture.specs.Capture.{flagsFaults}
 use Rattle.reading.specs.inner.Between.{from}
 use Rattle.reading.proofs.Places.{from-less}
-use Rattle.capture.proofs.Faults.{flags-stop, flags-go, flags-none}
+use Rattle.capture.proofs.Faults.{flags-stop, flags-go, flags-none, place-next}
 use Rattle.capture.proofs.flags_fault.Statement.{statement}
 use Rattle.capture.proofs.flags_fault.Tie as tie
 
 abbrev Inv-loop : tie.InvT-loop
-Inv-loop s first at₀ at = flagsFaults (from s first) ≡ flagsFaults (from s at)
+Inv-loop s first at₀ place₀ at place = (flagsFaults 1 (from s first) ≡ flagsFaults place (from s at)) × (4 * place ≤ at + 4)
 
 abbrev μ-loop : tie.MeasureT-loop
-μ-loop s first at₀ at = length s - at
+μ-loop s first at₀ place₀ at place = length s - at
 
 returns : tie.Need-returns Inv-loop μ-loop
 returns c = search flags-stop
@@ -23,7 +24,7 @@ loop-less : tie.Need-loop-less Inv-loop μ-loop
 loop-less c = search from-less
 
 loop-again : tie.Need-loop-again Inv-loop μ-loop
-loop-again c = search flags-go
+loop-again c = (search flags-go, search place-next)
 
 returns-2 : tie.Need-returns-2 Inv-loop μ-loop
 returns-2 c = search flags-none
@@ -31,4 +32,4 @@ returns-2 c = search flags-none
 pub flags-fault-spec : {M : Type 1} → statement M
 flags-fault-spec =
     tie.close
-    (tie.spec Inv-loop μ-loop (λ c. refl) (λ c κs. search needs) (λ c κs. search needs) returns (λ c κs. search needs) loop-less loop-again returns-2)
+    (tie.spec Inv-loop μ-loop (λ c. (refl, omega arith)) (λ c κs. search needs) (λ c κs. search needs) (λ c κs. search needs) returns (λ c κs. search needs) (λ c. search needs) loop-less loop-again returns-2)

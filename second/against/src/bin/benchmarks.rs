@@ -6,6 +6,7 @@ use against::made::captures::{capture_of, example, long_bodies, no_bodies};
 use against::made::responses::{long_faultless, response_of, ruled_parts, sent, MOST};
 use against::made::sheets::{body, every_feature, in_a_row, longest, profiles, sheet_of, E};
 use against::made::Part;
+use against::run::told;
 use against::timing::{head, line, Case, Effort};
 use second::command::Request;
 use second::fast::bench::bench;
@@ -113,13 +114,13 @@ fn time_checked(run: &Run, name: &str, sheet: &[u8], command: [u8; 10], pieces: 
         name: format!("{name}, sheet checked"),
         input: sheet,
         room: MOST,
-        bytes: respond(sheet, &command, &mut vec![0; MOST]).1,
+        bytes: respond(sheet, &command, &mut vec![0; MOST]).unwrap_or(0),
         pieces,
         proved: Box::new(|sheet, out| {
-            let mut numbers = [0];
+            let mut numbers = [0; 2];
             usize::from(boundary::respond(sheet, &command, out, &mut numbers)) + numbers[0] as usize
         }),
-        plain: Box::new(|sheet, out| respond(sheet, &command, out).1),
+        plain: Box::new(|sheet, out| respond(sheet, &command, out).unwrap_or(0)),
     });
 }
 
@@ -129,13 +130,13 @@ fn time_accepted(run: &Run, name: &str, sheet: &[u8], command: [u8; 10], pieces:
         name: format!("{name}, sheet accepted before"),
         input: sheet,
         room: MOST,
-        bytes: respond(sheet, &command, &mut vec![0; MOST]).1,
+        bytes: respond(sheet, &command, &mut vec![0; MOST]).unwrap_or(0),
         pieces,
         proved: Box::new(|sheet, out| {
             let mut numbers = [0];
             usize::from(boundary::respond_accepted(sheet, &command, out, &mut numbers)) + numbers[0] as usize
         }),
-        plain: Box::new(|sheet, out| respond_checked(sheet, &command, out).1),
+        plain: Box::new(|sheet, out| respond_checked(sheet, &command, out).unwrap_or(0)),
     });
 }
 
@@ -167,8 +168,14 @@ fn checks_of_sheets(run: &Run) {
             room: 0,
             bytes: 4 + 8 * usize::from(u16::from_be_bytes([sheet[0], sheet[1]])) + 4 * usize::from(sheet[3]),
             pieces: None,
-            proved: Box::new(|sheet, _| usize::from(boundary::check_sheet(sheet))),
-            plain: Box::new(|sheet, _| usize::from(check(sheet))),
+            proved: Box::new(|sheet, _| {
+                let mut numbers = [0];
+                usize::from(boundary::check_sheet(sheet, &mut numbers)) + numbers[0] as usize
+            }),
+            plain: Box::new(|sheet, _| {
+                let (number, place) = told(&check(sheet));
+                usize::from(number) + place
+            }),
         });
     }
 }
@@ -225,14 +232,15 @@ fn time_sweep(run: &Run, name: &str, sheet: &[u8], rt: u8, allocation: u16, room
         pieces: None,
         proved: Box::new(move |sheet, out| {
             let (response, collected) = out.split_at_mut(room);
-            let mut numbers = [0; 2];
+            let mut numbers = [0; 3];
             let answer =
                 boundary::bench(sheet, rt, allocation, response, collected, &mut starts, &mut numbers);
             usize::from(answer) + numbers[0] as usize
         }),
         plain: Box::new(move |sheet, out| {
             let (response, collected) = out.split_at_mut(room);
-            bench(sheet, rt, allocation, response, collected, &mut other_starts).commands
+            let outcome = bench(sheet, rt, allocation, response, collected, &mut other_starts);
+            outcome.map_or(0, |outcome| outcome.commands)
         }),
     });
 }
@@ -240,7 +248,8 @@ fn time_sweep(run: &Run, name: &str, sheet: &[u8], rt: u8, allocation: u16, room
 /// How many bytes a sweep collects from a sheet.
 fn sent_in_full(sheet: &[u8], rt: u8) -> usize {
     let room = &mut vec![0; 1 << 20];
-    bench(sheet, rt, 65_535, &mut vec![0; MOST], room, &mut vec![0; 65_536]).collected
+    let outcome = bench(sheet, rt, 65_535, &mut vec![0; MOST], room, &mut vec![0; 65_536]);
+    outcome.map_or(0, |outcome| outcome.collected)
 }
 
 /// Both checks of responses.
@@ -307,7 +316,7 @@ fn imports(run: &Run) {
             bytes: capture.len(),
             pieces: *pieces,
             proved: Box::new(|capture, sheet| {
-                let mut numbers = [0];
+                let mut numbers = [0; 2];
                 usize::from(boundary::import(capture, sheet, &mut numbers)) + numbers[0] as usize
             }),
             plain: Box::new(|capture, sheet| import(capture, sheet).unwrap_or(0)),

@@ -1,19 +1,22 @@
 //! gcf_bench.
 
+use super::SHEET;
 use crate::boundary;
 use crate::lent::{Given, Memory};
 use crate::made::damage::damage;
-use crate::made::faults::{each_pair, fault, good_sheet, some_sheet_faults, Fault};
+use crate::made::faults::{
+    each_last_fault, each_pair, fault, fault_at, good_sheet, some_sheet_faults, Fault,
+};
 use crate::made::responses::length_to_send;
 use crate::made::sheets::{every_feature, longest, random_sheet, short_sheets, E};
 use crate::random::Random;
-use crate::run::{Input, Kind, Run};
+use crate::run::{told, Input, Kind, Run, Told};
 
 pub const KIND: Kind = Kind { name: "gcf_bench", answers, fixed, random };
 
 /// The sheet's, the start's, and of a round's those that an accepted sheet's own responses can cause.
 fn answers() -> Vec<u64> {
-    (0..=8).chain([12, 21, 22, 23, 24, 25]).collect()
+    SHEET.into_iter().chain([12, 21, 22, 23, 24, 25]).collect()
 }
 
 /// How long the lent buffers are: for the response, the bytes collected, the starts and the numbers.
@@ -26,8 +29,8 @@ struct Rooms {
 }
 
 /// Compares one bench sweep.
-fn compare(run: &mut Run, sheet: &Given, rt: u8, allocation: u16, rooms: Rooms) -> u64 {
-    run.compare(
+fn compare(run: &mut Run, sheet: &Given, rt: u8, allocation: u16, rooms: Rooms) -> Told {
+    run.compare_told(
         &[
             Input::Bytes("sheet", sheet),
             Input::Number("rt", u64::from(rt)),
@@ -41,7 +44,7 @@ fn compare(run: &mut Run, sheet: &Given, rt: u8, allocation: u16, rooms: Rooms) 
             .with_second(rooms.collected)
             .with_starts(rooms.starts),
         |memory| {
-            u64::from(boundary::bench(
+            boundary::bench(
                 sheet.proved(),
                 rt,
                 allocation,
@@ -49,7 +52,7 @@ fn compare(run: &mut Run, sheet: &Given, rt: u8, allocation: u16, rooms: Rooms) 
                 memory.second.part(),
                 memory.starts.part(),
                 memory.numbers.part(),
-            ))
+            )
         },
         |memory| {
             let outcome = second::bench::bench(
@@ -60,8 +63,10 @@ fn compare(run: &mut Run, sheet: &Given, rt: u8, allocation: u16, rooms: Rooms) 
                 memory.second.part(),
                 memory.starts.part(),
             );
-            memory.give(&[outcome.commands as u64, outcome.collected as u64]);
-            u64::from(outcome.number)
+            let told = told(&outcome);
+            let (commands, collected) = outcome.map_or((0, 0), |done| (done.commands, done.collected));
+            memory.give(&[commands as u64, collected as u64, told.1 as u64]);
+            told
         },
     )
 }
@@ -84,7 +89,7 @@ fn each_allocation(run: &mut Run) {
                     response: allocation + allocation % 5,
                     collected: full,
                     starts: 160,
-                    numbers: allocation % 4,
+                    numbers: allocation % 5,
                 };
                 compare(run, &given, rt, allocation as u16, rooms);
             }
@@ -99,7 +104,7 @@ fn each_room(run: &mut Run) {
         for collected in 0..40 {
             for response in [0, 19, 20, 21, 30] {
                 for allocation in [20, 19, 43] {
-                    compare(run, &given, 0, allocation, Rooms { response, collected, starts, numbers: 2 });
+                    compare(run, &given, 0, allocation, Rooms { response, collected, starts, numbers: 3 });
                 }
             }
         }
@@ -119,7 +124,7 @@ struct Asked {
 fn each_two_faults(run: &mut Run) {
     let mut faults: Vec<Fault<Asked>> = Vec::new();
     for of_sheet in some_sheet_faults() {
-        faults.push(fault(of_sheet.number, move |asked: &mut Asked| of_sheet.make(&mut asked.sheet)));
+        faults.push(fault_at(of_sheet.told, move |asked: &mut Asked| of_sheet.make(&mut asked.sheet)));
     }
     faults.push(fault(21, |asked: &mut Asked| asked.rt = 2));
     faults.push(fault(21, |asked: &mut Asked| asked.rt = 255));
@@ -134,34 +139,43 @@ fn each_two_faults(run: &mut Run) {
     faults.push(fault(25, |asked: &mut Asked| asked.rooms.starts = 1));
     faults.push(fault(23, |asked: &mut Asked| asked.allocation = 263));
     faults.push(fault(24, |asked: &mut Asked| asked.rooms.collected = 271));
-    let rooms = Rooms { response: 264, collected: 320, starts: 9, numbers: 2 };
+    let rooms = Rooms { response: 264, collected: 320, starts: 9, numbers: 3 };
     let good = Asked { sheet: good_sheet(), rt: 0, allocation: 264, rooms };
-    let answer = compare(run, &Given::new(&good.sheet), good.rt, good.allocation, good.rooms);
-    run.expect(answer, 0);
-    each_pair(&good, &faults, &mut |asked, number| {
-        for numbers in 0..4 {
+    let told = compare(run, &Given::new(&good.sheet), good.rt, good.allocation, good.rooms);
+    run.expect_told(told, (0, 0));
+    each_pair(&good, &faults, &mut |asked, wanted| {
+        for numbers in 0..5 {
             let rooms = Rooms { numbers, ..asked.rooms };
-            let answer = compare(run, &Given::new(&asked.sheet), asked.rt, asked.allocation, rooms);
-            run.expect(answer, u64::from(number));
+            let told = compare(run, &Given::new(&asked.sheet), asked.rt, asked.allocation, rooms);
+            run.expect_told(told, wanted);
         }
     });
 }
 
-/// Sweeps of every feature, with the shortest responses and with longer ones, and of the longest sheet.
+/// Sweeps of every feature, with the shortest responses and with longer ones, of the longest sheet, and of both with the
+/// faults of the last entry.
 fn at_the_limit(run: &mut Run) {
-    let every = Given::new(&every_feature());
-    let rooms = Rooms { response: 3_000, collected: 262_160, starts: 65_540, numbers: 2 };
+    let (mut every_sheet, mut long_sheet) = (every_feature(), longest());
+    let every = Given::new(&every_sheet);
+    let rooms = Rooms { response: 3_000, collected: 262_160, starts: 65_540, numbers: 3 };
     for (rt, allocation) in [(0, 20), (0, 1_000), (1, 3_000)] {
-        let answer = compare(run, &every, rt, allocation, rooms);
-        run.expect(answer, 0);
+        let told = compare(run, &every, rt, allocation, rooms);
+        run.expect_told(told, (0, 0));
     }
-    let answer = compare(run, &every, 0, 20, Rooms { starts: 20_000, ..rooms });
-    run.expect(answer, 25);
-    let long = Given::new(&longest());
-    let rooms = Rooms { response: 65_534, collected: 17_000_000, starts: 300, numbers: 2 };
+    let told = compare(run, &every, 0, 20, Rooms { starts: 20_000, ..rooms });
+    run.expect_told(told, (25, 0));
+    let long = Given::new(&long_sheet);
+    let rooms = Rooms { response: 65_534, collected: 17_000_000, starts: 300, numbers: 3 };
     for rt in 0..2 {
-        let answer = compare(run, &long, rt, 65_535, rooms);
-        run.expect(answer, 0);
+        let told = compare(run, &long, rt, 65_535, rooms);
+        run.expect_told(told, (0, 0));
+    }
+    let rooms = Rooms { response: 300, collected: 300, starts: 300, numbers: 3 };
+    for sheet in [&mut every_sheet, &mut long_sheet] {
+        each_last_fault(sheet, &mut |sheet, wanted| {
+            let told = compare(run, &Given::new(sheet), 0, 300, rooms);
+            run.expect_told(told, wanted);
+        });
     }
 }
 
@@ -184,7 +198,7 @@ fn random(run: &mut Run, random: &mut Random) {
             response: (usize::from(allocation) + random.below(40)).saturating_sub(1),
             collected: if random.once_in(4) { random.below(full) } else { full },
             starts: if random.once_in(4) { random.below(6) } else { 70 },
-            numbers: random.below(5),
+            numbers: random.below(6),
         };
         compare(run, &given, rt, allocation, rooms);
     }

@@ -105,7 +105,7 @@ fn each_two_faults(run: &mut Run) {
     for (feature, _, _) in ruled_parts() {
         part_faults(feature, &mut faults);
     }
-    each_pair(&good, &faults, &mut |checked, number| {
+    each_pair(&good, &faults, &mut |checked, (number, _)| {
         let answer = compare(run, &checked.response(), 1);
         run.expect(answer, u64::from(number));
     });

@@ -1,34 +1,44 @@
 //! gcf_check_sheet.
 
+use super::SHEET;
 use crate::boundary;
 use crate::lent::{Given, Memory};
 use crate::made::damage::damage;
-use crate::made::faults::{each_pair, good_sheet, sheet_faults};
+use crate::made::faults::{each_last_fault, each_pair, good_sheet, sheet_faults, FLAG_FAULTS};
 use crate::made::put16;
 use crate::made::sheets::{longest, profiles, random_sheet, sheet_of, short_sheets, E, LONGEST};
 use crate::random::Random;
-use crate::run::{Input, Kind, Run};
+use crate::run::{told, Input, Kind, Run, Told};
+use second::wire::be16;
 
-pub const KIND: Kind = Kind { name: "gcf_check_sheet", answers: || (0..=8).collect(), fixed, random };
+pub const KIND: Kind = Kind { name: "gcf_check_sheet", answers: || SHEET.to_vec(), fixed, random };
 
 /// Compares one check.
-fn compare(run: &mut Run, sheet: &[u8]) -> u64 {
+fn compare(run: &mut Run, sheet: &[u8], numbers: usize) -> Told {
     let sheet = Given::new(sheet);
-    run.compare(
+    run.compare_told(
         &[Input::Bytes("sheet", &sheet)],
-        Memory::none(),
-        |_| u64::from(boundary::check_sheet(sheet.proved())),
-        |_| u64::from(second::sheet::check(sheet.plain())),
+        Memory::numbers(numbers),
+        |memory| boundary::check_sheet(sheet.proved(), memory.numbers.part()),
+        |memory| {
+            let told = told(&second::sheet::check(sheet.plain()));
+            memory.give(&[told.1 as u64]);
+            told
+        },
     )
 }
 
 fn fixed(run: &mut Run) {
     let good = good_sheet();
-    let answer = compare(run, &good);
-    run.expect(answer, 0);
-    each_pair(&good, &sheet_faults(), &mut |sheet, number| {
-        let answer = compare(run, sheet);
-        run.expect(answer, u64::from(number));
+    for numbers in 0..4 {
+        let told = compare(run, &good, numbers);
+        run.expect_told(told, (0, 0));
+    }
+    each_pair(&good, &sheet_faults(), &mut |sheet, wanted| {
+        for numbers in [1, 0, 3] {
+            let told = compare(run, sheet, numbers);
+            run.expect_told(told, wanted);
+        }
     });
     for sheet in short_sheets() {
         each_cut_and_bit(run, &sheet);
@@ -40,18 +50,18 @@ fn fixed(run: &mut Run) {
 /// A sheet cut at each byte and with bytes added, and with each bit of its contents flipped.
 fn each_cut_and_bit(run: &mut Run, sheet: &[u8]) {
     for cut in 0..=sheet.len() {
-        compare(run, &sheet[..cut]);
+        compare(run, &sheet[..cut], 1);
     }
     let mut longer = sheet.to_vec();
     for _ in 0..9 {
         longer.push(0);
-        compare(run, &longer);
+        compare(run, &longer, 1);
     }
     let mut flipped = sheet.to_vec();
     for at in 0..sheet.len().min(400) {
         for bit in 0..8 {
             flipped[at] ^= 1 << bit;
-            compare(run, &flipped);
+            compare(run, &flipped, 1 + bit % 2);
             flipped[at] ^= 1 << bit;
         }
     }
@@ -61,13 +71,14 @@ fn each_cut_and_bit(run: &mut Run, sheet: &[u8]) {
 fn counts(run: &mut Run) {
     for count in 0..=70 {
         let mut sheet = sheet_of(&profiles(count, 1), &[]);
-        compare(run, &sheet);
-        compare(run, &sheet[..sheet.len() - 1]);
+        compare(run, &sheet, 1);
+        compare(run, &sheet[..sheet.len() - 1], 1);
         // The last profile repeats the first.
         if count > 1 {
             let last = sheet.len() - 4;
             put16(&mut sheet, last, 1);
-            compare(run, &sheet);
+            let told = compare(run, &sheet, 1);
+            run.expect_told(told, if count > 63 { (2, 0) } else { (3, usize::from(count)) });
         }
     }
 }
@@ -76,39 +87,37 @@ fn counts(run: &mut Run) {
 fn at_the_limit(run: &mut Run) {
     let mut sheet = longest();
     run.expect(sheet.len() as u64, LONGEST as u64);
-    let answer = compare(run, &sheet);
-    run.expect(answer, 0);
-    let last = 4 + 8 * 65_534;
-    for (at, bit, number) in [(last + 1, 2, 4), (last + 2, 4, 5), (last + 3, 2, 6), (last + 7, 2, 7)] {
-        sheet[at] ^= bit;
-        let answer = compare(run, &sheet);
-        run.expect(answer, number);
-        sheet[at] ^= bit;
-    }
+    let told = compare(run, &sheet, 1);
+    run.expect_told(told, (0, 0));
+    each_last_fault(&mut sheet, &mut |sheet, wanted| {
+        let told = compare(run, sheet, 1);
+        run.expect_told(told, wanted);
+    });
     sheet.push(0);
-    let answer = compare(run, &sheet);
-    run.expect(answer, 8);
+    let told = compare(run, &sheet, 1);
+    run.expect_told(told, (8, 0));
     sheet.truncate(LONGEST - 1);
-    let answer = compare(run, &sheet);
-    run.expect(answer, 8);
+    let told = compare(run, &sheet, 1);
+    run.expect_told(told, (8, 0));
     // Lengths that would be right in fewer bits.
     for more in [0x100, 0x1_0000, 0x100_0000] {
         let mut longer = E.to_vec();
         longer.resize(E.len() + more, 0);
-        let answer = compare(run, &longer);
-        run.expect(answer, 8);
+        let told = compare(run, &longer, 1);
+        run.expect_told(told, (8, 0));
     }
 }
 
 fn random(run: &mut Run, random: &mut Random) {
     let most = if random.once_in(150) { 9_000 } else { random.one_of(&[3, 12, 12, 40, 400]) };
     let sheet = random_sheet(random, most);
-    compare(run, &sheet);
+    compare(run, &sheet, random.below(3));
     for _ in 0..8 {
         let mut damaged = sheet.clone();
         damage(random, &mut damaged);
-        compare(run, &damaged);
+        compare(run, &damaged, 1 + random.below(2));
     }
+    spoilt(run, random, sheet);
     // Bytes that are no sheet, but with counts that they could have.
     let length = random.below(80);
     let mut noise = random.bytes(length);
@@ -117,5 +126,19 @@ fn random(run: &mut Run, random: &mut Random) {
             noise[at] = random.below(most) as u8;
         }
     }
-    compare(run, &noise);
+    compare(run, &noise, 1);
+}
+
+/// Compares a sheet whose flags are spoilt somewhere, and then somewhere else as well.
+fn spoilt(run: &mut Run, random: &mut Random, mut sheet: Vec<u8>) {
+    let count = usize::from(be16(&sheet, 0));
+    if count == 0 {
+        return;
+    }
+    for _ in 0..2 {
+        let flags = 4 + 8 * random.below(count) + 2;
+        let (_, spoil) = random.one_of(&FLAG_FAULTS);
+        sheet[flags] = spoil(sheet[flags]);
+        compare(run, &sheet, 1);
+    }
 }

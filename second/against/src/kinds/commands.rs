@@ -2,19 +2,21 @@
 
 use crate::lent::Given;
 use crate::made::damage::damage;
-use crate::made::faults::{each_pair, fault, good_sheet, some_sheet_faults, Fault};
+use crate::made::faults::{
+    each_last_fault, each_pair, fault, fault_at, good_sheet, some_sheet_faults, Fault,
+};
 use crate::made::responses::length_to_send;
 use crate::made::sheets::{
     body, every_feature, longest, profiles, random_sheet, sheet_of, short_sheets, starts_for, E,
 };
 use crate::made::Part;
 use crate::random::Random;
-use crate::run::Run;
+use crate::run::{Run, Told};
 use second::command::Request;
 use second::wire::Feature;
 
 /// Compares one command: sheet, command, room for the response, room for the numbers.
-pub type Compare = fn(&mut Run, &Given, &[u8], usize, usize) -> u64;
+pub type Compare = fn(&mut Run, &Given, &[u8], usize, usize) -> Told;
 
 /// A command's bytes.
 fn command(rt: u8, sfn: u16, allocation: u16) -> [u8; 10] {
@@ -73,7 +75,7 @@ struct Asked {
 fn each_two_faults(run: &mut Run, compare: Compare) {
     let mut faults: Vec<Fault<Asked>> = Vec::new();
     for of_sheet in some_sheet_faults() {
-        faults.push(fault(of_sheet.number, move |asked: &mut Asked| of_sheet.make(&mut asked.sheet)));
+        faults.push(fault_at(of_sheet.told, move |asked: &mut Asked| of_sheet.make(&mut asked.sheet)));
     }
     faults.push(fault(9, |asked: &mut Asked| asked.command.truncate(0)));
     faults.push(fault(9, |asked: &mut Asked| asked.command.truncate(9)));
@@ -84,10 +86,10 @@ fn each_two_faults(run: &mut Run, compare: Compare) {
     faults.push(fault(12, |asked: &mut Asked| asked.room = 0));
     faults.push(fault(12, |asked: &mut Asked| asked.room = 99));
     let good = Asked { sheet: good_sheet(), command: command(0, 0, 100).to_vec(), room: 100 };
-    each_pair(&good, &faults, &mut |asked, number| {
+    each_pair(&good, &faults, &mut |asked, wanted| {
         for numbers in 0..4 {
-            let answer = compare(run, &Given::new(&asked.sheet), &asked.command, asked.room, numbers);
-            run.expect(answer, u64::from(number));
+            let told = compare(run, &Given::new(&asked.sheet), &asked.command, asked.room, numbers);
+            run.expect_told(told, wanted);
         }
     });
 }
@@ -127,15 +129,19 @@ fn around_the_return_limit(run: &mut Run, compare: Compare) {
     }
 }
 
-/// The longest sheet and one of every feature, asked from both ends.
+/// The longest sheet and one of every feature, asked from both ends, and with the faults of the last entry.
 fn at_the_limit(run: &mut Run, compare: Compare) {
-    for sheet in [longest(), every_feature()] {
+    for mut sheet in [longest(), every_feature()] {
         let given = Given::new(&sheet);
         for (rt, sfn) in [(0, 0), (0, 0xFFFF), (0, 0x8000), (1, 1), (1, 0xFFFE), (2, 0x1234), (2, 0xFFFF)] {
             for allocation in [65_535, 300] {
                 compare(run, &given, &command(rt, sfn, allocation), 65_540, 1);
             }
         }
+        each_last_fault(&mut sheet, &mut |sheet, wanted| {
+            let told = compare(run, &Given::new(sheet), &command(0, 0, 300), 300, 2);
+            run.expect_told(told, wanted);
+        });
     }
 }
 

@@ -8,12 +8,12 @@ use crate::made::captures::{
     short_captures, spoil,
 };
 use crate::made::damage::damage;
-use crate::made::faults::{each_faulty_response, each_pair};
+use crate::made::faults::{each_faulty_response, each_pair, FLAG_FAULTS};
 use crate::made::responses::{each_short, length_to_send, long_responses, random_response, sent};
 use crate::made::sheets::{at_edges, body, in_a_row, profiles, random_sheet, sheet_of, short_sheets};
 use crate::made::{put16, Part};
 use crate::random::Random;
-use crate::run::{Input, Kind, Run};
+use crate::run::{told, Input, Kind, Run, Told};
 use second::command::Request;
 use second::wire::Feature;
 
@@ -22,27 +22,25 @@ pub const KIND: Kind = Kind { name: "gcf_import", answers, fixed, random };
 /// The longest response that can be complete.
 const LONGEST: usize = 65_532;
 
-/// A reading's, 29, 41, and of the sheet's 3 and 5, and 42.
+/// A reading's, 29, 41, of the sheet's 3, 5, 43 and 44, and 42.
 fn answers() -> Vec<u64> {
-    READING.into_iter().chain([29, 41, 3, 5, 42]).collect()
+    READING.into_iter().chain([29, 41, 3, 5, 43, 44, 42]).collect()
 }
 
 /// Compares one import.
-fn compare(run: &mut Run, response: &Given, room: usize, numbers: usize) -> u64 {
-    run.compare(
+fn compare(run: &mut Run, response: &Given, room: usize, numbers: usize) -> Told {
+    run.compare_told(
         &[Input::Bytes("response", response), Input::Number("room", room as u64)],
         Memory::numbers(numbers).with_buffer(room),
         |memory| {
             let (sheet, numbers) = (memory.first.part(), memory.numbers.part());
-            u64::from(boundary::import(response.proved(), sheet, numbers))
+            boundary::import(response.proved(), sheet, numbers)
         },
         |memory| {
-            let (number, length) = match second::import::import(response.plain(), memory.first.part()) {
-                Ok(length) => (0, length),
-                Err(number) => (number, 0),
-            };
-            memory.give(&[length as u64]);
-            u64::from(number)
+            let made = second::import::import(response.plain(), memory.first.part());
+            let told = told(&made);
+            memory.give(&[made.unwrap_or(0) as u64, told.1 as u64]);
+            told
         },
     )
 }
@@ -53,7 +51,7 @@ fn sheet_length(response: &[u8]) -> Option<usize> {
 }
 
 /// Compares with room enough, for a response that may be refused.
-fn compare_roomy(run: &mut Run, response: &[u8], numbers: usize) -> u64 {
+fn compare_roomy(run: &mut Run, response: &[u8], numbers: usize) -> Told {
     let given = Given::new(response);
     match sheet_length(response) {
         Some(length) => compare(run, &given, length + numbers % 3, numbers),
@@ -66,12 +64,12 @@ fn each_room(run: &mut Run, response: &[u8]) {
     let given = Given::new(response);
     let length = sheet_length(response).unwrap_or(0);
     for (more, numbers) in [(0, 1), (1, 0), (2, 2), (3, 3), (9, 1), (300, 4)] {
-        let answer = compare(run, &given, length + more, numbers);
-        run.expect(answer, 0);
+        let told = compare(run, &given, length + more, numbers);
+        run.expect_told(told, (0, 0));
     }
     for less in [1, 2, 3, 4, 5, 8, length / 2, length - 1, length] {
-        let answer = compare(run, &given, length - less.min(length), less % 4);
-        run.expect(answer, 42);
+        let told = compare(run, &given, length - less.min(length), less % 4);
+        run.expect_told(told, (42, 0));
     }
 }
 
@@ -102,13 +100,14 @@ fn fixed(run: &mut Run) {
 /// Each fault and each two, in the order of the numbers.
 fn each_two_faults(run: &mut Run) {
     let good = good_import();
-    let answer = compare(run, &Given::new(&good.capture), good.room, 1);
-    run.expect(answer, 0);
+    let told = compare(run, &Given::new(&good.capture), good.room, 1);
+    run.expect_told(told, (0, 0));
     come_back(run, &good.capture);
-    each_pair(&good, &import_faults(), &mut |import, number| {
-        let numbers = import.capture.len() % 4;
-        let answer = compare(run, &Given::new(&import.capture), import.room, numbers);
-        run.expect(answer, u64::from(number));
+    each_pair(&good, &import_faults(), &mut |import, wanted| {
+        for numbers in [2, 0, 1, 3] {
+            let told = compare(run, &Given::new(&import.capture), import.room, numbers);
+            run.expect_told(told, wanted);
+        }
     });
 }
 
@@ -132,8 +131,8 @@ fn proved_sheet(response: &[u8]) -> Vec<u8> {
 /// A sheet comes back from its response, and the response from that.
 fn round_trip(run: &mut Run, sheet: &[u8]) {
     let response = proved_response(sheet, length_to_send(sheet, 0, 0));
-    let answer = compare_roomy(run, &response, 1);
-    run.expect(answer, 0);
+    let told = compare_roomy(run, &response, 2);
+    run.expect_told(told, (0, 0));
     let back = proved_sheet(&response);
     run.holds(back == sheet, "a sheet does not come back", &[Input::Bytes("sheet", &Given::new(sheet))]);
     come_back(run, &response);
@@ -142,24 +141,25 @@ fn round_trip(run: &mut Run, sheet: &[u8]) {
 /// A capture that is accepted comes back from its sheet, which the proved check accepts.
 fn come_back(run: &mut Run, capture: &[u8]) {
     let sheet = proved_sheet(capture);
-    let holds = boundary::check_sheet(&sheet) == 0 && proved_response(&sheet, capture.len() + 1) == capture;
+    let holds =
+        boundary::check_sheet(&sheet, &mut []) == 0 && proved_response(&sheet, capture.len() + 1) == capture;
     run.holds(holds, "a capture does not come back", &[Input::Bytes("capture", &Given::new(capture))]);
 }
 
 /// Compares, and sees that a capture comes back if it is accepted.
-fn compare_and_back(run: &mut Run, capture: &[u8], numbers: usize) -> u64 {
-    let answer = compare_roomy(run, capture, numbers);
-    if answer == 0 {
+fn compare_and_back(run: &mut Run, capture: &[u8], numbers: usize) -> Told {
+    let told = compare_roomy(run, capture, numbers);
+    if told.0 == 0 {
         come_back(run, capture);
     }
-    answer
+    told
 }
 
 /// A capture cut at each byte.
 fn each_cut(run: &mut Run, capture: &[u8]) {
     for cut in 0..capture.len() {
-        let answer = compare_roomy(run, &capture[..cut], cut % 3);
-        run.expect(answer, if cut < 8 { 14 } else { 29 });
+        let told = compare_roomy(run, &capture[..cut], cut % 3);
+        run.expect_told(told, (if cut < 8 { 14 } else { 29 }, 0));
     }
 }
 
@@ -168,7 +168,7 @@ fn each_bit(run: &mut Run, capture: &[u8]) {
     let mut bytes = capture.to_vec();
     for bit in 0..8 * bytes.len() {
         bytes[bit / 8] ^= 1 << (bit % 8);
-        compare_and_back(run, &bytes, bit % 3);
+        compare_and_back(run, &bytes, 1 + bit % 3);
         bytes[bit / 8] ^= 1 << (bit % 8);
     }
 }
@@ -180,7 +180,7 @@ fn each_two_bits(run: &mut Run) {
         bytes[one / 8] ^= 1 << (one % 8);
         for two in 0..one {
             bytes[two / 8] ^= 1 << (two % 8);
-            compare_roomy(run, &bytes, 1);
+            compare_roomy(run, &bytes, 2);
             bytes[two / 8] ^= 1 << (two % 8);
         }
         bytes[one / 8] ^= 1 << (one % 8);
@@ -200,14 +200,14 @@ fn each_profile_list(run: &mut Run) {
             let mut wrong = sent(&sheet, 0, 0, 65_535);
             for profile in [current, 0x1200 - count, 0x11FF, 0] {
                 put16(&mut wrong, 6, profile);
-                compare_and_back(run, &wrong, 1);
+                compare_and_back(run, &wrong, 2);
             }
             // The last one repeats the first.
             if count > 1 {
                 wrong.copy_within(12..14, 12 + 4 * usize::from(count) - 4);
                 put_current(&mut wrong);
-                let answer = compare_roomy(run, &wrong, 1);
-                run.expect(answer, 3);
+                let told = compare_roomy(run, &wrong, 2);
+                run.expect_told(told, (3, usize::from(count)));
             }
         }
     }
@@ -218,9 +218,19 @@ fn each_profile_list(run: &mut Run) {
             let mut capture = capture_of(&list, &parts);
             for profile in [0, 8, 0x10, 9] {
                 put16(&mut capture, 6, profile);
-                compare_and_back(run, &capture, 1);
+                compare_and_back(run, &capture, 2);
             }
         }
+    }
+}
+
+/// What flags of the entry at a place are told.
+fn flags_told(flags: u8, place: usize) -> Told {
+    match flags {
+        0 | 1 | 3 => (0, 0),
+        2 => (44, place),
+        4..=0x3F => (43, place),
+        _ => (5, place),
     }
 }
 
@@ -231,12 +241,13 @@ fn each_flags(run: &mut Run) {
         for at in 0..parts.len() {
             let mut changed: Vec<Part> = parts.clone();
             changed[at].1 = flags;
-            compare_and_back(run, &capture_of(&[0, 8, 1, 0], &changed), 1);
+            let told = compare_and_back(run, &capture_of(&[0, 8, 1, 0], &changed), 2);
+            run.expect_told(told, flags_told(flags, at + 1));
         }
         let mut capture = capture_of(&[0, 8, 1, 0], &parts);
         capture[10] = flags;
-        let answer = compare_roomy(run, &capture, 1);
-        run.expect(answer, if flags == 3 { 0 } else { 41 });
+        let told = compare_roomy(run, &capture, 2);
+        run.expect_told(told, (if flags == 3 { 0 } else { 41 }, 0));
     }
 }
 
@@ -255,17 +266,17 @@ fn around_the_limit(run: &mut Run) {
         run.holds(length == LONGEST, "a long capture has another length", &[]);
         each_room(run, &capture);
         for cut in [1, 2, 3, 4, 5, 255, 256, 257] {
-            let answer = compare_roomy(run, &capture[..length - cut], 1);
-            run.expect(answer, 29);
+            let told = compare_roomy(run, &capture[..length - cut], 2);
+            run.expect_told(told, (29, 0));
         }
         let mut spoilt = capture;
         // Two bytes more are not more than the limit, but more than Data Length.
         spoilt.extend_from_slice(&[0, 0]);
-        let answer = compare_roomy(run, &spoilt, 1);
-        run.expect(answer, 16);
+        let told = compare_roomy(run, &spoilt, 2);
+        run.expect_told(told, (16, 0));
         spoilt.push(0);
-        let answer = compare_roomy(run, &spoilt, 1);
-        run.expect(answer, 14);
+        let told = compare_roomy(run, &spoilt, 2);
+        run.expect_told(told, (14, 0));
     }
     for last in [228, 232, 236, 240] {
         let mut parts = in_a_row(255, 252);
@@ -273,13 +284,15 @@ fn around_the_limit(run: &mut Run) {
         let sheet = sheet_of(&profiles(1, 1), &parts);
         let full = 65_296 + 4 + last;
         let response = sent(&sheet, 0, 0, 65_535);
-        let answer = compare_roomy(run, &response, 1);
+        let told = compare_roomy(run, &response, 2);
         // A full response of more than 65,534 bytes is cut, so it is no capture.
-        run.expect(answer, if full <= LONGEST { 0 } else { 29 });
+        run.expect_told(told, (if full <= LONGEST { 0 } else { 29 }, 0));
         let mut spoilt = response;
-        spoilt[65_296 + 2] = 2;
-        let answer = compare_roomy(run, &spoilt, 1);
-        run.expect(answer, if full <= LONGEST { 5 } else { 29 });
+        for (number, spoil) in FLAG_FAULTS {
+            spoilt[65_296 + 2] = spoil(1);
+            let told = compare_roomy(run, &spoilt, 2);
+            run.expect_told(told, if full <= LONGEST { (number, 256) } else { (29, 0) });
+        }
     }
 }
 
@@ -290,8 +303,8 @@ fn random(run: &mut Run, random: &mut Random) {
         round_trip(run, &sheet);
     }
     let capture = random_capture(random, most);
-    let answer = compare_and_back(run, &capture, random.below(4));
-    run.expect(answer, 0);
+    let told = compare_and_back(run, &capture, random.below(4));
+    run.expect_told(told, (0, 0));
     let length = sheet_length(&capture).unwrap_or(0);
     let given = Given::new(&capture);
     compare(run, &given, random.below(length + 9), random.below(4));
@@ -299,7 +312,7 @@ fn random(run: &mut Run, random: &mut Random) {
     for _ in 0..8 {
         damaged(run, random, &capture);
     }
-    compare_and_back(run, &random_response(random, 0).bytes, 1);
+    compare_and_back(run, &random_response(random, 0).bytes, 2);
 }
 
 /// Compares a capture that is spoilt in some fields or damaged anywhere.
@@ -312,9 +325,9 @@ fn damaged(run: &mut Run, random: &mut Random, capture: &[u8]) {
             spoil(random, &mut bytes);
         }
     }
-    let answer = compare_and_back(run, &bytes, random.below(4));
+    let told = compare_and_back(run, &bytes, random.below(4));
     // With too little room all but an accepted one get the same number.
     let room = random.below(bytes.len() + 1);
     let short = compare(run, &Given::new(&bytes), room, random.below(4));
-    run.holds(short == answer || answer == 0 && short == 42, "the room changes a refusal", &[]);
+    run.holds(short == told || told.0 == 0 && short == (42, 0), "the room changes a refusal", &[]);
 }

@@ -41,7 +41,7 @@ fn fixed(run: &mut Run) {
     for (rt, sfn) in [(0, 0), (0, 0x10), (1, 0), (1, 0x10), (2, 0), (2, 0x10)] {
         let answer = compare(run, rt, sfn, &Given::new(&good_reading(rt, sfn).response), 5);
         run.expect(answer, 0);
-        each_pair(&good_reading(rt, sfn), &reading_faults(rt, sfn), &mut |asked, number| {
+        each_pair(&good_reading(rt, sfn), &reading_faults(rt, sfn), &mut |asked, (number, _)| {
             let answer = compare(run, asked.rt, asked.sfn, &Given::new(&asked.response), 5);
             run.expect(answer, u64::from(number));
         });

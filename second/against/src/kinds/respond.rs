@@ -1,21 +1,21 @@
 //! gcf_respond.
 
-use super::commands;
+use super::{commands, SHEET};
 use crate::boundary;
 use crate::lent::{Given, Memory};
-use crate::run::{Input, Kind, Run};
+use crate::run::{told, Input, Kind, Run, Told};
 
 pub const KIND: Kind = Kind {
     name: "gcf_respond",
-    answers: || (0..=12).collect(),
+    answers: || SHEET.into_iter().chain(9..=12).collect(),
     fixed: |run| commands::fixed(run, compare),
     random: |run, random| commands::random(run, random, compare),
 };
 
 /// Compares one command.
-fn compare(run: &mut Run, sheet: &Given, command: &[u8], room: usize, numbers: usize) -> u64 {
+fn compare(run: &mut Run, sheet: &Given, command: &[u8], room: usize, numbers: usize) -> Told {
     let command = Given::new(command);
-    run.compare(
+    run.compare_told(
         &[
             Input::Bytes("sheet", sheet),
             Input::Bytes("command", &command),
@@ -24,13 +24,13 @@ fn compare(run: &mut Run, sheet: &Given, command: &[u8], room: usize, numbers: u
         Memory::numbers(numbers).with_buffer(room),
         |memory| {
             let (response, numbers) = (memory.first.part(), memory.numbers.part());
-            u64::from(boundary::respond(sheet.proved(), command.proved(), response, numbers))
+            boundary::respond(sheet.proved(), command.proved(), response, numbers)
         },
         |memory| {
-            let (number, count) =
-                second::command::respond(sheet.plain(), command.plain(), memory.first.part());
-            memory.give(&[count as u64]);
-            u64::from(number)
+            let sent = second::command::respond(sheet.plain(), command.plain(), memory.first.part());
+            let told = told(&sent);
+            memory.give(&[sent.unwrap_or(0) as u64, told.1 as u64]);
+            told
         },
     )
 }

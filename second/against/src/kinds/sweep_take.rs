@@ -162,7 +162,7 @@ fn each_two_faults(run: &mut Run, cut_in_header: bool, none_whole: bool) {
     faults.push(fault(24, |taken: &mut Taken| taken.room = 0));
     faults.push(fault(24, |taken: &mut Taken| taken.record.collected = taken.room + 1));
     faults.push(fault(24, |taken: &mut Taken| taken.record.collected = usize::MAX));
-    each_pair(&good, &faults, &mut |taken, number| {
+    each_pair(&good, &faults, &mut |taken, (number, _)| {
         let response = Given::new(&taken.response);
         for numbers in [6, 7, 3] {
             let (answer, _) = compare(run, taken.record, &response, taken.room, numbers);

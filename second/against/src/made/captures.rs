@@ -1,10 +1,11 @@
 //! Captured responses: complete ones to RT 0 from 0 that a sheet could have sent, and ones with chosen faults.
 
-use super::faults::{fault, Fault};
+use super::faults::{fault, fault_at, Fault, FLAG_FAULTS};
 use super::responses::{places, response_of, sent};
 use super::sheets::{body, in_a_row, profiles, random_parts, sheet_of, short_sheets, E};
 use super::{put16, put32, Part};
 use crate::random::Random;
+use crate::run::Told;
 use second::wire::be16;
 
 /// A capture of a profile list and descriptors behind it; its Current Profile is the one that the list gives.
@@ -66,9 +67,14 @@ pub fn good_import() -> Import {
     Import { capture: capture_of(&GOOD_LIST, &good_parts()), room: GOOD_SHEET }
 }
 
-/// A fault of a capture's bytes.
+/// A fault of a capture's bytes that has no place.
 fn of_bytes(number: u8, spoil: impl Fn(&mut Vec<u8>) + 'static) -> Fault<Import> {
-    fault(number, move |import: &mut Import| spoil(&mut import.capture))
+    of_bytes_at((number, 0), spoil)
+}
+
+/// A fault of a capture's bytes with its number and its place.
+fn of_bytes_at(told: Told, spoil: impl Fn(&mut Vec<u8>) + 'static) -> Fault<Import> {
+    fault_at(told, move |import: &mut Import| spoil(&mut import.capture))
 }
 
 /// Every fault of that capture, in the order in which they are looked for.
@@ -102,14 +108,14 @@ pub fn import_faults() -> Vec<Fault<Import>> {
         faults.push(of_bytes(29, move |bytes| put_data_length(bytes, more)));
     }
     header_faults(&mut faults);
-    for index in 0..GOOD_LIST.len() / 4 {
-        profile_faults(12 + 4 * index, index > 0, &mut faults);
+    for place in 1..=GOOD_LIST.len() / 4 {
+        profile_faults(place, &mut faults);
     }
-    for &at in &places[1..] {
-        for bit in 2..8 {
-            faults.push(of_bytes(5, move |bytes| bytes[at + 2] |= 1 << bit));
+    // Feature 0 is the first descriptor and isn't counted.
+    for (place, &at) in places.iter().enumerate().skip(1) {
+        for (number, spoil) in FLAG_FAULTS {
+            faults.push(of_bytes_at((number, place), move |bytes| bytes[at + 2] = spoil(bytes[at + 2])));
         }
-        faults.push(of_bytes(5, move |bytes| bytes[at + 2] = 2));
     }
     for room in [0, 1, 4, GOOD_SHEET - 4, GOOD_SHEET - 1] {
         faults.push(fault(42, move |import: &mut Import| import.room = room));
@@ -135,16 +141,18 @@ fn header_faults(faults: &mut Vec<Fault<Import>>) {
     }
 }
 
-/// The faults of the profile at a place; the Current Profile follows them, so that it isn't what is refused.
-fn profile_faults(at: usize, has_before: bool, faults: &mut Vec<Fault<Import>>) {
+/// The faults of the profile at a place in feature 0's list; the Current Profile follows them, so that it isn't what is
+/// refused. Of two profiles with the same number the later one is at fault.
+fn profile_faults(place: usize, faults: &mut Vec<Fault<Import>>) {
+    let at = 12 + 4 * (place - 1);
     let mut push = |spoil: fn(&mut Vec<u8>, usize)| {
-        faults.push(of_bytes(3, move |bytes| {
+        faults.push(of_bytes_at((3, place), move |bytes| {
             spoil(bytes, at);
             put_current(bytes);
         }));
     };
     push(|bytes, at| put16(bytes, at, 0));
-    if has_before {
+    if place > 1 {
         push(|bytes, at| bytes.copy_within(at - 4..at - 2, at));
         push(|bytes, at| bytes.copy_within(12..14, at));
     }

@@ -3,11 +3,12 @@
 use super::responses::{places, response_of};
 use super::sheets::{body, profiles, sheet_of};
 use super::{put16, put32, Part};
+use crate::run::Told;
 use second::wire::{be16, be32};
 
-/// A way to spoil an input, and the number it gets.
+/// A way to spoil an input, and the number and the place that it gets.
 pub struct Fault<T> {
-    pub number: u8,
+    pub told: Told,
     make: Box<dyn Fn(&mut T)>,
 }
 
@@ -18,22 +19,27 @@ impl<T> Fault<T> {
     }
 }
 
-/// A fault.
+/// A fault that has no place.
 pub fn fault<T>(number: u8, make: impl Fn(&mut T) + 'static) -> Fault<T> {
-    Fault { number, make: Box::new(make) }
+    fault_at((number, 0), make)
+}
+
+/// A fault with its number and its place.
+pub fn fault_at<T>(told: Told, make: impl Fn(&mut T) + 'static) -> Fault<T> {
+    Fault { told, make: Box::new(make) }
 }
 
 /// Shows each fault alone and each two together, made on a good input; the faults are listed in their order.
-pub fn each_pair<T: Clone>(good: &T, faults: &[Fault<T>], see: &mut dyn FnMut(&T, u8)) {
+pub fn each_pair<T: Clone>(good: &T, faults: &[Fault<T>], see: &mut dyn FnMut(&T, Told)) {
     for (at, earlier) in faults.iter().enumerate() {
         let mut alone = good.clone();
         earlier.make(&mut alone);
-        see(&alone, earlier.number);
+        see(&alone, earlier.told);
         for later in &faults[at + 1..] {
             let mut both = good.clone();
             later.make(&mut both);
             earlier.make(&mut both);
-            see(&both, earlier.number);
+            see(&both, earlier.told);
         }
     }
 }
@@ -61,18 +67,11 @@ pub fn sheet_faults() -> Vec<Fault<Vec<u8>>> {
         fault(2, |sheet: &mut Vec<u8>| put16(sheet, 2, 64)),
         fault(2, |sheet: &mut Vec<u8>| put16(sheet, 2, 65)),
     ];
-    for index in 0..3 {
-        let at = PROFILES_AT + 4 * index;
-        faults.push(fault(3, move |sheet: &mut Vec<u8>| put16(sheet, at, 0)));
-        if index > 0 {
-            faults.push(fault(3, move |sheet: &mut Vec<u8>| sheet.copy_within(at - 4..at - 2, at)));
-        }
-        faults.push(fault(3, move |sheet: &mut Vec<u8>| sheet[at + 2] = 2));
-        faults.push(fault(3, move |sheet: &mut Vec<u8>| sheet[at + 2] |= 0x80));
-        faults.push(fault(3, move |sheet: &mut Vec<u8>| sheet[at + 3] = 1));
+    for place in 1..=3 {
+        profile_faults(place, &mut faults);
     }
-    for index in 0..ENTRIES {
-        entry_faults(4 + 8 * index, index > 0, &mut faults);
+    for place in 1..=ENTRIES {
+        entry_faults(place, &mut faults);
     }
     faults.push(fault(8, |sheet: &mut Vec<u8>| sheet.push(0)));
     faults.push(fault(8, |sheet: &mut Vec<u8>| sheet.extend_from_slice(&[0; 4])));
@@ -80,39 +79,82 @@ pub fn sheet_faults() -> Vec<Fault<Vec<u8>>> {
     faults
 }
 
+/// The faults of the profile at a place; of two with the same number the later one is at fault.
+fn profile_faults(place: usize, faults: &mut Vec<Fault<Vec<u8>>>) {
+    let at = PROFILES_AT + 4 * (place - 1);
+    let mut push = |spoil: fn(&mut Vec<u8>, usize)| {
+        faults.push(fault_at((3, place), move |sheet: &mut Vec<u8>| spoil(sheet, at)));
+    };
+    push(|sheet, at| put16(sheet, at, 0));
+    if place > 1 {
+        push(|sheet, at| sheet.copy_within(at - 4..at - 2, at));
+        push(|sheet, at| sheet.copy_within(PROFILES_AT..PROFILES_AT + 2, at));
+    }
+    push(|sheet, at| sheet[at + 2] = 2);
+    push(|sheet, at| sheet[at + 2] |= 0x80);
+    push(|sheet, at| sheet[at + 3] = 1);
+}
+
 /// The faults of the entry at a place.
-fn entry_faults(at: usize, has_before: bool, faults: &mut Vec<Fault<Vec<u8>>>) {
-    faults.push(fault(4, move |sheet: &mut Vec<u8>| put16(sheet, at, 0)));
-    if has_before {
-        faults.push(fault(4, move |sheet: &mut Vec<u8>| sheet.copy_within(at - 8..at - 6, at)));
-        faults.push(fault(4, move |sheet: &mut Vec<u8>| {
+fn entry_faults(place: usize, faults: &mut Vec<Fault<Vec<u8>>>) {
+    let at = 4 + 8 * (place - 1);
+    faults.push(fault_at((4, place), move |sheet: &mut Vec<u8>| put16(sheet, at, 0)));
+    if place > 1 {
+        faults.push(fault_at((4, place), move |sheet: &mut Vec<u8>| sheet.copy_within(at - 8..at - 6, at)));
+        faults.push(fault_at((4, place), move |sheet: &mut Vec<u8>| {
             let below = be16(sheet, at - 8).wrapping_sub(1);
             put16(sheet, at, below);
         }));
     }
-    for bit in 2..8 {
-        faults.push(fault(5, move |sheet: &mut Vec<u8>| sheet[at + 2] |= 1 << bit));
+    for (number, spoil) in FLAG_FAULTS {
+        faults
+            .push(fault_at((number, place), move |sheet: &mut Vec<u8>| sheet[at + 2] = spoil(sheet[at + 2])));
     }
-    faults.push(fault(5, move |sheet: &mut Vec<u8>| sheet[at + 2] = 2));
     for more in 1..4 {
-        faults.push(fault(6, move |sheet: &mut Vec<u8>| sheet[at + 3] |= more));
+        faults.push(fault_at((6, place), move |sheet: &mut Vec<u8>| sheet[at + 3] |= more));
     }
     for bit in [0, 2, 3, 8, 24, 31] {
-        faults.push(fault(7, move |sheet: &mut Vec<u8>| {
+        faults.push(fault_at((7, place), move |sheet: &mut Vec<u8>| {
             let offset = be32(sheet, at + 4) ^ (1 << bit);
             put32(sheet, at + 4, offset);
         }));
     }
 }
 
-/// One fault of a sheet for each number.
+/// The faults of flags in the order in which they are looked for: the number, and what is done to legal flags.
+pub const FLAG_FAULTS: [(u8, fn(u8) -> u8); 9] = [
+    (5, |flags| flags | 0x80),
+    (5, |flags| flags | 0x40),
+    (5, |flags| flags | 0xFC),
+    (43, |flags| flags | 0x20),
+    (43, |flags| flags | 0x10),
+    (43, |flags| flags | 0x08),
+    (43, |flags| flags | 0x04),
+    (43, |flags| flags | 0x3C),
+    (44, |flags| flags & 0xFC | 2),
+];
+
+/// Shows a sheet of 65,535 features in a row with each fault of its last entry; it is then as it was.
+pub fn each_last_fault(sheet: &mut [u8], see: &mut dyn FnMut(&[u8], Told)) {
+    let last = 4 + 8 * 65_534;
+    let entry: [u8; 8] = sheet[last..last + 8].try_into().unwrap_or_default();
+    for (number, at, bits) in
+        [(4, 1, 0x02), (5, 2, 0x40), (43, 2, 0x04), (44, 2, entry[2] ^ 2), (6, 3, 0x02), (7, 7, 0x02)]
+    {
+        sheet[last + at] ^= bits;
+        see(sheet, (number, 65_535));
+        sheet[last..last + 8].copy_from_slice(&entry);
+    }
+}
+
+/// One fault of a sheet for each number and place.
 pub fn some_sheet_faults() -> Vec<Fault<Vec<u8>>> {
     let mut faults = sheet_faults();
-    let mut next = 1;
+    let mut seen = Vec::new();
     faults.retain(|fault| {
-        let wanted = fault.number == next;
-        next += u8::from(wanted);
-        wanted
+        let first = !seen.contains(&fault.told);
+        seen.push(fault.told);
+        first
     });
     faults
 }
