@@ -105,7 +105,21 @@ enum gcf_number {
     GCF_SHEET_BUFFER_SHORT = 42,
     /* flags in a drive sheet, beside 5 */
     GCF_VERSION_SET = 43,
-    GCF_PERSISTENT_UNCURRENT = 44
+    GCF_PERSISTENT_UNCURRENT = 44,
+    /* sense data */
+    GCF_SENSE_LENGTH = 46,
+    GCF_SENSE_CODE = 47,
+    GCF_SENSE_OTHER = 48,
+    GCF_NOT_GIVEN = 54,
+    GCF_SENSE_BUFFER_SHORT = 55
+};
+
+/* What sense data says of a command. None is 0, which stands where sense data is refused. */
+enum gcf_kind {
+    GCF_KIND_NOTHING = 1,   /* the command was accepted */
+    GCF_KIND_OPERATION = 2, /* it is no GET CONFIGURATION of 10 bytes */
+    GCF_KIND_FIELD = 3,     /* RT 3 */
+    GCF_KIND_TROUBLE = 4    /* the box's own trouble: its sheet, or its response buffer */
 };
 
 /* Sizes that are always enough. */
@@ -116,6 +130,7 @@ enum gcf_number {
 #define GCF_LISTING_MOST 245736  /* the listing of any bytes */
 #define GCF_SHEET_MOST 17039356  /* the longest drive sheet */
 #define GCF_IMPORT_MOST 131044   /* the longest sheet of a captured response */
+#define GCF_SENSE_BYTES 18       /* sense data in fixed format */
 
 /* ---- the box */
 
@@ -275,6 +290,22 @@ static inline bool gcf_conforms(gcf_profile profile, const uint8_t *response, si
  * behind feature 0.
  */
 uint8_t gcf_import(const uint8_t *response, size_t response_bytes, uint8_t *sheet, size_t sheet_bytes, uint64_t *numbers, size_t numbers_count);
+
+/* ---- sense data */
+
+/*
+ * Makes the 18 bytes of fixed-format sense data for the number that gcf_respond or gcf_respond_accepted gave, 0 too: 54 for a number that no command
+ * gives, then 55 for a buffer under GCF_SENSE_BYTES. Accepted: they stand at the front of the buffer, and only they changed. Refused: nothing changed.
+ * numbers: bytes written.
+ */
+uint8_t gcf_make_sense(uint8_t number, uint8_t *sense, size_t sense_bytes, uint64_t *numbers, size_t numbers_count);
+
+/*
+ * What received sense data means: 46 for a length other than 18, 47 for a response code other than 70h, 48 for any other bytes than gcf_make_sense
+ * writes.
+ * numbers: the kind, one of enum gcf_kind. Refused: 0.
+ */
+uint8_t gcf_read_sense(const uint8_t *sense, size_t sense_bytes, uint64_t *numbers, size_t numbers_count);
 
 #ifdef __cplusplus
 }

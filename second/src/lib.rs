@@ -11,6 +11,7 @@ pub mod lister;
 pub mod numbers;
 pub mod reading;
 pub mod refusal;
+pub mod sense;
 pub mod sheet;
 pub mod sweep;
 pub mod wire;

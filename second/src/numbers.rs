@@ -103,6 +103,18 @@ pub const VERSION_SET: u8 = 43;
 /// Persistent without Current.
 pub const PERSISTENT_UNCURRENT: u8 = 44;
 
+// The sense data.
+/// Sense data not 18 bytes.
+pub const SENSE_LENGTH: u8 = 46;
+/// Response code not 70h.
+pub const SENSE_RESPONSE_CODE: u8 = 47;
+/// Any other content that the box can't write.
+pub const SENSE_OTHER: u8 = 48;
+/// A number that no command gives.
+pub const NOT_A_COMMANDS: u8 = 54;
+/// Buffer under 18 bytes.
+pub const SENSE_BUFFER_SHORT: u8 = 55;
+
 // The wire.
 /// Operation code of GET CONFIGURATION.
 pub const OPCODE: u8 = 0x46;
@@ -132,3 +144,9 @@ pub const ENTRY_BYTES: usize = 8;
 pub const PROFILE_BYTES: usize = 4;
 /// The most profiles a sheet may list, since their list has to fit one descriptor.
 pub const PROFILES_MOST: usize = 63;
+/// Bytes of sense data in fixed format.
+pub const SENSE_BYTES: usize = 18;
+/// Response code of sense data: a current error, in fixed format.
+pub const RESPONSE_CODE: u8 = 0x70;
+/// Additional sense length: the bytes behind byte 7.
+pub const ADDITIONAL_SENSE_LENGTH: u8 = 0x0A;

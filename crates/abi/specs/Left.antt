@@ -15,6 +15,9 @@ use Rattle.sweep.specs.Sweep.{Turn}
 use Rattle.bench.specs.Bench as bench
 use Rattle.checks.specs.declared.Finding.{Finding}
 use Rattle.checks.specs.Judge.{Said}
+use Rattle.sense.specs.declared.Kind.{Kind}
+use Rattle.sense.specs.declared.Kind.the-variants.{Nothing, Operation, Field, Trouble}
+use Rattle.sense.specs.Sense.{Heard}
 
 -- B is what the buffers hold: one list, several, or none
 pub record Left (B : Type 0) : Type 0 where
@@ -29,7 +32,7 @@ left r b ns = record { number = r; buffers = b; numbers = ns }
 abbrev pub told : {B : Type 0} → ℕ → B → (ns xs : List ℕ) → Left B
 told r b ns xs = left r b (sets ns 0 xs)
 
--- a maker that takes an accepted sheet: bytes written
+-- a maker that takes an accepted sheet, or a number: bytes written
 unfoldable pub showMade : Outcome → List ℕ → Left (List ℕ)
 showMade x ns = told (x .made .refusal .number) (x .buffer) ns (x .made .count ∷ [])
 
@@ -73,3 +76,18 @@ showFinding x ns = told (x .refusal .number) tt ns (x .feature .0 ∷ [])
 -- a check of a profile: 1 and the lowest missing feature, or 0 and 0
 unfoldable pub showJudged : Said → List ℕ → Left (Unit {0})
 showJudged x ns = told (x .refusal .number) tt ns (length (x .missing) ∷ getD (x .missing) 0 0 ∷ [])
+
+-- the number that tells a kind; none of them is 0
+unfoldable pub kindNumber : Kind → ℕ
+kindNumber Nothing = 1
+kindNumber Operation = 2
+kindNumber Field = 3
+kindNumber Trouble = 4
+
+unfoldable pub kindTold : List Kind → ℕ
+kindTold [] = 0
+kindTold (k ∷ ks) = kindNumber k
+
+-- a reading of sense data: the number of its kind, 0 where it is refused
+unfoldable pub showSensed : Heard → List ℕ → Left (Unit {0})
+showSensed x ns = told (x .refusal .number) tt ns (kindTold (x .kind) ∷ [])

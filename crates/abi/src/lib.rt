@@ -15,8 +15,11 @@ ghost use Rattle.bench.specs.Bench as bench;
 ghost use Rattle.checks.specs.Check.{checked};
 ghost use Rattle.checks.specs.Judge as checks;
 ghost use Rattle.import.specs.Import.{imported};
-ghost use Rattle.abi.specs.Left.{left, showVerdict, showMade, showPlaced, readingNumbers, showRead, recordNumbers, recordOf, showStep, showTurn, showBenched, showFinding, showJudged};
+ghost use Rattle.sense.specs.Sense.{made, sensed};
+ghost use Rattle.abi.specs.Left.{left, showVerdict, showMade, showPlaced, readingNumbers, showRead, recordNumbers, recordOf, showStep, showTurn, showBenched, showFinding, showJudged, kindNumber, showSensed};
 use checks::Judgement;
+use sense::Kind;
+use sense::Sense;
 use sweep::Sweep;
 use text::Feature;
 use text::Profile;
@@ -279,4 +282,47 @@ pub extern "C" fn gcf_import(response: &[u8], sheet: &mut [u8], numbers: &mut [u
     let fault = made.refusal;
     tell2(numbers, made.count as u64, fault.place as u64);
     fault.number
+}
+
+// ---- sense data
+
+// The number that tells a kind; 0 tells none.
+fn kind_number(kind: Kind) -> u64
+    ensures { λ r. ⌜ r ≡ kindNumber kind ⌝ }
+{
+    match kind {
+        Kind::Nothing => 1,
+        Kind::Operation => 2,
+        Kind::Field => 3,
+        Kind::Trouble => 4,
+    }
+}
+
+// Makes the sense data for a number that a command gave. Numbers: bytes written.
+#[no_mangle]
+pub extern "C" fn gcf_make_sense(number: u8, sense: &mut [u8], numbers: &mut [u64]) -> u8
+    ensures { λ r. ⌜ left r (now (sense .exit)) (now (numbers .exit)) ≡ showMade (made number (now (sense .entry))) (now (numbers .entry)) ⌝ }
+{
+    let written = sense::make(number, sense);
+    let fault = written.refusal;
+    tell(numbers, 0, written.count as u64);
+    fault.number
+}
+
+// What received sense data means. Numbers: the number of the kind, 0 where it is refused.
+#[no_mangle]
+pub extern "C" fn gcf_read_sense(sense: &[u8], numbers: &mut [u64]) -> u8
+    ensures { λ r. ⌜ left r tt (now (numbers .exit)) ≡ showSensed (sensed (now (sense .entry))) (now (numbers .entry)) ⌝ }
+{
+    let meaning = sense::read(sense);
+    match meaning {
+        Sense::Means(kind) => {
+            tell(numbers, 0, kind_number(kind));
+            0
+        }
+        Sense::Refused(fault) => {
+            tell(numbers, 0, 0);
+            fault.number
+        }
+    }
 }

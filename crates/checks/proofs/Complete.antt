@@ -18,9 +18,9 @@ use Rattle.reading.specs.inner.Between.{from}
 use Rattle.reading.proofs.At.{next-is}
 use Rattle.reading.proofs.Places.{left-here, left-next, left-end, from-step}
 use Rattle.reading.proofs.Completed.{complete-zero, descs-from}
-use Rattle.checks.specs.Pick.{pick, some}
+use Rattle.base.specs.Pick.{pick, some}
 use Rattle.reading.specs.Completed.{completeFault}
-use Rattle.checks.proofs.Pick.{pick-here, pick-past}
+use Rattle.base.proofs.Pick.{pick-here, pick-past}
 
 pub four-in : (at n : ℕ) → at + 4 ≤ n → at < n
 four-in at n h = omega arith

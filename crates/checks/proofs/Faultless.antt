@@ -28,7 +28,7 @@ use Rattle.checks.specs.Check.{reported, finding, firstFinding, checkedA
 use Rattle.checks.specs.Faultless.{Fits, Faultless, Passes}
 use Rattle.checks.proofs.Bools.{not-yes, not-no, and-false, false-and, and-true, true-and, or-false, false-or}
 use Rattle.checks.proofs.Calls.{if-yes, if-no}
-use Rattle.checks.proofs.Pick.{pick-here, pick-past, pick-never}
+use Rattle.base.proofs.Pick.{pick-here, pick-past, pick-never}
 use Rattle.checks.proofs.Findings.{next-none, next-zero, core-there}
 
 -- ---- a bit is 0 or 1

@@ -1,5 +1,4 @@
 -- Laws that this crate's proofs and those above it cite.
-pub mod Pick
 pub mod Rows
 pub mod Bools
 pub mod Calls

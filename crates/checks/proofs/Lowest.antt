@@ -15,12 +15,12 @@ use Rattle.refusal.proofs.First.{unless-none, unless-fault}
 use Rattle.text.specs.Drive.{Desc}
 use Rattle.checks.specs.declared.Judgement.the-variants.{Refused}
 use Rattle.checks.specs.declared.required.Need.{Need}
-use Rattle.checks.specs.Pick.{pick, some}
+use Rattle.base.specs.Pick.{pick, some}
 use Rattle.reading.specs.Places.{descs}
 use Rattle.checks.specs.Required.{required, lacks}
 use Rattle.checks.specs.Judge.{Said, says, said, lowest, judgeFault, judged}
 use Rattle.checks.proofs.Bools.{and-true, true-and, false-and}
-use Rattle.checks.proofs.Pick.{pick-here, pick-past}
+use Rattle.base.proofs.Pick.{pick-here, pick-past}
 
 -- ---- what holds of every line, by one computed test
 

@@ -17,11 +17,11 @@ use Rattle.refusal.proofs.First.{orElse-accepts, if-accepts, first-accepts}
 use Rattle.text.specs.Drive.{Desc}
 use Rattle.text.proofs.FlagsRule.{flags-good}
 use Rattle.checks.specs.declared.legal.Row.{Row}
-use Rattle.checks.specs.Pick.{pick}
+use Rattle.base.specs.Pick.{pick}
 use Rattle.checks.specs.Legal.{legal, other, rowOf}
 use Rattle.checks.specs.Rules.{flagsFault, maskAt, bodyFault, profilesFault, descFault}
 use Rattle.checks.specs.Faultless.{Faultless}
-use Rattle.checks.proofs.Pick.{pick-here, pick-past}
+use Rattle.base.proofs.Pick.{pick-here, pick-past}
 use Rattle.checks.proofs.Faultless.{desc-accept}
 
 -- a row with the number FFFFh is the one for other features, which the table does not have

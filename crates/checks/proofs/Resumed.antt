@@ -20,12 +20,12 @@ use Rattle.reading.specs.inner.Between.{from}
 use Rattle.reading.proofs.Places.{from-step, from-end}
 use Rattle.reading.proofs.Completed.{descs-from}
 use Rattle.checks.specs.declared.required.Need.{Need}
-use Rattle.checks.specs.Pick.{pick, some}
+use Rattle.base.specs.Pick.{pick, some}
 use Rattle.checks.specs.Required.{required, gives, lacks}
 use Rattle.checks.specs.Judge.{Said, says, lowest}
 use Rattle.checks.specs.inner.Resumed.{notBelow, leftFor, firstGives, lacksFirst}
 use Rattle.checks.proofs.Bools.{and-true, and-no}
-use Rattle.checks.proofs.Pick.{pick-here, pick-past}
+use Rattle.base.proofs.Pick.{pick-here, pick-past}
 use Rattle.checks.proofs.Lowest.{every, every-all, notAbove, ascends, required-ascends}
 
 -- ---- the descriptors from the first on that is not below a feature

@@ -7,7 +7,7 @@ use native.Mathlib.Omega.{arith}
 use lib.Dec.{eqb}
 use Rattle.checks.specs.declared.legal.Row.{Row}
 use Rattle.checks.specs.Legal.{legal, other, rowOf}
-use Rattle.checks.proofs.Pick.{pick-never}
+use Rattle.base.proofs.Pick.{pick-never}
 
 -- no row is above 002Fh
 pub row-above : (f : ℕ) → 0x2F < f → rowOf f ≡ other

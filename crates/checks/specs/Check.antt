@@ -7,7 +7,7 @@ use Rattle.refusal.specs.declared.Refusal.{Refusal}
 use Rattle.refusal.specs.First.{refuse, accept, _if_else_}
 use Rattle.text.specs.Drive.{Desc}
 use Rattle.checks.specs.declared.Finding.{Finding}
-use Rattle.checks.specs.Pick.{pick, some}
+use Rattle.base.specs.Pick.{pick, some}
 use Rattle.checks.specs.Rules.{descFault}
 use Rattle.reading.specs.Places.{descs}
 use Rattle.reading.specs.Completed.{completeFault}

@@ -7,7 +7,7 @@ use Rattle.refusal.specs.First.{refuse, accept, _if_else_, _orElse_, unless}
 use Rattle.text.specs.Drive.{Desc}
 use Rattle.checks.specs.declared.Judgement.{Judgement}
 use Rattle.checks.specs.declared.Judgement.the-variants.{Conforms, Missing, Refused}
-use Rattle.checks.specs.Pick.{pick}
+use Rattle.base.specs.Pick.{pick}
 use Rattle.reading.specs.Places.{descs}
 use Rattle.reading.specs.Completed.{completeFault}
 use Rattle.checks.specs.Required.{required, lacks, hasTable}

@@ -6,7 +6,7 @@ use lib.Dec.{eqb}
 use Rattle.checks.specs.declared.legal.Length.{Length}
 use Rattle.checks.specs.declared.legal.Length.the-variants.{Any, Exactly, Counted}
 use Rattle.checks.specs.declared.legal.Row.{Row}
-use Rattle.checks.specs.Pick.{pick}
+use Rattle.base.specs.Pick.{pick}
 
 -- bit k of a byte; bits h to l; all and none
 abbrev pub bitAt : ℕ → ℕ

@@ -1,4 +1,3 @@
-pub mod Pick
 pub mod Legal
 pub mod Rules
 pub mod Check

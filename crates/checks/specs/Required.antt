@@ -7,7 +7,7 @@ use lib.Dec.{leb, eqb}
 use lib.ListN.{length, getD}
 use Rattle.text.specs.Drive.{Desc}
 use Rattle.checks.specs.declared.required.Need.{Need}
-use Rattle.checks.specs.Pick.{some}
+use Rattle.base.specs.Pick.{some}
 use Rattle.checks.specs.Legal.{bitAt}
 
 -- a profile needs a feature; and it needs one with a length of at least so many, and these bits set in this byte, counted from the descriptor's

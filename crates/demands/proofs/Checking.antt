@@ -35,7 +35,7 @@ use Rattle.checks.specs.declared.Finding.{Finding}
 use Rattle.checks.specs.declared.legal.Row.{Row}
 use Rattle.checks.specs.declared.required.Need.{Need}
 use Rattle.checks.specs.Legal.{rowOf}
-use Rattle.checks.specs.Pick.{pick}
+use Rattle.base.specs.Pick.{pick}
 use Rattle.checks.specs.Rules.{byteOf, flagsFault, rowRule, reservedRule, reservedAt, cueRule, profileAt, profilesFault, bodyFault, descFault}
 use Rattle.reading.specs.Places.{descs}
 use Rattle.reading.specs.Completed.{completeFault}
@@ -46,7 +46,7 @@ use Rattle.checks.specs.Judge.{Said, says, judged}
 use Rattle.checks.proofs.Bools.{not-yes, not-no}
 use Rattle.checks.proofs.Calls.{if-yes, if-no}
 use Rattle.checks.proofs.Findings.{next-none, next-fault}
-use Rattle.checks.proofs.Pick.{pick-here, pick-past}
+use Rattle.base.proofs.Pick.{pick-here, pick-past}
 use Rattle.checks.proofs.Faultless.{passes-of, of-passes}
 use Rattle.checks.proofs.Lowest.{Least, conforms-all, missing-lowest}
 

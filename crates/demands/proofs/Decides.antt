@@ -76,6 +76,9 @@ use Rattle.sweep.proofs.Sweep.take as sweep-take
 use Rattle.sweep.proofs.take_response as take-response
 use Rattle.capture.proofs.check as capture-check
 use Rattle.import.proofs.import as import
+use Rattle.sense.proofs.make as sense-make
+use Rattle.sense.proofs.read as sense-read
+use Rattle.sense.proofs.Picked.{heard-injective}
 use Rattle.abi.specs.Left.{Left}
 use Rattle.abi.proofs.gcf_check_sheet as gcf-check-sheet
 use Rattle.abi.proofs.gcf_respond as gcf-respond
@@ -90,6 +93,8 @@ use Rattle.abi.proofs.gcf_bench as gcf-bench
 use Rattle.abi.proofs.gcf_check_descriptors as gcf-check-descriptors
 use Rattle.abi.proofs.gcf_check_profile as gcf-check-profile
 use Rattle.abi.proofs.gcf_import as gcf-import
+use Rattle.abi.proofs.gcf_make_sense as gcf-make-sense
+use Rattle.abi.proofs.gcf_read_sense as gcf-read-sense
 
 -- ---- fields
 
@@ -326,6 +331,14 @@ capture-check-decided x = decides (x .𝓤) (λ o o′ p q. (joined p q, refl))
 pub import-decided : Decided import.ended (λ M. import.clauses) (λ M. import.spec)
 import-decided x = decides (x .𝓤) (λ o o′ p q. (ap (λ (z : Outcome). z .made) (joined p q), refl & ap (λ (z : Outcome). z .buffer) (joined p q) & refl))
 
+-- ---- sense
+
+pub sense-make-decided : Decided sense-make.ended (λ M. sense-make.clauses) (λ M. sense-make.spec)
+sense-make-decided x = decides (x .𝓤) (λ o o′ p q. (ap (λ (z : Outcome). z .made) (joined p q), refl & ap (λ (z : Outcome). z .buffer) (joined p q) & refl))
+
+pub sense-read-decided : Decided sense-read.ended (λ M. sense-read.clauses) (λ M. sense-read.spec)
+sense-read-decided x = decides (x .𝓤) (λ o o′ p q. (heard-injective (o .0) (o′ .0) (joined p q), refl))
+
 -- ---- abi: what is left in the buffers and in the array of numbers
 
 number : {B : Type 0} {a b : Left B} → a ≡ b → a .number ≡ b .number
@@ -378,3 +391,9 @@ gcf-check-profile-decided x = decides (x .𝓤) (λ o o′ p q. (number (joined 
 
 pub gcf-import-decided : Decided gcf-import.ended (λ M. gcf-import.clauses) (λ M. gcf-import.spec)
 gcf-import-decided x = decides (x .𝓤) (λ o o′ p q. (number (joined p q), refl & buffers (joined p q) & numbers (joined p q) & refl))
+
+pub gcf-make-sense-decided : Decided gcf-make-sense.ended (λ M. gcf-make-sense.clauses) (λ M. gcf-make-sense.spec)
+gcf-make-sense-decided x = decides (x .𝓤) (λ o o′ p q. (number (joined p q), refl & buffers (joined p q) & numbers (joined p q) & refl))
+
+pub gcf-read-sense-decided : Decided gcf-read-sense.ended (λ M. gcf-read-sense.clauses) (λ M. gcf-read-sense.spec)
+gcf-read-sense-decided x = decides (x .𝓤) (λ o o′ p q. (number (joined p q), refl & numbers (joined p q) & refl))

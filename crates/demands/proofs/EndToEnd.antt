@@ -1,5 +1,5 @@
 -- Two calls, one after the other, over the functions' own contracts: what `respond` leaves in the buffer is read by `read`; the sheet that `import` leaves
--- is answered from by `respond`; and `gcf_respond` leaves what `respond` leaves. Assumes nothing.
+-- is answered from by `respond`; what `sense::make` wrote is read by `sense::read`; and `gcf_respond` leaves what `respond` leaves. Assumes nothing.
 use mathlib.Core.Path.{_≡_, refl, sym, ap, _∙_}
 use mathlib.Core.List.{List}
 use Prim.Native.Nat.{ℕ, zero, suc, _≤_}
@@ -24,12 +24,16 @@ use Rattle.responder.specs.Answer.{due}
 use Rattle.responder.proofs.respond as respond
 use Rattle.reading.proofs.read as read
 use Rattle.import.proofs.import as import
+use Rattle.sense.specs.Sense.{heard, kindOf, sensed}
+use Rattle.sense.proofs.make as sense-make
+use Rattle.sense.proofs.read as sense-read
 use Rattle.abi.specs.Left.{left, showPlaced}
 use Rattle.abi.proofs.gcf_respond as gcf-respond
 use Rattle.base.proofs.Promise.{by, beside, both}
 use Rattle.demands.proofs.Sending.{Answers, demand2}
 use Rattle.demands.proofs.Readings.{ReadBack, Reads, reads}
 use Rattle.demands.proofs.Importing.{Imports, imports}
+use Rattle.demands.proofs.Senses.{Makes, makes-sense}
 
 -- ---- what an answer without a number says
 
@@ -113,6 +117,17 @@ module _ (x : Call import.ended (λ M. import.clauses)) (κs : Lfts (respond.end
       → length (x .args .0 .now) ≤ allocationOf (args .1 .0 .now) → length (x .args .0 .now) ≤ length (args .1 .1 .0 .now)
       → maker.outcome (p .0) (p .1 .1 .1 .0) ≡ maker.making (x .args .0 .now) (args .1 .1 .0 .now)))
   import-end-to-end o p = both (x .𝓤) (λ e f. replayed (by (Imports _ _) (imports _ _) e) (by (Answers _ _ _) (demand2 _ _ _) f))
+
+-- ---- sense data end to end: `make` is called, then `read` with the bytes that it wrote
+
+module _ (x : Call sense-make.ended (λ M. sense-make.clauses)) (κs : Lfts (sense-read.ended .signature .lifetimes)) (args : Args (sense-read.ended .signature) κs) where
+  abbrev asked-after : Call sense-read.ended (λ M. sense-read.clauses)
+  asked-after = beside x κs args tt
+
+  pub sense-end-to-end : (o : Outcome sense-make.ended (λ M. sense-make.clauses) x) (p : Outcome sense-read.ended (λ M. sense-read.clauses) asked-after)
+      → ent (x .𝓤) (conj (x .𝓤) (allowed sense-make.ended (λ M. sense-make.clauses) x o) (allowed sense-read.ended (λ M. sense-read.clauses) asked-after p)) (fact (x .𝓤) (
+      o .0 .refusal .number ≡ 0 → args .0 .now ≡ take (o .0 .count) (o .1 .1 .0) → heard (p .0) ≡ kindOf (x .args .0)))
+  sense-end-to-end o p = both (x .𝓤) (λ e f z there. f ∙ ap sensed there ∙ by (Makes _ _) (makes-sense _ _) e .back z)
 
 -- ---- `gcf_respond` leaves what `respond` answers and leaves, called with the same sheet, command and buffer
 

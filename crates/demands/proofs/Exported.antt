@@ -22,6 +22,8 @@ use Rattle.abi.proofs.gcf_bench as gcf-bench
 use Rattle.abi.proofs.gcf_check_descriptors as gcf-check-descriptors
 use Rattle.abi.proofs.gcf_check_profile as gcf-check-profile
 use Rattle.abi.proofs.gcf_import as gcf-import
+use Rattle.abi.proofs.gcf_make_sense as gcf-make-sense
+use Rattle.abi.proofs.gcf_read_sense as gcf-read-sense
 use Rattle.base.proofs.Promise.{Promised, promises, by, Shows, shows}
 use Rattle.reading.proofs.Promised.{Holds, holds}
 use Rattle.demands.proofs.Sheets.{Checks, checks}
@@ -32,6 +34,7 @@ use Rattle.demands.proofs.Steps.{Starts, starts, Takes, takes}
 use Rattle.demands.proofs.Sweeping.{Benches, benches}
 use Rattle.demands.proofs.Checking.{Finds, finds, Judges, judges}
 use Rattle.demands.proofs.Importing.{Imports, imports}
+use Rattle.demands.proofs.Senses.{Makes, makes-sense, Senses, senses}
 
 -- ---- the box
 
@@ -109,3 +112,13 @@ gcf-check-profile-tied x = promises (x .𝓤) (λ o. shows _ (judges _ _))
 pub gcf-import-tied : Promised gcf-import.ended (λ M. gcf-import.clauses) (λ M. gcf-import.spec)
     (λ x o. Shows (Imports (x .args .0 .now) (x .args .1 .0 .now)) (λ z. abi.showPlaced z (x .args .1 .1 .0 .now)) (left (o .0) (o .1 .1 .0) (o .1 .1 .1 .0)))
 gcf-import-tied x = promises (x .𝓤) (λ o. shows _ (imports _ _))
+
+-- ---- sense
+
+pub gcf-make-sense-tied : Promised gcf-make-sense.ended (λ M. gcf-make-sense.clauses) (λ M. gcf-make-sense.spec)
+    (λ x o. Shows (Makes (x .args .0) (x .args .1 .0 .now)) (λ z. abi.showMade z (x .args .1 .1 .0 .now)) (left (o .0) (o .1 .1 .0) (o .1 .1 .1 .0)))
+gcf-make-sense-tied x = promises (x .𝓤) (λ o. shows _ (makes-sense _ _))
+
+pub gcf-read-sense-tied : Promised gcf-read-sense.ended (λ M. gcf-read-sense.clauses) (λ M. gcf-read-sense.spec)
+    (λ x o. Shows (Senses (x .args .0 .now)) (λ z. abi.showSensed z (x .args .1 .0 .now)) (left (o .0) tt (o .1 .1 .0)))
+gcf-read-sense-tied x = promises (x .𝓤) (λ o. shows _ (senses _))

@@ -8,6 +8,7 @@ pub mod Sweeping
 pub mod Checking
 pub mod Capturing
 pub mod Importing
+pub mod Senses
 pub mod Stars
 pub mod Decides
 pub mod Ground

@@ -18,7 +18,7 @@ use Rattle.text.specs.Reading as text
 use Rattle.sweep.specs.Sweep as sweep
 use Rattle.bench.specs.Bench as bench
 use Rattle.reading.specs.Completed as completed
-use Rattle.checks.specs.Pick as pick
+use Rattle.base.specs.Pick as pick
 use Rattle.checks.specs.Required as required
 use Rattle.checks.specs.Judge as judge
 use Rattle.demands.specs.Star.{Star, shown, asked, sweptNumbers, swept, judgedNumbers, stars}

@@ -29,6 +29,9 @@ use Rattle.checks.proofs.check_descriptors as check-descriptors
 use Rattle.checks.proofs.check_profile as check-profile
 use Rattle.capture.proofs.check as capture-check
 use Rattle.import.proofs.import as import
+use Rattle.sense.specs.Sense.{heard}
+use Rattle.sense.proofs.make as sense-make
+use Rattle.sense.proofs.read as sense-read
 use Rattle.demands.proofs.Sheets.{Checks, checks}
 use Rattle.demands.proofs.Sending.{Answers, demand2, Trusts, trusts, Serves, serves, Sizes, sizes, ServesSized, serves-sized}
 use Rattle.demands.proofs.Readings.{Reads, reads, Scans, scans}
@@ -38,6 +41,7 @@ use Rattle.demands.proofs.Sweeping.{Benches, benches}
 use Rattle.demands.proofs.Checking.{Finds, finds, Judges, judges}
 use Rattle.demands.proofs.Capturing.{Captures, captures}
 use Rattle.demands.proofs.Importing.{Imports, imports}
+use Rattle.demands.proofs.Senses.{Makes, makes-sense, Senses, senses}
 
 -- ---- sheet
 
@@ -121,3 +125,11 @@ capture-check-tied x = promises (x .𝓤) (λ o. by (Captures _) (captures _))
 
 pub import-tied : Promised import.ended (λ M. import.clauses) (λ M. import.spec) (λ x o. Imports (x .args .0 .now) (x .args .1 .0 .now) (outcome (o .0) (o .1 .1 .0)))
 import-tied x = promises (x .𝓤) (λ o. by (Imports _ _) (imports _ _))
+
+-- ---- sense
+
+pub sense-make-tied : Promised sense-make.ended (λ M. sense-make.clauses) (λ M. sense-make.spec) (λ x o. Makes (x .args .0) (x .args .1 .0 .now) (outcome (o .0) (o .1 .1 .0)))
+sense-make-tied x = promises (x .𝓤) (λ o. by (Makes _ _) (makes-sense _ _))
+
+pub sense-read-tied : Promised sense-read.ended (λ M. sense-read.clauses) (λ M. sense-read.spec) (λ x o. Senses (x .args .0 .now) (heard (o .0)))
+sense-read-tied x = promises (x .𝓤) (λ o. by (Senses _) (senses _))

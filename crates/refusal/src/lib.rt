@@ -250,3 +250,29 @@ pub const PERSISTENT_UNCURRENT: Refusal = Refusal {
     number: 44,
     place: 0,
 };
+
+// The refusals of reading sense bytes, and of making them.
+pub const SENSE_LENGTH: Refusal = Refusal {
+    number: 46,
+    place: 0,
+};
+
+pub const SENSE_CODE: Refusal = Refusal {
+    number: 47,
+    place: 0,
+};
+
+pub const SENSE_OTHER: Refusal = Refusal {
+    number: 48,
+    place: 0,
+};
+
+pub const NOT_GIVEN: Refusal = Refusal {
+    number: 54,
+    place: 0,
+};
+
+pub const SENSE_BUFFER_SHORT: Refusal = Refusal {
+    number: 55,
+    place: 0,
+};

@@ -90,13 +90,26 @@ fn say_flags(fd: i32, number: u8) {
     }
 }
 
-// Says what a refusal means; of the five tables just one has its number.
+// Those of sense data: its reader's, and its maker's.
+fn say_sense(fd: i32, number: u8) {
+    match number {
+        46 => say(fd, b"the sense data has not 18 bytes"),
+        47 => say(fd, b"the response code is not 70h"),
+        48 => say(fd, b"the box does not write such sense data"),
+        54 => say(fd, b"no command gives this number"),
+        55 => say(fd, b"the buffer for sense data has under 18 bytes"),
+        _ => {}
+    }
+}
+
+// Says what a refusal means; of the six tables just one has its number.
 pub fn say_meaning(fd: i32, refusal: Refusal) {
     say_box(fd, refusal.number);
     say_reading(fd, refusal.number);
     say_sweep(fd, refusal.number);
     say_finding(fd, refusal.number);
     say_flags(fd, refusal.number);
+    say_sense(fd, refusal.number);
 }
 
 // An upper-case hexadecimal digit.

@@ -104,6 +104,14 @@ extern "C" {
         numbers: *mut u64,
         numbers_len: usize,
     ) -> u8;
+    fn gcf_make_sense(
+        number: u8,
+        sense: *mut u8,
+        sense_len: usize,
+        numbers: *mut u64,
+        numbers_len: usize,
+    ) -> u8;
+    fn gcf_read_sense(sense: *const u8, sense_len: usize, numbers: *mut u64, numbers_len: usize) -> u8;
 }
 
 /// Checks a sheet; the numbers are: place.
@@ -258,4 +266,14 @@ pub fn import(response: &[u8], sheet: &mut [u8], numbers: &mut [u64]) -> u8 {
             numbers.len(),
         )
     }
+}
+
+/// Makes sense data for a number; the numbers are: bytes written.
+pub fn make_sense(number: u8, sense: &mut [u8], numbers: &mut [u64]) -> u8 {
+    unsafe { gcf_make_sense(number, sense.as_mut_ptr(), sense.len(), numbers.as_mut_ptr(), numbers.len()) }
+}
+
+/// Reads sense data; the numbers are: its kind.
+pub fn read_sense(sense: &[u8], numbers: &mut [u64]) -> u8 {
+    unsafe { gcf_read_sense(sense.as_ptr(), sense.len(), numbers.as_mut_ptr(), numbers.len()) }
 }

@@ -5,6 +5,7 @@ mod fast;
 mod import;
 mod places;
 mod refusals;
+mod sense;
 mod sheets;
 mod worked;
 

@@ -9,8 +9,10 @@ mod commands;
 mod held;
 mod import;
 mod list;
+mod make_sense;
 mod most;
 mod read;
+mod read_sense;
 mod respond;
 mod respond_accepted;
 mod sweep_start;
@@ -34,6 +36,8 @@ pub const KINDS: &[Kind] = &[
     check_descriptors::KIND,
     check_profile::KIND,
     import::KIND,
+    make_sense::KIND,
+    read_sense::KIND,
 ];
 
 /// A record as the numbers of a result.

@@ -7,7 +7,7 @@ use native.Mathlib.Omega.{arith}
 use lib.Dec.{eqb}
 use lib.ListN.{length}
 use Rattle.checks.specs.Legal.{legal, other, rowOf}
-use Rattle.checks.proofs.Pick.{left, pick-found, pick-next, pick-none}
+use Rattle.base.proofs.Pick.{left, pick-found, pick-next, pick-none}
 use Rattle.checks.proofs.legal.listed.Statement.{statement}
 use Rattle.checks.proofs.legal.listed.Tie as tie
 

@@ -7,7 +7,7 @@ use mathlib.Core.Path.{_≡_, refl}
 use native.Mathlib.Omega.{arith}
 use lib.Dec.{eqb}
 use lib.ListN.{length}
-use Rattle.checks.proofs.Pick.{left, pick-found, pick-next, pick-none}
+use Rattle.base.proofs.Pick.{left, pick-found, pick-next, pick-none}
 use Rattle.checks.specs.Required.{required, hasTable}
 use Rattle.checks.proofs.required.has_table.Statement.{statement}
 use Rattle.checks.proofs.required.has_table.Tie as tie

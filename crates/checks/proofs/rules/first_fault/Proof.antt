@@ -5,7 +5,7 @@ use mathlib.Core.Bool.{not}
 use mathlib.Core.Path.{_≡_}
 use lib.Dec.{eqb}
 use lib.ListN.{length}
-use Rattle.checks.specs.Pick.{pick}
+use Rattle.base.specs.Pick.{pick}
 use Rattle.reading.specs.Places.{descs}
 use Rattle.reading.specs.inner.Between.{from}
 use Rattle.reading.proofs.Places.{from-less}

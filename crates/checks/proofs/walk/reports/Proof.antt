@@ -5,7 +5,7 @@ use mathlib.Core.Path.{_≡_}
 use lib.Dec.{eqb}
 use lib.ListN.{length}
 use Rattle.text.specs.Reading.{descAt}
-use Rattle.checks.specs.Pick.{some}
+use Rattle.base.specs.Pick.{some}
 use Rattle.checks.specs.Check.{reported}
 use Rattle.checks.proofs.Calls.{call-ne, below-ne}
 use Rattle.reading.specs.Places.{descs}

@@ -6,8 +6,8 @@ use Prim.Native.Nat.{ℕ, suc, _+_, _≤_, _<_}
 use native.Mathlib.Numerals.{add-one}
 use lib.ListN.{length, getD, drop, drop-of-length-le}
 use lib.Seq.{drop-cons}
 use Rattle.base.specs.Lists.{All}
-use Rattle.checks.specs.Pick.{pick}
+use Rattle.base.specs.Pick.{pick}
 
 module _ {A B : Type 0} (test : A → Bool) (found : A → B) (none : B) where
   pub pick-here : (x : A) (xs : List A) → test x ≡ true → pick test found none (x ∷ xs) ≡ found x

@@ -1,0 +1,190 @@
+-- Sense bytes: "9 and 10 give ILLEGAL REQUEST with invalid command operation code; 11 gives invalid field in CDB; an accepted command gives NO SENSE.
+-- Sheet faults and 12 are the box's own trouble"; "reading what was made gives that kind back for every number a command can give". `kindOf` is the table of
+-- these numbers, `senseOf` the bytes of each kind (crates/sense/specs/Sense.antt). Assumes nothing.
+use mathlib.Core.Path.{_≡_, refl, sym, ap, subst, _∙_}
+use mathlib.Core.List.{List, [], _∷_}
+use Prim.Native.Nat.{ℕ, suc, _%_, _≤_, _<_}
+use lib.ListN.{length, getD, take, replicate}
+use Rattle.base.specs.Lists.{each, flat, keep, All}
+use Rattle.base.specs.Pick.{pick}
+use Rattle.base.proofs.Promise.{Promised, promises, by}
+use Rattle.fields.specs.Field.{field, spell}
+use Rattle.refusal.specs.First.{refuse, accept, _if_else_, pickZero, _orElse_, firstOf, unless, placed}
+use Rattle.refusal.proofs.Numbers.{if-holds, orElse-holds, first-holds, placed-holds}
+use Rattle.text.specs.Flags as flags
+use Rattle.text.specs.Command.{opcodeOf, rtOf, sfnOf, allocationOf, commandFault}
+use Rattle.text.specs.Drive.{profileBytes}
+use Rattle.text.specs.Response.{bytes, feature0, all, wants, selected, currentProfile, header, dataLength, full, sent}
+use Rattle.layout.specs.Layout as layout
+use Rattle.profiles.specs.Profiles as profiles
+use Rattle.sheet.specs.Check.{numberBefore, endBefore, flagsRule, entryRule, entryFault, counted, verdict}
+use Rattle.sheet.specs.Meaning.{desc, meaning}
+use Rattle.lent.specs.Maker.{Outcome, refusing, making, makes}
+use Rattle.lent.proofs.Maker.{makes-number}
+use Rattle.responder.specs.Answer.{due, answered}
+use Rattle.responder.proofs.respond as respond
+use Rattle.abi.specs.Left.{Left, showPlaced}
+use Rattle.abi.proofs.gcf_respond as gcf-respond
+use Rattle.sense.specs.declared.Kind.{Kind}
+use Rattle.sense.specs.declared.Sense.the-variants.{Means, Refused}
+use Rattle.sense.specs.Sense.{Heard, heard, given, kindOf, senseOf, made, sensed}
+use Rattle.sense.proofs.RoundTrip.{taken, each-taken, Written, sense-read, read-made, accepted-written}
+use Rattle.sense.proofs.Cases.{made-kind, made-other, made-short, sensed-length, sensed-code, sensed-other}
+use Rattle.demands.specs.Recorder.{command}
+
+-- Of an outcome o of the number n and the buffer d: the 18 bytes of the number's kind, and nothing behind them changed; for a number that no command
+-- gives 54, then 55, "buffer unchanged". Reading what was made gives the number's kind back.
+pub record Makes (n : ℕ) (d : List ℕ) (o : Outcome) : Type 0 where
+  pub writes : (k : Kind) → kindOf n ≡ heard (Means k) → 18 ≤ length d → o ≡ making (senseOf k) d
+  pub refuses-number : (kindOf n .refusal .number ≡ 0 → ⊥) → o ≡ refusing d (refuse 54)
+  pub refuses-room : kindOf n .refusal .number ≡ 0 → length d < 18 → o ≡ refusing d (refuse 55)
+  pub back : o .made .refusal .number ≡ 0 → sensed (take (o .made .count) (o .buffer)) ≡ kindOf n
+
+pub makes-sense : (n : ℕ) (d : List ℕ) → Makes n d (made n d)
+makes-sense n d = record { writes = made-kind n d; refuses-number = made-other n d; refuses-room = made-short n d; back = read-made n d }
+
+-- Of an answer x to the bytes s: the kind whose bytes they are; 46, 47, 48 in this order; and no other bytes are accepted than the maker writes.
+pub record Senses (s : List ℕ) (x : Heard) : Type 0 where
+  pub means : (k : Kind) → s ≡ senseOf k → x ≡ heard (Means k)
+  pub refuses-length : (length s ≡ 18 → ⊥) → x ≡ heard (Refused (refuse 46))
+  pub refuses-code : length s ≡ 18 → (getD s 0 0 % 128 ≡ 0x70 → ⊥) → x ≡ heard (Refused (refuse 47))
+  pub refuses-other : length s ≡ 18 → getD s 0 0 % 128 ≡ 0x70 → ((k : Kind) → s ≡ senseOf k → ⊥) → x ≡ heard (Refused (refuse 48))
+  pub written : x .refusal .number ≡ 0 → Written s
+
+pub senses : (s : List ℕ) → Senses s (sensed s)
+senses s =
+    record {
+      means = λ k e. ap sensed e ∙ sense-read k;
+      refuses-length = sensed-length s;
+      refuses-code = sensed-code s;
+      refuses-other = sensed-other s;
+      written = accepted-written s;
+    }
+
+-- ---- the maker takes exactly the numbers that a command can give
+
+-- the maker takes the number n
+abbrev pub Taken : ℕ → Type 0
+Taken n = kindOf n .refusal .number ≡ 0
+
+flags-taken : (f : ℕ) → Taken (flagsRule f .number)
+unfolding flagsRule flags.flagsGiving pick given kindOf
+flags-taken f =
+    orElse-holds Taken _ _ (if-holds Taken (refuse 5) _ accept refl refl)
+    (orElse-holds Taken _ _ (if-holds Taken (refuse 43) _ accept refl refl) (if-holds Taken (refuse 44) _ accept refl refl))
+
+entry-taken : (s : List ℕ) (i : ℕ) → Taken (entryFault s i .number)
+unfolding entryRule entryFault pick given kindOf
+entry-taken s i =
+    placed-holds Taken _ (suc i)
+    (if-holds Taken (refuse 4) _ _ refl
+    (if-holds Taken (refuse 4) _ _ refl
+    (orElse-holds Taken _ _ (flags-taken (layout.flags s i))
+    (if-holds Taken (refuse 6) _ _ refl (if-holds Taken (refuse 7) _ accept refl refl)))))
+
+record-taken : (b : List ℕ) (i : ℕ) → Taken (profiles.recordFault b i .number)
+unfolding profiles.recordRule profiles.recordFault pick given kindOf
+record-taken b i =
+    placed-holds Taken _ (suc i)
+    (if-holds Taken (refuse 3) _ _ refl
+    (if-holds Taken (refuse 3) _ _ refl (if-holds Taken (refuse 3) _ _ refl (if-holds Taken (refuse 3) _ accept refl refl))))
+
+verdict-taken : (s : List ℕ) → Taken (verdict s .number)
+unfolding profiles.recordsFault counted verdict pick given kindOf
+verdict-taken s =
+    if-holds Taken (refuse 1) _ _ refl
+    (if-holds Taken (refuse 1) _ _ refl
+    (if-holds Taken (refuse 2) _ _ refl
+    (orElse-holds Taken _ _ (first-holds Taken (profiles.recordFault (layout.profilesPart s)) refl (record-taken (layout.profilesPart s)) 0 _)
+    (orElse-holds Taken _ _ (first-holds Taken (entryFault s) refl (entry-taken s) 0 _)
+    (if-holds Taken (refuse 8) _ accept refl refl)))))
+
+command-taken : (c : List ℕ) → Taken (commandFault c .number)
+unfolding commandFault pick given kindOf
+command-taken c = if-holds Taken (refuse 9) _ _ refl (if-holds Taken (refuse 10) _ _ refl (if-holds Taken (refuse 11) _ accept refl refl))
+
+-- Whatever number a command gives, the maker takes it.
+pub answered-taken : (s c d : List ℕ) → Taken (answered s c d .made .refusal .number)
+unfolding answered pick given kindOf
+answered-taken s c d =
+    subst Taken (sym (makes-number (verdict s orElse commandFault c) 12 (due s c) d))
+    (orElse-holds Taken _ _ (orElse-holds Taken _ _ (verdict-taken s) (command-taken c)) (if-holds Taken (refuse 12) _ accept refl refl))
+
+-- And so it is with every outcome that the contract of `respond` allows.
+pub respond-taken : Promised respond.ended (λ M. respond.clauses) (λ M. respond.spec) (λ x o. Taken (o .0 .refusal .number))
+respond-taken x = promises (x .𝓤) (λ o. by (λ (z : Outcome). Taken (z .made .refusal .number)) (answered-taken _ _ _))
+
+pub gcf-respond-taken : Promised gcf-respond.ended (λ M. gcf-respond.clauses) (λ M. gcf-respond.spec) (λ x o. Taken (o .0))
+unfolding showPlaced
+gcf-respond-taken x = promises (x .𝓤) (λ o. by (λ (z : Left (List ℕ)). Taken (z .number)) (answered-taken _ _ _))
+
+-- A command gives the number n: from this sheet, for these bytes, with this buffer.
+pub record Occurs (n : ℕ) : Type 0 where
+  pub sheet : List ℕ
+  pub asked : List ℕ
+  pub buffer : List ℕ
+  pub gives : answered sheet asked buffer .made .refusal .number ≡ n
+
+occurs-in : {n : ℕ} (s c d : List ℕ) → answered s c d .made .refusal .number ≡ n → Occurs n
+occurs-in s c d e = record { sheet = s; asked = c; buffer = d; gives = e }
+
+-- a sheet with nothing; one with a single entry
+abbrev none : List ℕ
+none = 0 ∷ 0 ∷ 0 ∷ 0 ∷ []
+
+abbrev one : (number flags len offset : ℕ) → List ℕ
+one number flags len offset = 0 ∷ 1 ∷ 0 ∷ 0 ∷ 0 ∷ number ∷ flags ∷ len ∷ 0 ∷ 0 ∷ 0 ∷ offset ∷ []
+
+-- Each number of the table is given: 0 to 12, 43, 44.
+pub each-given : All Occurs taken
+unfolding each flat keep field spell _if_else_ pickZero _orElse_ firstOf placed opcodeOf rtOf sfnOf allocationOf commandFault profileBytes bytes feature0 all wants selected currentProfile header dataLength full sent layout.featureCount layout.profileCount layout.number layout.flags layout.bodyLength layout.offset layout.profilesPart profiles.profileNumber profiles.profileCurrent profiles.profileLast profiles.listed profiles.profilesOf profiles.lists profiles.recordRule profiles.recordFault profiles.recordsFault numberBefore endBefore flagsRule flags.flagsGiving entryRule entryFault counted verdict desc meaning unless refusing making makes answered command
+each-given = (
+  occurs-in none (command 0 0 0) [] refl,
+  (
+    occurs-in [] [] [] refl,
+    (
+      occurs-in (0 ∷ 0 ∷ 0 ∷ 64 ∷ replicate 256 0) [] [] refl,
+      (
+        occurs-in (0 ∷ 0 ∷ 0 ∷ 1 ∷ 0 ∷ 0 ∷ 0 ∷ 0 ∷ []) [] [] refl,
+        (
+          occurs-in (one 0 0 0 12) [] [] refl,
+          (
+            occurs-in (one 1 0x40 0 12) [] [] refl,
+            (
+              occurs-in (one 1 0 1 12) [] [] refl,
+              (
+                occurs-in (one 1 0 0 0) [] [] refl,
+                (
+                  occurs-in (0 ∷ none) [] [] refl,
+                  (
+                    occurs-in none [] [] refl,
+                    (
+                      occurs-in none (replicate 10 0) [] refl,
+                      (
+                        occurs-in none (command 3 0 0) [] refl,
+                        (
+                          occurs-in none (command 0 0 1) [] refl,
+                          (
+                            occurs-in (one 1 4 0 12) [] [] refl,
+                            (
+                              occurs-in (one 1 2 0 12) [] [] refl,
+                              tt,
+                            ),
+                          ),
+                        ),
+                      ),
+                    ),
+                  ),
+                ),
+              ),
+            ),
+          ),
+        ),
+      ),
+    ),
+  ),
+)
+
+-- So the maker takes no other number than a command gives.
+pub taken-occurs : (n : ℕ) → Taken n → Occurs n
+taken-occurs = each-taken Occurs each-given

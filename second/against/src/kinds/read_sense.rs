@@ -1,0 +1,100 @@
+//! gcf_read_sense.
+
+use crate::boundary;
+use crate::lent::{Given, Memory};
+use crate::made::damage::damage;
+use crate::random::Random;
+use crate::run::{Input, Kind, Run};
+use second::sense;
+
+pub const KIND: Kind = Kind { name: "gcf_read_sense", answers, fixed, random };
+
+fn answers() -> Vec<u64> {
+    vec![0, 46, 47, 48]
+}
+
+/// A number of each kind.
+const EACH: [u8; 4] = [0, 9, 11, 1];
+
+/// The bytes of a number's kind, by the plain side.
+fn made(number: u8) -> Vec<u8> {
+    let mut bytes = vec![0; 18];
+    let _ = sense::make(number, &mut bytes);
+    bytes
+}
+
+/// Compares one reading.
+fn compare(run: &mut Run, bytes: &[u8], numbers: usize) -> u64 {
+    let given = Given::new(bytes);
+    run.compare(
+        &[Input::Bytes("sense", &given)],
+        Memory::numbers(numbers),
+        |memory| u64::from(boundary::read_sense(given.proved(), memory.numbers.part())),
+        |memory| {
+            let read = sense::read(given.plain());
+            memory.give(&[read.map_or(0, |kind| kind as u64 + 1)]);
+            u64::from(read.err().unwrap_or(0))
+        },
+    )
+}
+
+fn fixed(run: &mut Run) {
+    for number in EACH {
+        let bytes = made(number);
+        for numbers in 0..3 {
+            let answer = compare(run, &bytes, numbers);
+            run.expect(answer, 0);
+        }
+        each_length(run, &bytes);
+        each_value(run, &bytes);
+        each_two_bits(run, bytes);
+    }
+}
+
+/// The bytes cut or with more behind them, from 0 to 40 in all.
+fn each_length(run: &mut Run, bytes: &[u8]) {
+    let mut longer = bytes.to_vec();
+    longer.resize(40, 0);
+    for length in 0..=40 {
+        let answer = compare(run, &longer[..length], length % 3);
+        run.expect(answer, if length == 18 { 0 } else { 46 });
+    }
+}
+
+/// Each value of each byte.
+fn each_value(run: &mut Run, bytes: &[u8]) {
+    for at in 0..bytes.len() {
+        for value in 0..=255 {
+            let mut changed = bytes.to_vec();
+            changed[at] = value;
+            compare(run, &changed, 1);
+        }
+    }
+}
+
+/// Each single bit and each two bits flipped.
+fn each_two_bits(run: &mut Run, mut bytes: Vec<u8>) {
+    for one in 0..8 * bytes.len() {
+        bytes[one / 8] ^= 1 << (one % 8);
+        compare(run, &bytes, 1);
+        for two in 0..one {
+            bytes[two / 8] ^= 1 << (two % 8);
+            compare(run, &bytes, 1);
+            bytes[two / 8] ^= 1 << (two % 8);
+        }
+        bytes[one / 8] ^= 1 << (one % 8);
+    }
+}
+
+fn random(run: &mut Run, random: &mut Random) {
+    let mut bytes = made(random.one_of(&EACH));
+    for _ in 0..=random.below(4) {
+        let at = random.below(bytes.len());
+        bytes[at] = random.byte();
+    }
+    compare(run, &bytes, random.below(3));
+    damage(random, &mut bytes);
+    compare(run, &bytes, random.below(3));
+    let length = random.below(41);
+    compare(run, &random.bytes(length), random.below(3));
+}
