@@ -123,13 +123,13 @@ static int check(const char *what, const uint8_t *typed, size_t count)
     return refused(what, number);
 }
 
-/* The sheet with a Version in the flags of its second entry. */
+/* The sheet with the flags of its second entry Persistent and not Current. */
 static void mistype(void)
 {
     uint8_t typed[sizeof sheet];
 
     memcpy(typed, sheet, sizeof sheet);
-    typed[4 + 8 + 2] = 0x07;
+    typed[4 + 8 + 2] = 0x02;
     check("mistyped sheet", typed, sizeof typed);
 }
 

@@ -13,7 +13,7 @@
  * in the order given here, also where something is refused; an array that is too short gets the first of them, and what is behind them in a longer
  * one stays as it was.
  *
- * A place says which line of a drive sheet is refused: for 3 which profile of the list, for 4, 5, 43, 44, 6 and 7 which entry of the contents, counted
+ * A place says which line of a drive sheet is refused: for 3 which profile of the list, for 4, 5, 44, 6 and 7 which entry of the contents, counted
  * from 1. With every other number, and with 0, it is 0.
  */
 #ifndef GCF_H
@@ -103,8 +103,7 @@ enum gcf_number {
     /* import */
     GCF_NOT_OWN = 41,
     GCF_SHEET_BUFFER_SHORT = 42,
-    /* flags in a drive sheet, beside 5 */
-    GCF_VERSION_SET = 43,
+    /* flags in a drive sheet, beside 5; 43, a Version, is withdrawn */
     GCF_PERSISTENT_UNCURRENT = 44,
     /* sense data */
     GCF_SENSE_LENGTH = 46,
@@ -135,8 +134,7 @@ enum gcf_kind {
 /* ---- the box */
 
 /*
- * The check of a drive sheet: 1, 2, 3 for each profile, then for each entry 4, 5 (reserved flag bits), 43 (Version), 44 (Persistent without Current), 6,
- * 7, then 8.
+ * The check of a drive sheet: 1, 2, 3 for each profile, then for each entry 4, 5 (reserved flag bits), 44 (Persistent without Current), 6, 7, then 8.
  * numbers: the place.
  */
 uint8_t gcf_check_sheet(const uint8_t *sheet, size_t sheet_bytes, uint64_t *numbers, size_t numbers_count);
@@ -263,7 +261,11 @@ uint8_t gcf_bench(const uint8_t *sheet, size_t sheet_bytes, uint8_t rt, uint16_t
                   uint16_t *starts, size_t starts_count,
                   uint64_t *numbers, size_t numbers_count);
 
-/* Checks the descriptors of a response to RT 0 from 0: the reading's numbers, 29, then 30 to 39. numbers: the feature at fault, 0 but for 30 to 39. */
+/*
+ * Checks the descriptors of a response to RT 0 from 0: the reading's numbers, 29, then 30 to 39. A feature with a Version above 0 may be longer than its
+ * table says, and its body is not looked at.
+ * numbers: the feature at fault, 0 but for 30 to 39.
+ */
 uint8_t gcf_check_descriptors(const uint8_t *response, size_t response_bytes, uint64_t *numbers, size_t numbers_count);
 
 /*
@@ -284,7 +286,7 @@ static inline bool gcf_conforms(gcf_profile profile, const uint8_t *response, si
 
 /*
  * Turns a captured response to RT 0 from 0 into a drive sheet from which the box gives those bytes back: 14 to 18, 20, 29, 41, the sheet's 3, then for
- * each descriptor behind feature 0 the sheet's 5, 43, 44, then 42. Accepted: the sheet stands at the front of the buffer, and only its bytes changed.
+ * each descriptor behind feature 0 the sheet's 5, 44, then 42. Accepted: the sheet stands at the front of the buffer, and only its bytes changed.
  * Refused: nothing changed.
  * numbers: bytes of the sheet, the place. Refused: 0, the place that it would have in the sheet: for 3 in feature 0's list, else among the descriptors
  * behind feature 0.

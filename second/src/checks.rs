@@ -18,32 +18,35 @@ enum Length {
     LinkSizes,
 }
 
-/// The legal length of a feature's body, and which bits of every 4 bytes may be 1.
+/// The legal length of a feature's body, and which bits of every 4 bytes, or of all 12, may be 1.
 struct Legal {
     feature: Feature,
     length: Length,
-    mask: [u8; 4],
+    mask: &'static [u8],
 }
 
 /// One row of the table below.
-const fn legal(feature: u16, length: Length, mask: [u8; 4]) -> Legal {
+const fn legal(feature: u16, length: Length, mask: &'static [u8]) -> Legal {
     Legal { feature: Feature(feature), length, mask }
 }
 
 /// Legal lengths and body bits; for 0021h the mask counts for the first 4 bytes only.
 const LEGAL: [Legal; 11] = [
-    legal(0x0000, Length::Any, [0xFF, 0xFF, 0x01, 0x00]),
-    legal(0x0001, Length::Exactly(4), [0xFF, 0xFF, 0xFF, 0xFF]),
-    legal(0x0002, Length::Exactly(4), [0x01, 0x00, 0x00, 0x00]),
-    legal(0x0003, Length::Exactly(4), [0xED, 0x00, 0x00, 0x00]),
-    legal(0x001F, Length::Exactly(0), [0x00, 0x00, 0x00, 0x00]),
-    legal(0x0020, Length::Exactly(4), [0xFF, 0xFF, 0xFF, 0xFF]),
-    legal(0x0021, Length::LinkSizes, [0x00, 0x00, 0x00, 0xFF]),
-    legal(0x0026, Length::Exactly(4), [0xFF, 0xFF, 0xFF, 0xFF]),
-    legal(0x002D, Length::Exactly(4), [0x07, 0x00, 0x00, 0x00]),
-    legal(0x002E, Length::Exactly(4), [0x3F, 0xFF, 0xFF, 0xFF]),
-    legal(0x002F, Length::Exactly(4), [0x04, 0x00, 0x00, 0x00]),
+    legal(0x0000, Length::Any, &[0xFF, 0xFF, 0x01, 0x00]),
+    legal(0x0001, Length::Exactly(4), &[0xFF, 0xFF, 0xFF, 0xFF]),
+    legal(0x0002, Length::Exactly(4), &[0x01, 0x00, 0x00, 0x00]),
+    legal(0x0003, Length::Exactly(4), &[0xED, 0x00, 0x00, 0x00]),
+    legal(0x001F, Length::Exactly(0), &[0x00, 0x00, 0x00, 0x00]),
+    legal(0x0020, Length::Exactly(12), &RANDOM_WRITABLE),
+    legal(0x0021, Length::LinkSizes, &[0x00, 0x00, 0x00, 0xFF]),
+    legal(0x0026, Length::Exactly(4), &[0xFF, 0xFF, 0xFF, 0xFF]),
+    legal(0x002D, Length::Exactly(4), &[0x07, 0x00, 0x00, 0x00]),
+    legal(0x002E, Length::Exactly(4), &[0x3F, 0xFF, 0xFF, 0xFF]),
+    legal(0x002F, Length::Exactly(4), &[0x04, 0x00, 0x00, 0x00]),
 ];
+
+/// 0020h: last block address, block size, blocking, Page Present in bit 0, and a reserved byte.
+const RANDOM_WRITABLE: [u8; 12] = [0xFF, 0xFF, 0xFF, 0xFF, 0xFF, 0xFF, 0xFF, 0xFF, 0xFF, 0xFF, 0x01, 0x00];
 
 /// Features of the medium, which can't be Persistent where the medium can be removed.
 const OF_THE_MEDIUM: [u16; 7] = [0x001F, 0x0020, 0x0021, 0x0026, 0x002D, 0x002E, 0x002F];
@@ -135,7 +138,8 @@ fn check_descriptor(descriptor: Descriptor, removable: bool) -> u8 {
     let flags = descriptor.flags;
     let persistent = flags & PERSISTENT != 0;
     let current = flags & CURRENT != 0;
-    if flags & (RESERVED | VERSION) != 0 {
+    let newer = flags & VERSION != 0;
+    if flags & RESERVED != 0 {
         return FINDING_FLAGS;
     }
     if persistent && !current {
@@ -145,7 +149,7 @@ fn check_descriptor(descriptor: Descriptor, removable: bool) -> u8 {
         Some(legal) => legal,
         None => return ACCEPTED,
     };
-    if !length_is_legal(legal, descriptor.body) {
+    if !length_is_legal(legal, newer, descriptor.body) {
         return FINDING_LENGTH;
     }
     if descriptor.feature <= REMOVABLE_MEDIUM && !(persistent && current) {
@@ -153,6 +157,10 @@ fn check_descriptor(descriptor: Descriptor, removable: bool) -> u8 {
     }
     if persistent && removable && OF_THE_MEDIUM.contains(&descriptor.feature.0) {
         return FINDING_REMOVABLE;
+    }
+    // What a newer version of a feature has in its body is not known here.
+    if newer {
+        return ACCEPTED;
     }
     if !reserved_is_zero(legal, descriptor.body) {
         return FINDING_RESERVED;
@@ -166,14 +174,15 @@ fn check_descriptor(descriptor: Descriptor, removable: bool) -> u8 {
     ACCEPTED
 }
 
-/// Whether the body has the length its feature wants.
-fn length_is_legal(legal: &Legal, body: &[u8]) -> bool {
-    match legal.length {
-        Length::Any => true,
-        Length::Exactly(length) => body.len() == length,
+/// Whether the body has the length its feature wants; a newer version's may be longer.
+fn length_is_legal(legal: &Legal, newer: bool, body: &[u8]) -> bool {
+    let wanted = match legal.length {
+        Length::Any => return true,
+        Length::Exactly(length) => length,
         // Without byte 7 there is no number of link sizes; with it, the pad is what fills 4 bytes.
-        Length::LinkSizes => body.len() >= 4 && body.len() == 4 + (link_sizes(body) + 3) / 4 * 4,
-    }
+        Length::LinkSizes => 4 + (link_sizes(body) + 3) / 4 * 4,
+    };
+    body.len() == wanted || newer && body.len() > wanted
 }
 
 /// The number of link sizes in the body of 0021h.
@@ -190,8 +199,8 @@ fn reserved_is_zero(legal: &Legal, body: &[u8]) -> bool {
     fits_mask(body, legal.mask)
 }
 
-/// Whether every 4 bytes have no bit outside the mask.
-fn fits_mask(body: &[u8], mask: [u8; 4]) -> bool {
+/// Whether no bit is outside the mask, which repeats.
+fn fits_mask(body: &[u8], mask: &[u8]) -> bool {
     body.iter().zip(mask.iter().cycle()).all(|(byte, mask)| byte & !mask == 0)
 }
 

@@ -76,7 +76,7 @@ pub const FINDING_MISSING: u8 = 30;
 pub const FINDING_LENGTH: u8 = 31;
 /// Flags not both 1 for 0000h to 0003h.
 pub const FINDING_NOT_BOTH: u8 = 32;
-/// Reserved flags or Version not 0.
+/// Reserved flags not 0.
 pub const FINDING_FLAGS: u8 = 33;
 /// Persistent without Current.
 pub const FINDING_PERSISTENT: u8 = 34;
@@ -97,9 +97,7 @@ pub const CAPTURE_BAD: u8 = 41;
 /// Sheet buffer too short.
 pub const SHEET_BUFFER_SHORT: u8 = 42;
 
-// The sheet's flags besides 5.
-/// Version not 0.
-pub const VERSION_SET: u8 = 43;
+// The sheet's flags besides 5. 43, which was for a Version, is withdrawn.
 /// Persistent without Current.
 pub const PERSISTENT_UNCURRENT: u8 = 44;
 

@@ -22,9 +22,7 @@ impl Kind {
             ACCEPTED => Some(Kind::Nothing),
             COMMAND_LENGTH | COMMAND_OPCODE => Some(Kind::Operation),
             COMMAND_RT => Some(Kind::Field),
-            SHEET_SHORT..=SHEET_END | VERSION_SET | PERSISTENT_UNCURRENT | BUFFER_SHORT => {
-                Some(Kind::Trouble)
-            }
+            SHEET_SHORT..=SHEET_END | PERSISTENT_UNCURRENT | BUFFER_SHORT => Some(Kind::Trouble),
             _ => None,
         }
     }

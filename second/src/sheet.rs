@@ -183,13 +183,10 @@ pub(crate) fn check_profiles(profiles: &[u8]) -> Result<(), Refusal> {
     Ok(())
 }
 
-/// Checks that the reserved bits are 0, then Version, then that Persistent isn't set without Current.
+/// Checks that the reserved bits are 0, then that Persistent isn't set without Current.
 pub(crate) fn check_flags(flags: u8) -> Result<(), u8> {
     if flags & RESERVED != 0 {
         return Err(FLAGS_RESERVED);
-    }
-    if flags & VERSION != 0 {
-        return Err(VERSION_SET);
     }
     if flags & PERSISTENT != 0 && flags & CURRENT == 0 {
         return Err(PERSISTENT_UNCURRENT);

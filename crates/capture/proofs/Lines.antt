@@ -5,12 +5,14 @@ use Prim.Native.Nat.{ℕ, suc, _+_, _/_}
 use native.Mathlib.Numerals.{add-one}
 use native.Mathlib.Omega.{arith}
 use lib.ListN.{length}
+use Rattle.base.specs.Lists.{All}
 use Rattle.refusal.specs.declared.Refusal.{Refusal}
 use Rattle.refusal.specs.First.{accept, pickZero, _orElse_, firstOf, placed}
 use Rattle.refusal.specs.Lines.{ofEntry, hasPlace, old}
 use Rattle.refusal.proofs.First.{if-plain, orElse-plain, placed-number}
 use Rattle.refusal.proofs.Lines.{orElse-by, Nowhere, if-nowhere, orElse-nowhere, Renumbered, orElse-old, same-old, nowhere-old}
 use Rattle.text.specs.Drive.{Desc}
+use Rattle.text.specs.Flags as text
 use Rattle.text.proofs.Walk.{readFault-plain}
 use Rattle.text.proofs.Lines.{read-nowhere}
 use Rattle.profiles.specs.Profiles.{recordsFault}
@@ -21,7 +23,7 @@ use Rattle.sheet.proofs.Lines.{flags-entry, flags-old}
 use Rattle.reading.specs.Places.{descs}
 use Rattle.reading.specs.Completed.{completeFault}
 use Rattle.capture.specs.Capture.{captured, ownRule, flagsFaults, sheetRule, captureFault, captureOf}
-use Rattle.capture.specs.Lines.{listBody, flagsRuleAt, LocatedAmong, oldFlags, oldCapture}
+use Rattle.capture.specs.Lines.{listBody, flagsRuleAt, LocatedAmong, NoVersionsAmong, oldFlags, oldCapture}
 use Rattle.capture.proofs.Checked.{capture-refusal}
 
 -- ---- what comes before the sheet's numbers has no place
@@ -80,23 +82,23 @@ check-located s = rw (capture-refusal s (captureOf s) refl) (capture-located s)
 
 -- ---- document 01's number
 
-oldFlags-is : (k : ℕ) (ds : List Desc) → Renumbered (oldFlags ds) (flagsFaults k ds)
+oldFlags-is : (k : ℕ) (ds : List Desc) → All (λ (d : Desc). text.version (d .flags) ≡ 0) ds → Renumbered (oldFlags ds) (flagsFaults k ds)
 unfolding oldFlags flagsFaults old
-oldFlags-is k [] = refl
-oldFlags-is k (d ∷ ds) = orElse-old _ _ (placed (flagsRule (d .flags)) k) _ (rw (placed-number (flagsRule (d .flags)) k) (flags-old (d .flags))) (oldFlags-is (k + 1) ds)
+oldFlags-is k [] v = refl
+oldFlags-is k (d ∷ ds) v = orElse-old _ _ (placed (flagsRule (d .flags)) k) _ (rw (placed-number (flagsRule (d .flags)) k) (flags-old (d .flags) (v .0))) (oldFlags-is (k + 1) ds (v .1))
 
-oldSheet-is : (ws : List Desc) → Renumbered (recordsFault (listBody ws) orElse oldFlags (captured ws .features)) (sheetRule ws)
+oldSheet-is : (ws : List Desc) → NoVersionsAmong ws → Renumbered (recordsFault (listBody ws) orElse oldFlags (captured ws .features)) (sheetRule ws)
 unfolding pickZero _orElse_ firstOf old recordsFault sheetRule captured listBody oldFlags
-oldSheet-is [] = refl
-oldSheet-is (z ∷ ds) =
-    orElse-old (recordsFault (z .body)) (oldFlags ds) (recordsFault (z .body)) (flagsFaults 1 ds) (same-old (recordsFault (z .body)) (records-not-entry (z .body))) (oldFlags-is 1 ds)
+oldSheet-is [] v = refl
+oldSheet-is (z ∷ ds) v =
+    orElse-old (recordsFault (z .body)) (oldFlags ds) (recordsFault (z .body)) (flagsFaults 1 ds) (same-old (recordsFault (z .body)) (records-not-entry (z .body))) (oldFlags-is 1 ds v)
 
--- The number with 5 for each fault of flags is the old one of the number that is given.
-pub capture-old : (s : List ℕ) → oldCapture s .number ≡ old (captureFault s .number)
+-- Where there is no Version, the number with 5 for each fault of flags is the old one of the number that is given.
+pub capture-old : (s : List ℕ) → NoVersionsAmong (descs s) → oldCapture s .number ≡ old (captureFault s .number)
 unfolding oldCapture captureFault
-capture-old s =
+capture-old s v =
     orElse-old _ _ _ _ (nowhere-old (completeFault s) (complete-nowhere s))
-    (orElse-old _ _ _ _ (nowhere-old (ownRule s (descs s)) (own-nowhere s (descs s))) (oldSheet-is (descs s)))
+    (orElse-old _ _ _ _ (nowhere-old (ownRule s (descs s)) (own-nowhere s (descs s))) (oldSheet-is (descs s) v))
 
-pub check-old : (s : List ℕ) → oldCapture s .number ≡ old (captureOf s .refusal .number)
-check-old s = rw (capture-refusal s (captureOf s) refl) (capture-old s)
+pub check-old : (s : List ℕ) → NoVersionsAmong (descs s) → oldCapture s .number ≡ old (captureOf s .refusal .number)
+check-old s v = rw (capture-refusal s (captureOf s) refl) (capture-old s v)

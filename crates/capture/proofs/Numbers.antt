@@ -39,7 +39,7 @@ module _ (P : ℕ → Type 0) where
   unfolding _orElse_
   orElse-is a b h l = pick-is (a .number) a b h l
 
-  first-is : (f : ℕ → Refusal) (i k : ℕ) → P 0 → ((j : ℕ) → P (f j .number)) → P (firstOf f i k .number)
+  pub first-is : (f : ℕ → Refusal) (i k : ℕ) → P 0 → ((j : ℕ) → P (f j .number)) → P (firstOf f i k .number)
   unfolding firstOf
   first-is f i zero z h = z
   first-is f i (suc k) z h = orElse-is (f i) (firstOf f (suc i) k) (h i) (first-is f (suc i) k z h)
@@ -82,24 +82,26 @@ module _ (P : ℕ → Type 0) (p0 : P 0) where
   own-is p41 r [] = p41
   own-is p41 r (z ∷ ds) = if-is P 41 _ _ p41 (if-is P 41 _ _ p41 (if-is P 41 _ _ p41 (if-is P 41 _ _ p41 p0)))
 
-  flags-is : P 5 → P 43 → P 44 → (k : ℕ) (ds : List Desc) → P (flagsFaults k ds .number)
-  unfolding flagsFaults flagsRule text.flagsGiving
-  flags-is p5 p43 p44 k [] = p0
-  flags-is p5 p43 p44 k (d ∷ ds) =
-      orElse-is P _ _ (subst P (sym (placed-number _ k)) (orElse-is P _ _ (if-is P 5 _ _ p5 p0) (orElse-is P _ _ (if-is P 43 _ _ p43 p0) (if-is P 44 _ _ p44 p0))))
-      (flags-is p5 p43 p44 (k + 1) ds)
+  pub rule-is : P 5 → P 44 → (f : ℕ) → P (flagsRule f .number)
+  unfolding flagsRule text.flagsGiving
+  rule-is p5 p44 f = orElse-is P _ _ (if-is P 5 _ _ p5 p0) (if-is P 44 _ _ p44 p0)
 
-  record-is : P 3 → (b : List ℕ) (i : ℕ) → P (recordFault b i .number)
+  flags-is : P 5 → P 44 → (k : ℕ) (ds : List Desc) → P (flagsFaults k ds .number)
+  unfolding flagsFaults
+  flags-is p5 p44 k [] = p0
+  flags-is p5 p44 k (d ∷ ds) = orElse-is P _ _ (subst P (sym (placed-number _ k)) (rule-is p5 p44 (d .flags))) (flags-is p5 p44 (k + 1) ds)
+
+  pub record-is : P 3 → (b : List ℕ) (i : ℕ) → P (recordFault b i .number)
   unfolding recordFault recordRule
   record-is p3 b i = subst P (sym (placed-number _ (suc i))) (if-is P 3 _ _ p3 (if-is P 3 _ _ p3 (if-is P 3 _ _ p3 (if-is P 3 _ _ p3 p0))))
 
-  sheet-is : P 3 → P 5 → P 43 → P 44 → (ds : List Desc) → P (sheetRule ds .number)
+  sheet-is : P 3 → P 5 → P 44 → (ds : List Desc) → P (sheetRule ds .number)
   unfolding sheetRule recordsFault
-  sheet-is p3 p5 p43 p44 [] = p0
-  sheet-is p3 p5 p43 p44 (z ∷ ds) = orElse-is P _ _ (first-is P _ 0 _ p0 (record-is p3 (z .body))) (flags-is p5 p43 p44 1 ds)
+  sheet-is p3 p5 p44 [] = p0
+  sheet-is p3 p5 p44 (z ∷ ds) = orElse-is P _ _ (first-is P _ 0 _ p0 (record-is p3 (z .body))) (flags-is p5 p44 1 ds)
 
-pub capture-is : (P : ℕ → Type 0) → P 0 → P 14 → P 15 → P 16 → P 17 → P 18 → P 20 → P 29 → P 41 → P 3 → P 5 → P 43 → P 44 → (r : List ℕ) → P (captureFault r .number)
+pub capture-is : (P : ℕ → Type 0) → P 0 → P 14 → P 15 → P 16 → P 17 → P 18 → P 20 → P 29 → P 41 → P 3 → P 5 → P 44 → (r : List ℕ) → P (captureFault r .number)
 unfolding captureFault completeFault
-capture-is P p0 p14 p15 p16 p17 p18 p20 p29 p41 p3 p5 p43 p44 r =
+capture-is P p0 p14 p15 p16 p17 p18 p20 p29 p41 p3 p5 p44 r =
     orElse-is P (completeFault r) _ (orElse-is P _ _ (read-is P p0 p14 p15 p16 p17 p18 p20 65534 0 r) (if-is P 29 _ _ p29 p0))
-    (orElse-is P _ _ (own-is P p0 p41 r (descs r)) (sheet-is P p0 p3 p5 p43 p44 (descs r)))
+    (orElse-is P _ _ (own-is P p0 p41 r (descs r)) (sheet-is P p0 p3 p5 p44 (descs r)))

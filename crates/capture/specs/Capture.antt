@@ -31,7 +31,7 @@ ownRule r (z ∷ ds) =
     refuse 41 if not (eqb (statedProfile r) (currentProfile (profilesOf (z .body)))) else
     accept
 
--- 5, 43 and 44, by the sheet's rule, at each descriptor in turn, where the first has this place
+-- 5 and 44, by the sheet's rule, at each descriptor in turn, where the first has this place
 unfoldable pub flagsFaults : (place : ℕ) → List Desc → Refusal
 flagsFaults place [] = accept
 flagsFaults place (d ∷ ds) = placed (flagsRule (d .flags)) place orElse flagsFaults (place + 1) ds

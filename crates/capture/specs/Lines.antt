@@ -1,14 +1,17 @@
 -- The profile or entry that a refusal of a capture names, and the check with the one number that document 01 has for flags. Assumes nothing: these are definitions.
+use mathlib.Core.Path.{_≡_}
 use mathlib.Core.List.{List, [], _∷_}
 use Prim.Native.Nat.{ℕ}
 use lib.ListN.{length, getD}
+use Rattle.base.specs.Lists.{All}
 use Rattle.refusal.specs.declared.Refusal.{Refusal}
-use Rattle.refusal.specs.First.{refuse, accept, _orElse_}
+use Rattle.refusal.specs.First.{accept, _orElse_}
 use Rattle.text.specs.Drive.{Desc}
 use Rattle.text.specs.Flags as text
 use Rattle.profiles.specs.Profiles.{recordsFault}
 use Rattle.profiles.specs.Lines.{Located}
 use Rattle.sheet.specs.Check.{flagsRule}
+use Rattle.sheet.specs.Lines.{oldFlagsRule}
 use Rattle.reading.specs.Places.{descs}
 use Rattle.reading.specs.Completed.{completeFault}
 use Rattle.capture.specs.Capture.{captured, ownRule}
@@ -26,10 +29,14 @@ flagsRuleAt ds i = flagsRule (getD ds i (record { number = 0; flags = 0; body = 
 abbrev pub LocatedAmong : List Desc → Refusal → Type 0
 LocatedAmong ws r = Located (listBody ws) (length (captured ws .profiles)) (flagsRuleAt (captured ws .features)) (length (captured ws .features)) r
 
--- 5 for each fault of flags
+-- no Version above 0, as document 01 asks for, in the features behind feature 0
+abbrev pub NoVersionsAmong : List Desc → Type 0
+NoVersionsAmong ws = All (λ (d : Desc). text.version (d .flags) ≡ 0) (captured ws .features)
+
+-- 5 for each fault of flags, among them a Version
 unfoldable pub oldFlags : List Desc → Refusal
 oldFlags [] = accept
-oldFlags (d ∷ ds) = text.flagsGiving (refuse 5) (refuse 5) (refuse 5) (d .flags) orElse oldFlags ds
+oldFlags (d ∷ ds) = oldFlagsRule (d .flags) orElse oldFlags ds
 
 unfoldable pub oldCapture : List ℕ → Refusal
 oldCapture r =

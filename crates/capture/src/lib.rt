@@ -44,7 +44,7 @@ fn own_fault(s: &[u8]) -> Refusal
     refusal::ACCEPTED
 }
 
-// 5, 43 and 44 at each descriptor from a byte on, the first of which is entry 1 of the contents.
+// 5 and 44 at each descriptor from a byte on, the first of which is entry 1 of the contents.
 // Asks: a response of at most 65,534 bytes, which 14 has shown before, so that a place is a sixteen-bit number.
 fn flags_fault(s: &[u8], first: usize) -> Refusal
     requires { ⌜ length (now s) ≤ returnLimit ⌝ }
@@ -65,7 +65,7 @@ fn flags_fault(s: &[u8], first: usize) -> Refusal
     refusal::ACCEPTED
 }
 
-// 3 at each profile, then 5, 43 and 44.
+// 3 at each profile, then 5 and 44.
 // Asks: a response with a descriptor, which 41 has shown before, and of at most 65,534 bytes, which 14 has.
 fn sheet_fault(s: &[u8]) -> Refusal
     requires { ⌜ (headerLength < length (now s)) × (length (now s) ≤ returnLimit) ⌝ }

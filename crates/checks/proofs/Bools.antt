@@ -32,5 +32,9 @@ pub or-false : (a b : Bool) → (a || b) ≡ false → (a ≡ false) × (b ≡ f
 or-false true b e = absurd (true≢false e)
 or-false false b e = (refl, e)
 
+pub or-no : (b : Bool) → (b || false) ≡ b
+or-no true = refl
+or-no false = refl
+
 pub false-or : (a b : Bool) → a ≡ false → b ≡ false → (a || b) ≡ false
 false-or a b h k = rw (h, k)

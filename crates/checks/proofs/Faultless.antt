@@ -1,5 +1,5 @@
 -- A response passes the check of its descriptors exactly when it has none of the faults. Assumes nothing.
-use borrow.Author.Tests.{ltb-false, le-ltb, leb-true, le-leb, eqb-true, eqb-false, eq-eqb, ne-eqb, not-false}
+use borrow.Author.Tests.{ltb-false, le-ltb, leb-true, le-leb, eqb-true, eqb-false, eq-eqb, ne-eqb, not-true, not-false}
 use mathlib.Core.Path.{_≡_, refl, sym, ap, _∙_}
 use mathlib.Core.Bool.{Bool, true, false, not, _&&_}
 use mathlib.Core.List.{List, [], _∷_}
@@ -13,8 +13,8 @@ use Rattle.base.specs.Lists.{All}
 use Rattle.base.proofs.Lists.{all-map}
 use Rattle.fields.specs.Field.{field}
 use Rattle.refusal.specs.declared.Refusal.{Refusal}
-use Rattle.refusal.specs.First.{refuse, accept}
-use Rattle.text.specs.Flags.{persistent, current}
+use Rattle.refusal.specs.First.{refuse, accept, _if_else_}
+use Rattle.text.specs.Flags.{version, newer, persistent, current}
 use Rattle.text.specs.Drive.{Desc}
 use Rattle.text.proofs.FlagsRule.{flags-good, flags-accept}
 use Rattle.refusal.proofs.First.{if-zero, orElse-zero, orElse-none, first-all, first-accept}
@@ -22,10 +22,10 @@ use Rattle.checks.specs.declared.legal.Length.{Length}
 use Rattle.checks.specs.declared.legal.Length.the-variants.{Any, Exactly, Counted}
 use Rattle.checks.specs.declared.Finding.{Finding}
 use Rattle.checks.specs.Legal.{rowOf}
-use Rattle.checks.specs.Rules.{byteOf, flagsFault, wrongLength, flagsShort, flagsBarred, rowRule, reservedRule, reservedAt, cueRule, profileAt, profilesFault, bodyFault, descFault}
+use Rattle.checks.specs.Rules.{byteOf, flagsFault, tooShort, tooLong, wrongLength, flagsShort, flagsBarred, rowRule, reservedRule, reservedAt, cueRule, profileAt, profilesFault, bodyFault, descFault}
 use Rattle.reading.specs.Places.{descs}
 use Rattle.checks.specs.Check.{reported, finding, firstFinding, checkedAll, checked}
-use Rattle.checks.specs.Faultless.{Fits, Faultless, Passes}
+use Rattle.checks.specs.Faultless.{AtLeast, AtMost, Faultless, Passes}
 use Rattle.checks.proofs.Bools.{not-yes, not-no, and-false, false-and, and-true, true-and, or-false, false-or}
 use Rattle.checks.proofs.Calls.{if-yes, if-no}
 use Rattle.base.proofs.Pick.{pick-here, pick-past, pick-never}
@@ -42,17 +42,46 @@ module _ (n : ℕ) where
 
 -- ---- 31, 32 and 35
 
-length-good : (l : Length) (body : List ℕ) → wrongLength l (byteOf body 7) (length body) ≡ false → Fits l body
-unfolding wrongLength
-length-good Any body e = tt
-length-good (Exactly k) body e = eqb-true _ _ (not-false _ e)
-length-good Counted body e = let a = or-false _ _ e in (ltb-false _ _ (a .0), ltb-false _ _ (a .1))
+short-good : (l : Length) (body : List ℕ) → tooShort l (byteOf body 7) (length body) ≡ false → AtLeast l body
+unfolding tooShort
+short-good Any body e = tt
+short-good (Exactly k) body e = ltb-false _ _ e
+short-good Counted body e = ltb-false _ _ e
 
-length-accept : (l : Length) (body : List ℕ) → Fits l body → wrongLength l (byteOf body 7) (length body) ≡ false
-unfolding wrongLength
-length-accept Any body h = refl
-length-accept (Exactly k) body h = not-no _ (eq-eqb _ _ h)
-length-accept Counted body h = false-or _ _ (le-ltb _ _ (h .0)) (le-ltb _ _ (h .1))
+short-accept : (l : Length) (body : List ℕ) → AtLeast l body → tooShort l (byteOf body 7) (length body) ≡ false
+unfolding tooShort
+short-accept Any body h = refl
+short-accept (Exactly k) body h = le-ltb _ _ h
+short-accept Counted body h = le-ltb _ _ h
+
+long-good : (l : Length) (body : List ℕ) → tooLong l (byteOf body 7) (length body) ≡ false → AtMost l body
+unfolding tooLong
+long-good Any body e = tt
+long-good (Exactly k) body e = ltb-false _ _ e
+long-good Counted body e = ltb-false _ _ e
+
+long-accept : (l : Length) (body : List ℕ) → AtMost l body → tooLong l (byteOf body 7) (length body) ≡ false
+unfolding tooLong
+long-accept Any body h = refl
+long-accept (Exactly k) body h = le-ltb _ _ h
+long-accept Counted body h = le-ltb _ _ h
+
+not-newer : (f : ℕ) → version f ≡ 0 → newer f ≡ false
+not-newer f v = not-no _ (eq-eqb (version f) 0 v)
+
+of-version : (f : ℕ) → newer f ≡ false → version f ≡ 0
+of-version f e = eqb-true (version f) 0 (not-false _ e)
+
+module _ (l : Length) (f : ℕ) (body : List ℕ) where
+  length-good : wrongLength l f (byteOf body 7) (length body) ≡ false → AtLeast l body × (version f ≡ 0 → AtMost l body)
+  unfolding wrongLength
+  length-good e =
+      let a = or-false _ _ e in
+      (short-good l body (a .0), λ v. long-good l body (and-false _ _ (a .1) (not-yes _ (not-newer f v))))
+
+  length-accept : AtLeast l body → (version f ≡ 0 → AtMost l body) → wrongLength l f (byteOf body 7) (length body) ≡ false
+  unfolding wrongLength
+  length-accept h k = false-or _ _ (short-accept l body h) (false-and _ _ (λ n. long-accept l body (k (of-version f (not-true _ n)))))
 
 module _ (n f : ℕ) where
   both-good : flagsShort n f ≡ false → n ≤ 0x0003 → (persistent f ≡ 1) × (current f ≡ 1)
@@ -123,6 +152,19 @@ module _ (number : ℕ) (body : List ℕ) where
           let z : 0 < field 2 body (4 * j) = g (eqb-true _ _ e) j (omega arith) in
           ap (λ (r : Refusal). r .number) (if-no (refuse 39) accept _ (ne-eqb (field 2 body (4 * j)) 0 (λ o. absurd (omega arith)))))
 
+-- ---- what holds of a body where it is looked at
+
+module _ (x : Refusal) (f : ℕ) where
+  looked : (accept if newer f else x) .number ≡ 0 → version f ≡ 0 → x .number ≡ 0
+  looked e v = ap (λ (r : Refusal). r .number) (sym (if-no accept x (newer f) (not-newer f v))) ∙ e
+
+  unlooked : (version f ≡ 0 → x ≡ accept) → (accept if newer f else x) ≡ accept
+  unlooked h = go (newer f) refl
+    where
+      go : (t : Bool) → newer f ≡ t → (accept if newer f else x) ≡ accept
+      go true e = if-yes accept x (newer f) e
+      go false e = if-no accept x (newer f) e ∙ h (of-version f e)
+
 -- ---- a descriptor
 
 zero-of : {r : Refusal} → r ≡ accept → r .number ≡ 0
@@ -134,40 +176,41 @@ module _ (removable : Bool) (d : Desc) where
   desc-good e =
       let a = orElse-zero _ _ e in
       let b = orElse-zero _ _ (a .1) in
-      let f = flags-good (refuse 33) (refuse 33) (refuse 34) (d .flags) (λ z. absurd (omega arith)) (λ z. absurd (omega arith)) (λ z. absurd (omega arith)) (a .0) in
+      let f = flags-good (refuse 33) (refuse 34) (d .flags) (λ z. absurd (omega arith)) (λ z. absurd (omega arith)) (a .0) in
       let r = if-zero _ _ _ (b .0) in
       let t = if-zero _ _ _ (r .1) in
       let u = if-zero _ _ _ (t .1) in
-      let v = orElse-zero _ _ (b .1) in
-      let w = orElse-zero _ _ (v .1) in
+      let l = length-good (rowOf (d .number) .1) (d .flags) (d .body) (r .0) in
       record {
         reserved-zero = f .reserved-zero;
-        version-zero = f .version-zero;
         current-too = f .current-too;
-        fits = length-good (rowOf (d .number) .1) (d .body) (r .0);
+        enough = l .0;
+        no-more = l .1;
         both = both-good (d .number) (d .flags) (t .0);
         free = free-good (rowOf (d .number) .3) removable (d .flags) (u .0);
-        clear = λ k l. bits-good _ _ (first-all (reservedAt (rowOf (d .number)) (d .body)) (length (d .body)) (v .0) k l);
-        cue = cue-good (d .number) (byteOf (d .body) 4) (field 3 (d .body) 1) (w .0);
-        numbered = profiles-good (d .number) (d .body) (w .1);
+        clear = λ v k m.
+            bits-good _ _ (first-all (reservedAt (rowOf (d .number)) (d .body)) (length (d .body)) (orElse-zero _ _ (looked _ (d .flags) (b .1) v) .0) k m);
+        cue = λ v. cue-good (d .number) (byteOf (d .body) 4) (field 3 (d .body) 1) (orElse-zero _ _ (orElse-zero _ _ (looked _ (d .flags) (b .1) v) .1) .0);
+        numbered = λ v. profiles-good (d .number) (d .body) (orElse-zero _ _ (orElse-zero _ _ (looked _ (d .flags) (b .1) v) .1) .1);
       }
 
   pub desc-accept : Faultless removable d → descFault removable d .number ≡ 0
   unfolding descFault flagsFault rowRule bodyFault reservedAt
   desc-accept g =
-      let f = flags-accept (refuse 33) (refuse 33) (refuse 34) (d .flags) (record { reserved-zero = g .reserved-zero; version-zero = g .version-zero; current-too = g .current-too }) in
-      let l = length-accept (rowOf (d .number) .1) (d .body) (g .fits) in
+      let f = flags-accept (refuse 33) (refuse 34) (d .flags) (record { reserved-zero = g .reserved-zero; current-too = g .current-too }) in
+      let l = length-accept (rowOf (d .number) .1) (d .flags) (d .body) (g .enough) (g .no-more) in
       let b = both-accept (d .number) (d .flags) (g .both) in
       let p = free-accept (rowOf (d .number) .3) removable (d .flags) (g .free) in
-      let r = first-accept (reservedAt (rowOf (d .number)) (d .body)) 0 (length (d .body)) (λ k i j. zero-of (bits-accept _ _ (g .clear k (omega arith)))) in
-      let c = cue-accept (d .number) (byteOf (d .body) 4) (field 3 (d .body) 1) (g .cue) in
-      let n = profiles-accept (d .number) (d .body) (g .numbered) in
       zero-of
       (orElse-none _ _ (zero-of f)
       ∙ orElse-none _ _ (zero-of (if-no _ _ _ l ∙ if-no _ _ _ b ∙ if-no _ _ _ p))
-      ∙ orElse-none _ _ (zero-of r)
+      ∙ unlooked _ (d .flags)
+      (λ v.
+      let r = first-accept (reservedAt (rowOf (d .number)) (d .body)) 0 (length (d .body)) (λ k i j. zero-of (bits-accept _ _ (g .clear v k (omega arith)))) in
+      let c = cue-accept (d .number) (byteOf (d .body) 4) (field 3 (d .body) 1) (g .cue v) in
+      orElse-none _ _ (zero-of r)
       ∙ orElse-none _ _ (zero-of c)
-      ∙ n)
+      ∙ profiles-accept (d .number) (d .body) (g .numbered v)))
 
 -- ---- a response
 

@@ -79,25 +79,25 @@ module _ (removable : Bool) (f flags : ℕ) (body : List ℕ) where
   other-faultless : Bytes body → rowOf f .0 .0 ≡ 0xFFFF → flagsFault flags .number ≡ 0 → Faultless removable d
   unfolding flagsFault other
   other-faultless u e z =
-      let g = flags-good (refuse 33) (refuse 33) (refuse 34) flags (λ z. absurd (omega arith)) (λ z. absurd (omega arith)) (λ z. absurd (omega arith)) z in
+      let g = flags-good (refuse 33) (refuse 34) flags (λ z. absurd (omega arith)) (λ z. absurd (omega arith)) z in
       let a = above f e in
       record {
         reserved-zero = g .reserved-zero;
-        version-zero = g .version-zero;
         current-too = g .current-too;
-        fits = rw (row-other f e) tt;
+        enough = rw (row-other f e) tt;
+        no-more = rw (row-other f e) (λ v. tt);
         both = λ l. absurd (omega arith);
         free = rw (row-other f e) (λ b. absurd (true≢false (sym b)));
-        clear = rw (row-other f e) (λ k l. any-bits (getD body k 0) k (getD body 3 0) (u k));
-        cue = λ h. absurd (no-cue f e h);
-        numbered = λ h. absurd (omega arith);
+        clear = rw (row-other f e) (λ v k l. any-bits (getD body k 0) k (getD body 3 0) (u k));
+        cue = λ v h. absurd (no-cue f e h);
+        numbered = λ v h. absurd (omega arith);
       }
 
   -- what breaks no rule has no refusal at all
   desc-accepts : descFault removable d .number ≡ 0 → descFault removable d ≡ accept
   unfolding descFault bodyFault profilesFault
   desc-accepts e =
-      orElse-accepts _ _ (orElse-accepts _ _ (orElse-accepts _ _ (orElse-accepts _ _ (if-accepts accept _ _ (λ z. refl) (first-accepts _ 0 _))))) e
+      orElse-accepts _ _ (orElse-accepts _ _ (if-accepts accept _ _ (λ z. refl) (orElse-accepts _ _ (orElse-accepts _ _ (if-accepts accept _ _ (λ z. refl) (first-accepts _ 0 _)))))) e
 
   pub other-accept : (row : Row) (r : Refusal) → r ≡ flagsFault flags → r .number ≡ 0 → row ≡ rowOf f → row .0 .0 ≡ 0xFFFF → Bytes body
       → accept ≡ descFault removable d

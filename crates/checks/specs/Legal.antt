@@ -49,7 +49,7 @@ legal =
     row 0x0002 (Exactly 4) (four (bitAt 0) noBits noBits noBits) free ∷
     row 0x0003 (Exactly 4) (four (bits 7 5 + bits 3 2 + bitAt 0) noBits noBits noBits) free ∷
     row 0x001F (Exactly 0) (four noBits noBits noBits noBits) barred ∷
-    row 0x0020 (Exactly 4) (four anyBits anyBits anyBits anyBits) barred ∷
+    row 0x0020 (Exactly 12) (twelve anyBits anyBits anyBits anyBits anyBits anyBits anyBits anyBits anyBits anyBits (bitAt 0) noBits) barred ∷
     row 0x0021 Counted (four noBits noBits noBits anyBits) barred ∷
     row 0x0026 (Exactly 4) (four anyBits anyBits anyBits anyBits) barred ∷
     row 0x002D (Exactly 4) (four (bits 2 0) noBits noBits noBits) barred ∷

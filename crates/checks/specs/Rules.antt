@@ -8,7 +8,7 @@ use lib.ListN.{length, getD}
 use Rattle.fields.specs.Field.{field}
 use Rattle.refusal.specs.declared.Refusal.{Refusal}
 use Rattle.refusal.specs.First.{refuse, accept, _if_else_, _orElse_, firstOf}
-use Rattle.text.specs.Flags.{persistent, current, flagsGiving}
+use Rattle.text.specs.Flags.{newer, persistent, current, flagsGiving}
 use Rattle.text.specs.Drive.{Desc}
 use Rattle.checks.specs.declared.legal.Length.{Length}
 use Rattle.checks.specs.declared.legal.Length.the-variants.{Any, Exactly, Counted}
@@ -19,15 +19,24 @@ use Rattle.checks.specs.Legal.{anyBits, noBits, rowOf}
 abbrev pub byteOf : List ℕ → ℕ → ℕ
 byteOf body k = getD body (k - 4) 0
 
--- 33: reserved flags or Version not 0. 34: Persistent without Current
+-- 33: reserved flags. 34: Persistent without Current
 unfoldable pub flagsFault : (flags : ℕ) → Refusal
-flagsFault flags = flagsGiving (refuse 33) (refuse 33) (refuse 34) flags
+flagsFault flags = flagsGiving (refuse 33) (refuse 34) flags
 
--- a body of len bytes is not as long as the row says; n is byte 7
-unfoldable pub wrongLength : Length → (n len : ℕ) → Bool
-wrongLength Any n len = false
-wrongLength (Exactly k) n len = not (eqb len k)
-wrongLength Counted n len = ltb len (4 + n) || ltb (4 + n + 3) len
+-- a body of len bytes is shorter than the row says, or longer; n is byte 7
+unfoldable pub tooShort : Length → (n len : ℕ) → Bool
+tooShort Any n len = false
+tooShort (Exactly k) n len = ltb len k
+tooShort Counted n len = ltb len (4 + n)
+
+unfoldable pub tooLong : Length → (n len : ℕ) → Bool
+tooLong Any n len = false
+tooLong (Exactly k) n len = ltb k len
+tooLong Counted n len = ltb (4 + n + 3) len
+
+-- never shorter than the row says, and longer only with a Version above 0
+unfoldable pub wrongLength : Length → (flags n len : ℕ) → Bool
+wrongLength wanted flags n len = tooShort wanted n len || not (newer flags) && tooLong wanted n len
 
 -- 0000h to 0003h without both flags
 unfoldable pub flagsShort : (number flags : ℕ) → Bool
@@ -40,7 +49,7 @@ flagsBarred barred removable flags = barred && removable && eqb (persistent flag
 -- 31: wrong length. 32: flags not both 1. 35: Persistent with 0003h reported
 unfoldable pub rowRule : Row → (removable : Bool) (number flags n len : ℕ) → Refusal
 rowRule row removable number flags n len =
-    refuse 31 if wrongLength (row .1) n len else
+    refuse 31 if wrongLength (row .1) flags n len else
     refuse 32 if flagsShort number flags else
     refuse 35 if flagsBarred (row .3) removable flags else
     accept
@@ -69,9 +78,10 @@ profileAt body i = refuse 39 if eqb (field 2 body (4 * i)) 0 else accept
 unfoldable pub profilesFault : (number : ℕ) → List ℕ → Refusal
 profilesFault number body = accept if not (eqb number 0x0000) else firstOf (profileAt body) 0 (length body / 4)
 
--- what the body breaks: 36 anywhere in it, then 37, then 39
-unfoldable pub bodyFault : Row → (number : ℕ) → List ℕ → Refusal
-bodyFault row number body =
+-- what the body breaks: 36 anywhere in it, then 37, then 39; with a Version above 0 it is not looked at
+unfoldable pub bodyFault : Row → (number flags : ℕ) → List ℕ → Refusal
+bodyFault row number flags body =
+    accept if newer flags else
     firstOf (reservedAt row body) 0 (length body) orElse
     cueRule number (byteOf body 4) (field 3 body 1) orElse
     profilesFault number body
@@ -81,4 +91,4 @@ unfoldable pub descFault : (removable : Bool) → Desc → Refusal
 descFault removable d =
     flagsFault (d .flags) orElse
     rowRule (rowOf (d .number)) removable (d .number) (d .flags) (byteOf (d .body) 7) (length (d .body)) orElse
-    bodyFault (rowOf (d .number)) (d .number) (d .body)
+    bodyFault (rowOf (d .number)) (d .number) (d .flags) (d .body)

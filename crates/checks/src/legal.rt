@@ -46,6 +46,8 @@ const NONE: Length = Length::Exactly(0);
 
 const FOUR: Length = Length::Exactly(4);
 
+const TWELVE: Length = Length::Exactly(12);
+
 const COUNTED: Length = Length::Counted;
 
 // Every bit may be 1.
@@ -57,7 +59,7 @@ const LEGAL: [Row; 11] = [
     Row(MORPH, FOUR, [1, 0, 0, 0, 0, 0, 0, 0, 0, 0, 0, 0], false),
     Row(MEDIUM, FOUR, [0xED, 0, 0, 0, 0, 0, 0, 0, 0, 0, 0, 0], false),
     Row(DVD, NONE, [0, 0, 0, 0, 0, 0, 0, 0, 0, 0, 0, 0], true),
-    Row(RANDOM, FOUR, [F, F, F, F, 0, 0, 0, 0, 0, 0, 0, 0], true),
+    Row(RANDOM, TWELVE, [F, F, F, F, F, F, F, F, F, F, 1, 0], true),
     Row(STREAM, COUNTED, [0, 0, 0, F, 0, 0, 0, 0, 0, 0, 0, 0], true),
     Row(OVER, FOUR, [F, F, F, F, 0, 0, 0, 0, 0, 0, 0, 0], true),
     Row(TRACK, FOUR, [7, 0, 0, 0, 0, 0, 0, 0, 0, 0, 0, 0], true),

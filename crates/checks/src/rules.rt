@@ -1,11 +1,12 @@
 // The rules for one descriptor, and the first descriptor that breaks one.
 ghost use mathlib.Core.Path.{_≡_};
+ghost use mathlib.Core.Bool.{_||_};
 ghost use Prim.Native.Nat.{_/_, _<_};
 ghost use lib.ListN.{length, getD};
 ghost use Rattle.fields.specs.Field.{field};
 ghost use Rattle.refusal.specs.First.{firstOf};
 ghost use Rattle.text.specs.Reading.{descAt};
-ghost use Rattle.checks.specs.Rules.{flagsFault, wrongLength, flagsShort, flagsBarred, rowRule, maskAt, reservedRule, reservedAt, cueRule, profileAt, profilesFault, bodyFault, descFault};
+ghost use Rattle.checks.specs.Rules.{flagsFault, tooShort, tooLong, wrongLength, flagsShort, flagsBarred, rowRule, maskAt, reservedRule, reservedAt, cueRule, profileAt, profilesFault, bodyFault, descFault};
 ghost use Rattle.reading.specs.Places.{descs};
 ghost use Rattle.reading.specs.Completed.{completeFault};
 ghost use Rattle.checks.specs.Check.{firstFinding};
@@ -25,27 +26,49 @@ use text::Profile;
 fn flags_fault(flags: Flags) -> Refusal
     ensures { λ r. ⌜ r ≡ flagsFault (flags .0) ⌝ }
 {
-    flags.fault(
-        refusal::FLAGS_RESERVED,
-        refusal::FLAGS_RESERVED,
-        refusal::PERSISTENT_ALONE,
-    )
+    flags.fault(refusal::FLAGS_RESERVED, refusal::PERSISTENT_ALONE)
 }
 
-// Whether a body of len bytes is not as long as its row says; n is byte 7.
-fn wrong_length(wanted: Length, n: u8, len: usize) -> bool
-    ensures { λ r. ⌜ r ≡ wrongLength wanted n len ⌝ }
+// Whether a body of len bytes is shorter than its row says; n is byte 7.
+fn too_short(wanted: Length, n: u8, len: usize) -> bool
+    ensures { λ r. ⌜ r ≡ tooShort wanted n len ⌝ }
 {
     match wanted {
         Length::Any => false,
-        Length::Exactly(k) => len != k as usize,
-        Length::Counted => {
-            if len < 4 + n as usize {
-                return true;
-            }
-            4 + n as usize + 3 < len
-        }
+        Length::Exactly(k) => len < k as usize,
+        Length::Counted => len < 4 + n as usize,
     }
+}
+
+// Whether a body of len bytes is longer than its row says; n is byte 7.
+fn too_long(wanted: Length, n: u8, len: usize) -> bool
+    ensures { λ r. ⌜ r ≡ tooLong wanted n len ⌝ }
+{
+    match wanted {
+        Length::Any => false,
+        Length::Exactly(k) => (k as usize) < len,
+        Length::Counted => 4 + n as usize + 3 < len,
+    }
+}
+
+// Whether a body of len bytes is not as long as its row says; n is byte 7.
+fn other_length(wanted: Length, n: u8, len: usize) -> bool
+    ensures { λ r. ⌜ r ≡ (tooShort wanted n len || tooLong wanted n len) ⌝ }
+{
+    if too_short(wanted, n, len) {
+        return true;
+    }
+    too_long(wanted, n, len)
+}
+
+// Whether a body may not have len bytes: with a Version above 0 it may be longer than its row says; n is byte 7.
+fn wrong_length(wanted: Length, flags: Flags, n: u8, len: usize) -> bool
+    ensures { λ r. ⌜ r ≡ wrongLength wanted (flags .0) n len ⌝ }
+{
+    if flags.version() == 0 {
+        return other_length(wanted, n, len);
+    }
+    too_short(wanted, n, len)
 }
 
 // Whether a feature up to 0003h lacks one of its flags.
@@ -79,7 +102,7 @@ fn row_rule(row: Row, removable: bool, f: Feature, flags: Flags, n: u8, len: usi
     ensures { λ r. ⌜ r ≡ rowRule row removable (f .0) (flags .0) n len ⌝ }
 {
     let length = row.1;
-    if wrong_length(length, n, len) {
+    if wrong_length(length, flags, n, len) {
         return refusal::BODY_LENGTH_BAD;
     }
     if flags_short(f, flags) {
@@ -190,10 +213,13 @@ fn cue_fault(f: Feature, body: &[u8]) -> Refusal
     refusal::ACCEPTED
 }
 
-// 36, then 37, then 39 of a body.
-fn body_fault(row: Row, f: Feature, body: &[u8]) -> Refusal
-    ensures { λ r. ⌜ r ≡ bodyFault row (f .0) (now (body .entry)) ⌝ }
+// 36, then 37, then 39 of a body; with a Version above 0 it is not looked at.
+fn body_fault(row: Row, f: Feature, flags: Flags, body: &[u8]) -> Refusal
+    ensures { λ r. ⌜ r ≡ bodyFault row (f .0) (flags .0) (now (body .entry)) ⌝ }
 {
+    if flags.version() != 0 {
+        return refusal::ACCEPTED;
+    }
     let reserved = reserved_fault(row, body);
     if reserved.number != 0 {
         return reserved;
@@ -223,7 +249,7 @@ fn desc_fault(removable: bool, f: Feature, flags: Flags, body: &[u8]) -> Refusal
     if fault.number != 0 {
         return fault;
     }
-    body_fault(row, f, body)
+    body_fault(row, f, flags, body)
 }
 
 // The first fault of the descriptor at a place.

@@ -13,7 +13,7 @@ use Rattle.reading.specs.Places.{descs}
 use Rattle.sheet.specs.Meaning.{Fine}
 use Rattle.capture.specs.declared.Capture.{Capture}
 use Rattle.capture.specs.Capture.{captured, captureFault, captureOf}
-use Rattle.capture.specs.Lines.{LocatedAmong, oldCapture}
+use Rattle.capture.specs.Lines.{LocatedAmong, NoVersionsAmong, oldCapture}
 use Rattle.capture.proofs.Describes.{captured-fine, captured-full}
 use Rattle.capture.proofs.Checked.{captureOf-fault, captureOf-none}
 use Rattle.capture.proofs.Lines.{check-located, check-old}
@@ -22,7 +22,7 @@ use Rattle.capture.proofs.Own.{own-accepted, own-drive}
 -- Of an answer o to the response r: the first refusal, in the paper's order, and the count 0; where there is none, how many features the drive has that r
 -- describes. It is a drive that a sheet can describe, and r is its full response. The full response of any such drive, of at most 65,534 bytes, is not
 -- refused and describes that drive. A refusal's place is that of the first profile of feature 0, or of the first feature behind it, at fault, 0 where its
--- number has none; the number as it was with one 5 for flags is a function of its number.
+-- number has none; where no feature behind feature 0 has a Version above 0, the number as it was with one 5 for flags is a function of its number.
 pub record Captures (r : List ℕ) (o : Capture) : Type 0 where
   pub refuses : (captureFault r .number ≡ 0 → ⊥) → o ≡ record { refusal = captureFault r; features = 0 }
   pub counts : captureFault r .number ≡ 0 → o ≡ record { refusal = accept; features = length (captured (descs r) .features) }
@@ -30,7 +30,7 @@ pub record Captures (r : List ℕ) (o : Capture) : Type 0 where
   pub back : Bytes r → captureFault r .number ≡ 0 → full 0 0 (captured (descs r)) ≡ r
   pub own : (m : Drive) → Fine m → length (full 0 0 m) ≤ 65534 → r ≡ full 0 0 m → o ≡ record { refusal = accept; features = length (m .features) }
   pub located : LocatedAmong (descs r) (o .refusal)
-  pub old-number : oldCapture r .number ≡ old (o .refusal .number)
+  pub old-number : NoVersionsAmong (descs r) → oldCapture r .number ≡ old (o .refusal .number)
 
 pub captures : (r : List ℕ) → Captures r (captureOf r)
 captures r = record {

@@ -3,7 +3,7 @@
 -- (length), 32 (flags not both 1), 35 (Persistent with 0003h reported), 36 (reserved body bit), 37 (cue sheet). Never a reading's number, 29, 33, 34
 -- or 39. Assumes nothing.
 use borrow.Author.Tests.{le-leb, ne-eqb}
-use mathlib.Core.Path.{_≡_, refl, sym, ap, _∙_}
+use mathlib.Core.Path.{_≡_, refl, sym, ap, subst, _∙_}
 use mathlib.Core.Logic.{_⊎_, inl, inr}
 use mathlib.Core.Bool.{Bool, true, false, not}
 use mathlib.Core.List.{List, [], _∷_, _++_, append-assoc}
@@ -16,7 +16,7 @@ use Rattle.fields.specs.Field.{field, spell}
 use Rattle.fields.proofs.Laws.{field-here}
 use Rattle.refusal.specs.declared.Refusal.{Refusal}
 use Rattle.refusal.specs.First.{refuse, accept, _if_else_, pickZero, _orElse_, firstOf}
-use Rattle.text.specs.Flags.{flagsGiving}
+use Rattle.text.specs.Flags.{newer, flagsGiving}
 use Rattle.text.specs.Drive.{Desc, Listed, Drive, Sound, bit, profileBytes}
 use Rattle.text.specs.Response.{feature0, all, selected, full, sent}
 use Rattle.refusal.proofs.First.{orElse-none, orElse-fault, first-accept}
@@ -48,6 +48,8 @@ use Rattle.checks.proofs.Calls.{if-yes, if-no}
 use Rattle.checks.proofs.Findings.{next-none, next-fault}
 use Rattle.base.proofs.Pick.{pick-here, pick-past}
 use Rattle.checks.proofs.Faultless.{passes-of, of-passes}
+use Rattle.capture.proofs.Numbers.{if-is, orElse-is}
+use Rattle.demands.proofs.Sheets.{oneOf}
 use Rattle.checks.proofs.Lowest.{Least, conforms-all, missing-lowest}
 
 -- no fault, or one of the six
@@ -120,9 +122,10 @@ module _ (removable : Bool) (d : Desc) (o : Own d) where
       let row : Row = rowOf (d .number) in
       orElse-of _ _ (rw (o .flagged) none)
       (orElse-of _ _ (row-of row removable (d .number) (d .flags) (byteOf (d .body) 7) (length (d .body)))
+      (if-of _ _ _ none
       (orElse-of _ _ (first-of (reservedAt row (d .body)) (λ k. reserved-of _ _) 0 (length (d .body)))
       (orElse-of _ _ (cue-of (d .number) (byteOf (d .body) 4) (field 3 (d .body) 1))
-      (rw (o .numbered) none))))
+      (rw (o .numbered) none)))))
 
 all-of : (ds : List Desc) → All Own ds → Findings (checkedAll ds .refusal .number)
 unfolding checkedAll firstFinding
@@ -136,12 +139,11 @@ all-of ds a =
 
 -- ---- every descriptor of a drive is such a one
 
--- the sheet's rules 5, 43 and 44 test what 33 and 34 test
+-- the sheet's rules 5 and 44 test what 33 and 34 test
 flags-own : (f : ℕ) → sheet.flagsRule f .number ≡ 0 → flagsFault f ≡ accept
 unfolding flagsFault sheet.flagsRule
 flags-own f e =
-    flags-accept (refuse 33) (refuse 33) (refuse 34) f
-    (flags-good (refuse 5) (refuse 43) (refuse 44) f (λ z. absurd (omega arith)) (λ z. absurd (omega arith)) (λ z. absurd (omega arith)) e)
+    flags-accept (refuse 33) (refuse 34) f (flags-good (refuse 5) (refuse 44) f (λ z. absurd (omega arith)) (λ z. absurd (omega arith)) e)
 
 feature-own : (d : Desc) → 1 ≤ d .number → sheet.flagsRule (d .flags) .number ≡ 0 → Own d
 unfolding profilesFault
@@ -225,6 +227,22 @@ own-findings s b ok h =
     next-of _ _
     (rw (input-own (good .sound) h) none)
     (rw (descs-own (good .sound) h) (all-of (all m) (drive-own good)))
+
+-- ---- a Version above 0
+
+-- the flags, length and Persistent rules alone, whatever stands in the body
+abbrev pub newerNumbers : List ℕ
+newerNumbers = 0 ∷ 33 ∷ 34 ∷ 31 ∷ 32 ∷ 35 ∷ []
+
+abbrev AsNewer : ℕ → Type 0
+AsNewer n = oneOf newerNumbers n ≡ true
+
+pub newer-findings : (removable : Bool) (d : Desc) → newer (d .flags) ≡ true → oneOf newerNumbers (descFault removable d .number) ≡ true
+unfolding descFault flagsFault flagsGiving rowRule bodyFault oneOf
+newer-findings removable d e =
+    orElse-is AsNewer _ _ (orElse-is AsNewer _ _ (if-is AsNewer 33 _ _ refl refl) (if-is AsNewer 34 _ _ refl refl))
+    (orElse-is AsNewer _ _ (if-is AsNewer 31 _ _ refl (if-is AsNewer 32 _ _ refl (if-is AsNewer 35 _ _ refl refl)))
+    (subst AsNewer (sym (ap (λ (r : Refusal). r .number) (if-yes accept _ (newer (d .flags)) e))) refl))
 
 -- ---- of an answer
 

@@ -130,7 +130,7 @@ flags-persistent-tied x = promises (x .𝓤) (λ o e. e)
 pub flags-current-tied : Promised flags-current.ended (λ M. flags-current.clauses) (λ M. flags-current.spec) (λ x o. o .0 ≡ eqb (text.current (x .args .0 .0)) 1)
 flags-current-tied x = promises (x .𝓤) (λ o e. e)
 
-pub flags-fault-tied : Promised flags-fault.ended (λ M. flags-fault.clauses) (λ M. flags-fault.spec) (λ x o. o .0 ≡ text.flagsGiving (x .args .1 .0) (x .args .1 .1 .0) (x .args .1 .1 .1 .0) (x .args .0 .0))
+pub flags-fault-tied : Promised flags-fault.ended (λ M. flags-fault.clauses) (λ M. flags-fault.spec) (λ x o. o .0 ≡ text.flagsGiving (x .args .1 .0) (x .args .1 .1 .0) (x .args .0 .0))
 flags-fault-tied x = promises (x .𝓤) (λ o e. e)
 
 pub command-fault-tied : Promised command-fault.ended (λ M. command-fault.clauses) (λ M. command-fault.spec) (λ x o. o .0 ≡ commandFault (x .args .0 .now))

@@ -3,11 +3,10 @@
 -- and 3 hold for imported sheets as for any." `imported`, in crates/import/specs/Import.antt, is what the contract of `import::import` says;
 -- `sheetFrom r` is the sheet that it makes of the response r. Assumes nothing.
 use mathlib.Core.Path.{_≡_, refl, ap, _∙_}
-use mathlib.Core.Bool.{Bool, true, false, _||_}
+use mathlib.Core.Bool.{true}
 use mathlib.Core.List.{List, [], _∷_}
 use Prim.Native.Nat.{ℕ, _≤_, _<_}
 use native.Mathlib.Omega.{arith}
-use lib.Dec.{eqb}
 use lib.ListN.{length, take, drop, replicate}
 use lib.Seq.{take-append-seam}
 use Rattle.base.specs.Lists.{each, flat, keep, Bytes}
@@ -30,25 +29,28 @@ use Rattle.bench.specs.Bench.{Buffers, benched}
 use Rattle.bench.specs.Swept.{Premises, Swept, Ended}
 use Rattle.reading.specs.Completed as completed
 use Rattle.capture.specs.Capture as capture
-use Rattle.capture.specs.Capture.{captureFault}
+use Rattle.capture.specs.Capture.{captured, captureFault}
+use Rattle.reading.specs.Places.{descs}
 use Rattle.import.specs.Import as import
 use Rattle.import.specs.Import.{sheetFrom, imported}
 use Rattle.lent.specs.Maker.{Outcome, outcome, written, refusing, making, makes}
 use Rattle.capture.proofs.Describes.{captured-short}
 use Rattle.capture.proofs.Own.{own-accepted}
-use Rattle.import.proofs.Sheet.{from-accepted, from-bytes, from-full, own-sheet}
+use Rattle.import.proofs.Sheet.{from-accepted, from-bytes, from-means, from-full, own-sheet}
 use Rattle.import.proofs.Answers.{imported-fault, imported-short, imported-written, imported-zero}
 use Rattle.import.proofs.Numbers.{imported-is}
 use Rattle.demands.specs.Recorder.{sheetE, command}
 use Rattle.responder.specs.Answer.{due}
+use Rattle.demands.proofs.Sheets.{oneOf}
 use Rattle.demands.proofs.Sending.{demand2}
 use Rattle.demands.proofs.Readings.{ReadBack, demand2-own}
 use Rattle.demands.proofs.Sweeping.{demand3, ends, bytesE, acceptedE}
 
--- The sheet that stands in the buffer where import answers 0, of an outcome o: it is the one made of the response r, it is accepted, and the box
--- gives back the captured bytes from it.
+-- The sheet that stands in the buffer where import answers 0, of an outcome o: it is the one made of the response r, it means the drive that r
+-- describes, Versions and all, it is accepted, and the box gives back the captured bytes from it.
 pub record Stored (r : List ℕ) (o : Outcome) : Type 0 where
   pub sheet : take (o .made .count) (o .buffer) ≡ sheetFrom r
+  pub means : meaning (take (o .made .count) (o .buffer)) ≡ captured (descs r)
   pub accepted : Accepted (take (o .made .count) (o .buffer))
   pub back : (a : ℕ) → length r ≤ a → sent 0 0 a (meaning (take (o .made .count) (o .buffer))) ≡ r
 
@@ -70,6 +72,10 @@ pub record Imports (r d : List ℕ) (o : Outcome) : Type 0 where
 pub imported-accepted : (r : List ℕ) → Bytes r → captureFault r .number ≡ 0 → Accepted (sheetFrom r)
 imported-accepted = from-accepted
 
+-- It means the drive that the response describes: each feature has its number, its flags, the Version among them, and its body.
+pub imported-means : (r : List ℕ) → Bytes r → captureFault r .number ≡ 0 → meaning (sheetFrom r) ≡ captured (descs r)
+imported-means = from-means
+
 -- ---- "Asked RT 0 from 0 with a sufficient allocation, the box must give back the captured bytes exactly"
 
 -- For RT 0 from 0 with an allocation length of at least its bytes, the bytes sent are the captured ones.
@@ -85,7 +91,7 @@ stored r d b e =
     let z = imported-zero r d e in
     let x : take (imported r d .made .count) (imported r d .buffer) ≡ sheetFrom r =
     rw (imported-written r d (z .0) (z .1)) (take-append-seam (sheetFrom r) (drop (length (sheetFrom r)) d)) in
-    record { sheet = x; accepted = rw x (imported-accepted r b (z .0)); back = rw x (replayed r b (z .0)) }
+    record { sheet = x; means = rw x (imported-means r b (z .0)); accepted = rw x (imported-accepted r b (z .0)); back = rw x (replayed r b (z .0)) }
 
 -- So the box's answer to any such command, into a buffer with room for them, is no refusal, their count, and these bytes.
 pub replayed-answer : (r c d : List ℕ) → Bytes r → captureFault r .number ≡ 0
@@ -177,17 +183,12 @@ module _ (r : List ℕ) (b : Bytes r) (e : captureFault r .number ≡ 0) where
 
 -- ---- which numbers import can give
 
--- n is one of the numbers
-unfoldable pub oneOf : List ℕ → ℕ → Bool
-oneOf [] n = false
-oneOf (k ∷ ks) n = eqb n k || oneOf ks n
-
--- For every response and every buffer: no refusal, "the reading's 14 to 18 and 20, 29, then 41, then the sheet's own 3 and 5", which is 5, 43 or 44, "then 42", and no
+-- For every response and every buffer: no refusal, "the reading's 14 to 18 and 20, 29, then 41, then the sheet's own 3 and 5", which is 5 or 44, "then 42", and no
 -- other number. The sheet's other numbers cannot occur: an accepted reading ascends (4) and has lengths that are multiples of 4 (6), so that
 -- feature 0's body has at most 252 bytes, 63 profiles (2), and the sheet is written with the counts, offsets and end that it must have (1, 7, 8).
-pub numbers : (r d : List ℕ) → oneOf (0 ∷ 14 ∷ 15 ∷ 16 ∷ 17 ∷ 18 ∷ 20 ∷ 29 ∷ 41 ∷ 3 ∷ 5 ∷ 43 ∷ 44 ∷ 42 ∷ []) (imported r d .made .refusal .number) ≡ true
+pub numbers : (r d : List ℕ) → oneOf (0 ∷ 14 ∷ 15 ∷ 16 ∷ 17 ∷ 18 ∷ 20 ∷ 29 ∷ 41 ∷ 3 ∷ 5 ∷ 44 ∷ 42 ∷ []) (imported r d .made .refusal .number) ≡ true
 unfolding oneOf
-numbers = imported-is (λ n. oneOf (0 ∷ 14 ∷ 15 ∷ 16 ∷ 17 ∷ 18 ∷ 20 ∷ 29 ∷ 41 ∷ 3 ∷ 5 ∷ 43 ∷ 44 ∷ 42 ∷ []) n ≡ true) refl refl refl refl refl refl refl refl refl refl refl refl refl refl
+numbers = imported-is (λ n. oneOf (0 ∷ 14 ∷ 15 ∷ 16 ∷ 17 ∷ 18 ∷ 20 ∷ 29 ∷ 41 ∷ 3 ∷ 5 ∷ 44 ∷ 42 ∷ []) n ≡ true) refl refl refl refl refl refl refl refl refl refl refl refl refl
 
 -- It gives each of them.
 abbrev number : (r d : List ℕ) → ℕ
@@ -204,12 +205,11 @@ pub each-number :
     × (number (0 ∷ 0 ∷ 0 ∷ 4 ∷ 0 ∷ 0 ∷ 0 ∷ 0 ∷ []) [] ≡ 41)
     × (number (0 ∷ 0 ∷ 0 ∷ 12 ∷ 0 ∷ 0 ∷ 0 ∷ 0 ∷ 0 ∷ 0 ∷ 3 ∷ 4 ∷ 0 ∷ 0 ∷ 0 ∷ 0 ∷ []) [] ≡ 3)
     × (number (0 ∷ 0 ∷ 0 ∷ 12 ∷ 0 ∷ 0 ∷ 0 ∷ 0 ∷ 0 ∷ 0 ∷ 3 ∷ 0 ∷ 0 ∷ 1 ∷ 64 ∷ 0 ∷ []) [] ≡ 5)
-    × (number (0 ∷ 0 ∷ 0 ∷ 12 ∷ 0 ∷ 0 ∷ 0 ∷ 0 ∷ 0 ∷ 0 ∷ 3 ∷ 0 ∷ 0 ∷ 1 ∷ 4 ∷ 0 ∷ []) [] ≡ 43)
     × (number (0 ∷ 0 ∷ 0 ∷ 12 ∷ 0 ∷ 0 ∷ 0 ∷ 0 ∷ 0 ∷ 0 ∷ 3 ∷ 0 ∷ 0 ∷ 1 ∷ 2 ∷ 0 ∷ []) [] ≡ 44)
     × (number (0 ∷ 0 ∷ 0 ∷ 8 ∷ 0 ∷ 0 ∷ 0 ∷ 0 ∷ 0 ∷ 0 ∷ 3 ∷ 0 ∷ []) (0 ∷ 0 ∷ 0 ∷ []) ≡ 42)
     × (number (0 ∷ 0 ∷ 0 ∷ 8 ∷ 0 ∷ 0 ∷ 0 ∷ 0 ∷ 0 ∷ 0 ∷ 3 ∷ 0 ∷ []) (0 ∷ 0 ∷ 0 ∷ 0 ∷ []) ≡ 0)
 unfolding each flat field spell _if_else_ pickZero _orElse_ firstOf placed profileBytes currentProfile text.statedLength text.statedProfile text.headerRule text.headRule text.numberAt text.flagsAt text.lengthAt text.descAt text.headFault text.walk text.walked text.readFault text.wholes profiles.profileNumber profiles.profileCurrent profiles.profileLast profiles.listed profiles.profilesOf profiles.lists profiles.recordRule profiles.recordFault profiles.recordsFault flagsRule flags.flagsGiving layout.entryBytes contents sheetOf capture.captured capture.ownRule capture.flagsFaults capture.sheetRule completed.completeFault capture.captureFault import.sheetFrom unless refusing making makes import.imported
-each-number = (refl, refl, refl, refl, refl, refl, refl, refl, refl, refl, refl, refl, refl, refl)
+each-number = (refl, refl, refl, refl, refl, refl, refl, refl, refl, refl, refl, refl, refl)
 
 -- ---- the premises can be met: the full response of sheet E, 44 bytes, and a buffer of 52
 

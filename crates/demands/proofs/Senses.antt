@@ -70,8 +70,7 @@ Taken n = kindOf n .refusal .number ≡ 0
 flags-taken : (f : ℕ) → Taken (flagsRule f .number)
 unfolding flagsRule flags.flagsGiving pick given kindOf
 flags-taken f =
-    orElse-holds Taken _ _ (if-holds Taken (refuse 5) _ accept refl refl)
-    (orElse-holds Taken _ _ (if-holds Taken (refuse 43) _ accept refl refl) (if-holds Taken (refuse 44) _ accept refl refl))
+    orElse-holds Taken _ _ (if-holds Taken (refuse 5) _ accept refl refl) (if-holds Taken (refuse 44) _ accept refl refl)
 
 entry-taken : (s : List ℕ) (i : ℕ) → Taken (entryFault s i .number)
 unfolding entryRule entryFault pick given kindOf
@@ -135,7 +134,7 @@ none = 0 ∷ 0 ∷ 0 ∷ 0 ∷ []
 abbrev one : (number flags len offset : ℕ) → List ℕ
 one number flags len offset = 0 ∷ 1 ∷ 0 ∷ 0 ∷ 0 ∷ number ∷ flags ∷ len ∷ 0 ∷ 0 ∷ 0 ∷ offset ∷ []
 
--- Each number of the table is given: 0 to 12, 43, 44.
+-- Each number of the table is given: 0 to 12, 44.
 pub each-given : All Occurs taken
 unfolding each flat keep field spell _if_else_ pickZero _orElse_ firstOf placed opcodeOf rtOf sfnOf allocationOf commandFault profileBytes bytes feature0 all wants selected currentProfile header dataLength full sent layout.featureCount layout.profileCount layout.number layout.flags layout.bodyLength layout.offset layout.profilesPart profiles.profileNumber profiles.profileCurrent profiles.profileLast profiles.listed profiles.profilesOf profiles.lists profiles.recordRule profiles.recordFault profiles.recordsFault numberBefore endBefore flagsRule flags.flagsGiving entryRule entryFault counted verdict desc meaning unless refusing making makes answered command
 each-given = (
@@ -165,11 +164,8 @@ each-given = (
                         (
                           occurs-in none (command 0 0 1) [] refl,
                           (
-                            occurs-in (one 1 4 0 12) [] [] refl,
-                            (
-                              occurs-in (one 1 2 0 12) [] [] refl,
-                              tt,
-                            ),
+                            occurs-in (one 1 2 0 12) [] [] refl,
+                            tt,
                           ),
                         ),
                       ),

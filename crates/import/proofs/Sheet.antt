@@ -24,7 +24,7 @@ module _ (r : List ℕ) (bs : Bytes r) (e : captureFault r .number ≡ 0) where
   unfolding sheetFrom
   from-bytes = sheet-bytes (captured-fine r bs e)
 
-  from-means : meaning (sheetFrom r) ≡ captured (descs r)
+  pub from-means : meaning (sheetFrom r) ≡ captured (descs r)
   unfolding sheetFrom
   from-means = sheet-means (captured (descs r)) (captured-fine r bs e)
 

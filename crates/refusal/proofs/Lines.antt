@@ -125,7 +125,7 @@ names-as x l f g = record {
 -- 0 stays 0, and nothing else becomes 0
 old-zero : (n : ℕ) → old n ≡ 0 → n ≡ 0
 unfolding old
-old-zero n = go (eqb n 43 || eqb n 44)
+old-zero n = go (eqb n 44)
   where
     go : (b : Bool) → _≡_ {A = ℕ} (elim b [ true ↦ 5 | false ↦ n ]) 0 → n ≡ 0
     go true e = absurd (omega arith)
@@ -134,12 +134,11 @@ old-zero n = go (eqb n 43 || eqb n 44)
 -- a number that no entry has is the same in document 01
 pub old-same : (n : ℕ) → ofEntry n ≡ false → old n ≡ n
 unfolding old ofEntry
-old-same n h = go (eqb n 43) (eqb n 44) refl refl
+old-same n h = go (eqb n 44) refl
   where
-    go : (a b : Bool) → eqb n 43 ≡ a → eqb n 44 ≡ b → _≡_ {A = ℕ} (elim (a || b) [ true ↦ 5 | false ↦ n ]) n
-    go true b e f = absurd (true≢false (sym (ap ofEntry (eqb-true n 43 e)) ∙ h))
-    go false true e f = absurd (true≢false (sym (ap ofEntry (eqb-true n 44 f)) ∙ h))
-    go false false e f = refl
+    go : (b : Bool) → eqb n 44 ≡ b → _≡_ {A = ℕ} (elim b [ true ↦ 5 | false ↦ n ]) n
+    go true e = absurd (true≢false (sym (ap ofEntry (eqb-true n 44 e)) ∙ h))
+    go false e = refl
 
 abbrev pub Renumbered : (a b : Refusal) → Type 0
 Renumbered a b = a .number ≡ old (b .number)
@@ -157,10 +156,10 @@ orElse-old a b a′ b′ h k = go (a′ .number) refl
     go zero e = rw (orElse-none a′ b′ e, orElse-none a b (h ∙ ap old e)) k
     go (suc n) e = rw (orElse-fault a′ b′ (λ z. omega arith), orElse-fault a b (λ z. absurd (omega (arith, old-zero (a′ .number) (sym h ∙ z))))) h
 
-pub first-old : (f g : ℕ → Refusal) → ((i : ℕ) → Renumbered (f i) (g i)) → (i k : ℕ) → Renumbered (firstOf f i k) (firstOf g i k)
+pub first-old : (f g : ℕ → Refusal) (i k : ℕ) → ((j : ℕ) → i ≤ j → j < i + k → Renumbered (f j) (g j)) → Renumbered (firstOf f i k) (firstOf g i k)
 unfolding firstOf old
-first-old f g h i zero = refl
-first-old f g h i (suc k) = orElse-old _ _ _ _ (h i) (first-old f g h (suc i) k)
+first-old f g i zero h = refl
+first-old f g i (suc k) h = orElse-old _ _ _ _ (h i (omega arith) (omega arith)) (first-old f g (suc i) k (λ j l m. h j (omega arith) (omega arith)))
 
 pub same-old : (r : Refusal) → ofEntry (r .number) ≡ false → Renumbered r r
 same-old r h = sym (old-same (r .number) h)

@@ -7,14 +7,14 @@ use Rattle.refusal.specs.declared.Refusal.{Refusal}
 
 -- whether a refusal with this number has the place of an entry, and whether it has a place: of an entry, or with 3 of a profile
 unfoldable pub ofEntry : ℕ → Bool
-ofEntry n = eqb n 4 || eqb n 5 || eqb n 43 || eqb n 44 || eqb n 6 || eqb n 7
+ofEntry n = eqb n 4 || eqb n 5 || eqb n 44 || eqb n 6 || eqb n 7
 
 unfoldable pub hasPlace : ℕ → Bool
 hasPlace n = eqb n 3 || ofEntry n
 
 -- the number of document 01, which has 5 for all faults of flags
 unfoldable pub old : ℕ → ℕ
-old n = elim (eqb n 43 || eqb n 44) [ true ↦ 5 | false ↦ n ]
+old n = elim (eqb n 44) [ true ↦ 5 | false ↦ n ]
 
 -- the place is 0 exactly where the number has none
 abbrev pub RightPlace : Refusal → Type 0

@@ -240,12 +240,7 @@ pub const SHEET_BUFFER_SHORT: Refusal = Refusal {
     place: 0,
 };
 
-// The sheet's refusals of flags, beside FLAGS_BAD.
-pub const VERSION_SET: Refusal = Refusal {
-    number: 43,
-    place: 0,
-};
-
+// The sheet's refusal of flags beside FLAGS_BAD; 43, a Version, is withdrawn.
 pub const PERSISTENT_UNCURRENT: Refusal = Refusal {
     number: 44,
     place: 0,

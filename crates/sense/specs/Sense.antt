@@ -36,7 +36,7 @@ givenAs n k = record { 0 = n; 1 = k }
 abbrev pub noSense : Line
 noSense = givenAs 0 Nothing
 
--- every number that a command gives: none; the sheet's; the command's; a response buffer that is too short; the sheet's for Version and Persistent
+-- every number that a command gives: none; the sheet's; the command's; a response buffer that is too short; the sheet's for Persistent
 unfoldable pub given : List Line
 given =
     givenAs 0 Nothing ∷
@@ -52,7 +52,6 @@ given =
     givenAs 10 Operation ∷
     givenAs 11 Field ∷
     givenAs 12 Trouble ∷
-    givenAs 43 Trouble ∷
     givenAs 44 Trouble ∷ []
 
 -- the kind of a number; 54: no command gives it

@@ -36,7 +36,7 @@ const FIELD: Kind = Kind::Field;
 const TROUBLE: Kind = Kind::Trouble;
 
 // Each number that a command gives.
-const GIVEN: [Line; 15] = [
+const GIVEN: [Line; 14] = [
     Line(0, NOTHING),
     Line(1, TROUBLE),
     Line(2, TROUBLE),
@@ -50,7 +50,6 @@ const GIVEN: [Line; 15] = [
     Line(10, OPERATION),
     Line(11, FIELD),
     Line(12, TROUBLE),
-    Line(43, TROUBLE),
     Line(44, TROUBLE),
 ];
 

@@ -19,11 +19,11 @@ unfoldable pub endBefore : List ℕ → ℕ → ℕ
 endBefore s zero = bodiesAt s
 endBefore s (suc i) = offset s i + bodyLength s i
 
--- 5: reserved flag bits. 43: Version not 0. 44: Persistent without Current
+-- 5: reserved flag bits. 44: Persistent without Current. The Version may be any
 unfoldable pub flagsRule : ℕ → Refusal
-flagsRule f = text.flagsGiving (refuse 5) (refuse 43) (refuse 44) f
+flagsRule f = text.flagsGiving (refuse 5) (refuse 44) f
 
--- 4: feature number 0, or not above the one before. 5, 43, 44: flags. 6: body length no multiple of 4. 7: offset not the end of the body before
+-- 4: feature number 0, or not above the one before. 5, 44: flags. 6: body length no multiple of 4. 7: offset not the end of the body before
 unfoldable pub entryRule : (number before flags len offset end : ℕ) → Refusal
 entryRule number before flags len offset end =
     refuse 4 if eqb number 0 else

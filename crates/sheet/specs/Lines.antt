@@ -1,7 +1,8 @@
 -- The profile or entry that a refusal of a sheet names, and the check as document 01 has it. Assumes nothing: these are definitions.
+use mathlib.Core.Path.{_≡_}
 use mathlib.Core.Bool.{not}
 use mathlib.Core.List.{List}
-use Prim.Native.Nat.{ℕ, _%_}
+use Prim.Native.Nat.{ℕ, _%_, _<_}
 use lib.Dec.{ltb, leb, eqb}
 use lib.ListN.{length}
 use Rattle.refusal.specs.declared.Refusal.{Refusal}
@@ -20,12 +21,22 @@ entryRuleAt s i = entryRule (number s i) (numberBefore s i) (flags s i) (bodyLen
 abbrev pub LocatedIn : List ℕ → Refusal → Type 0
 LocatedIn s r = Located (profilesPart s) (profileCount s) (entryRuleAt s) (featureCount s) r
 
--- document 01: at each entry 4, 5, 6, 7, with 5 for each fault of flags
+-- document 01: 5 for each fault of flags, among them a Version
+unfoldable pub oldFlagsRule : ℕ → Refusal
+oldFlagsRule f =
+    (refuse 5 if text.newer f else accept) orElse
+    text.flagsGiving (refuse 5) (refuse 5) f
+
+-- a sheet with no Version above 0, which document 01 asks for
+abbrev pub NoVersions : List ℕ → Type 0
+NoVersions s = (i : ℕ) → i < featureCount s → text.version (flags s i) ≡ 0
+
+-- document 01: at each entry 4, 5, 6, 7
 unfoldable pub oldEntry : List ℕ → ℕ → Refusal
 oldEntry s i =
     refuse 4 if eqb (number s i) 0 else
     refuse 4 if leb (number s i) (numberBefore s i) else
-    text.flagsGiving (refuse 5) (refuse 5) (refuse 5) (flags s i) orElse
+    oldFlagsRule (flags s i) orElse
     refuse 6 if not (eqb (bodyLength s i % 4) 0) else
     refuse 7 if not (eqb (offset s i) (endBefore s i)) else
     accept

@@ -12,15 +12,11 @@ use text::Flags;
 
 // ---- the rules, on numbers
 
-// 5, 43 and 44 of a flags byte.
+// 5 and 44 of a flags byte.
 pub fn flags_rule(flags: Flags) -> Refusal
     ensures { λ r. ⌜ r ≡ flagsRule (flags .0) ⌝ }
 {
-    flags.fault(
-        refusal::FLAGS_BAD,
-        refusal::VERSION_SET,
-        refusal::PERSISTENT_UNCURRENT,
-    )
+    flags.fault(refusal::FLAGS_BAD, refusal::PERSISTENT_UNCURRENT)
 }
 
 fn entry_rule(

@@ -6,12 +6,11 @@ use Prim.Native.Nat.{ℕ}
 use Rattle.refusal.specs.declared.Refusal.{Refusal}
 use Rattle.refusal.specs.First.{accept, _if_else_}
 use Rattle.refusal.proofs.First.{orElse-none, orElse-zero}
-use Rattle.text.specs.Flags.{reserved, version, persistent, current, flagsGiving}
+use Rattle.text.specs.Flags.{reserved, persistent, current, flagsGiving}
 
--- reserved bits and Version 0, Persistent only with Current
+-- reserved bits 0, Persistent only with Current
 pub record Flagged (f : ℕ) : Type 0 where
   pub reserved-zero : reserved f ≡ 0
-  pub version-zero : version f ≡ 0
   pub current-too : persistent f ≡ 1 → current f ≡ 1
 
 if-no : (r : Refusal) (b : Bool) → (r .number ≡ 0 → ⊥) → (r if b else accept) .number ≡ 0 → b ≡ false
@@ -36,21 +35,23 @@ not-alone : (p c : Bool) → (p ≡ true → c ≡ true) → (p && not c) ≡ fa
 not-alone true c h = rw (h refl)
 not-alone false c h = refl
 
-module _ (a b c : Refusal) (f : ℕ) where
-  pub flags-good : (a .number ≡ 0 → ⊥) → (b .number ≡ 0 → ⊥) → (c .number ≡ 0 → ⊥) → flagsGiving a b c f .number ≡ 0 → Flagged f
+module _ (a b : Refusal) (f : ℕ) where
+  pub flags-good : (a .number ≡ 0 → ⊥) → (b .number ≡ 0 → ⊥) → flagsGiving a b f .number ≡ 0 → Flagged f
   unfolding flagsGiving
-  flags-good h i j e =
+  flags-good h i e =
       let x = orElse-zero _ _ e in
-      let y = orElse-zero _ _ (x .1) in
       record {
         reserved-zero = eqb-true _ _ (not-false _ (if-no a _ h (x .0)));
-        version-zero = eqb-true _ _ (not-false _ (if-no b _ i (y .0)));
-        current-too = λ p. eqb-true _ _ (alone-too _ _ (if-no c _ j (y .1)) (eq-eqb _ _ p));
+        current-too = λ p. eqb-true _ _ (alone-too _ _ (if-no b _ i (x .1)) (eq-eqb _ _ p));
       }
 
-  pub flags-accept : Flagged f → flagsGiving a b c f ≡ accept
+  pub flags-accept : Flagged f → flagsGiving a b f ≡ accept
   unfolding flagsGiving
   flags-accept g =
       orElse-none _ _ (none a _ (ap not (eq-eqb (reserved f) 0 (g .reserved-zero))))
-      ∙ orElse-none _ _ (none b _ (ap not (eq-eqb (version f) 0 (g .version-zero))))
-      ∙ if-accept c _ (not-alone _ _ (λ p. eq-eqb (current f) 1 (g .current-too (eqb-true (persistent f) 1 p))))
+      ∙ if-accept b _ (not-alone _ _ (λ p. eq-eqb (current f) 1 (g .current-too (eqb-true (persistent f) 1 p))))
+
+  -- only the reserved bits, Persistent and Current count: the Version does not
+  pub version-free : (g : ℕ) → reserved f ≡ reserved g → persistent f ≡ persistent g → current f ≡ current g → flagsGiving a b f ≡ flagsGiving a b g
+  unfolding flagsGiving
+  version-free g r p c = rw (r, p, c)

@@ -17,14 +17,17 @@ persistent f = f / 2 % 2
 abbrev pub current : ℕ → ℕ
 current f = f % 2
 
+-- a Version above 0: the feature may have more than the text says of it
+abbrev pub newer : ℕ → Bool
+newer f = not (eqb (version f) 0)
+
 -- Persistent without Current
 abbrev pub alone : ℕ → Bool
 alone f = eqb (persistent f) 1 && not (eqb (current f) 1)
 
--- the first refusal of a flags byte, where whoever asks gives a refusal for each rule, `accept` for a rule that is not looked at: reserved bits
--- not 0; Version not 0; Persistent without Current
-unfoldable pub flagsGiving : (bits newer lone : Refusal) (flags : ℕ) → Refusal
-flagsGiving bits newer lone f =
+-- the first refusal of a flags byte, where whoever asks gives a refusal for each rule: reserved bits not 0; Persistent without Current. The Version
+-- may be any
+unfoldable pub flagsGiving : (bits lone : Refusal) (flags : ℕ) → Refusal
+flagsGiving bits lone f =
     (bits if not (eqb (reserved f) 0) else accept) orElse
-    (newer if not (eqb (version f) 0) else accept) orElse
     (lone if alone f else accept)

@@ -65,15 +65,6 @@ impl Flags {
         refusal::ACCEPTED
     }
 
-    fn version_fault(self, given: Refusal) -> Refusal
-        ensures { λ r. ⌜ r ≡ (given if not (eqb (version (self .0)) 0) else accept) ⌝ }
-    {
-        if self.version() != 0 {
-            return given;
-        }
-        refusal::ACCEPTED
-    }
-
     fn alone_fault(self, given: Refusal) -> Refusal
         ensures { λ r. ⌜ r ≡ (given if alone (self .0) else accept) ⌝ }
     {
@@ -83,15 +74,11 @@ impl Flags {
         refusal::ACCEPTED
     }
 
-    // The first refusal of the flags; a rule whose refusal is `refusal::ACCEPTED` is not looked at.
-    pub fn fault(self, bits: Refusal, newer: Refusal, lone: Refusal) -> Refusal
-        ensures { λ r. ⌜ r ≡ flagsGiving bits newer lone (self .0) ⌝ }
+    // The first refusal of the flags. The Version may be any.
+    pub fn fault(self, bits: Refusal, lone: Refusal) -> Refusal
+        ensures { λ r. ⌜ r ≡ flagsGiving bits lone (self .0) ⌝ }
     {
         let fault = self.reserved_fault(bits);
-        if fault.number != 0 {
-            return fault;
-        }
-        let fault = self.version_fault(newer);
         if fault.number != 0 {
             return fault;
         }

@@ -65,7 +65,7 @@ fn say_finding(fd: i32, number: u8) {
         30 => say(fd, b"every response has to report it, and it is missing"),
         31 => say(fd, b"its body has not the length that it must have"),
         32 => say(fd, b"Persistent and Current are not both 1"),
-        33 => say(fd, b"a reserved flag bit or Version is not 0"),
+        33 => say(fd, b"a reserved flag bit is not 0"),
         34 => say(fd, b"Persistent is 1 and Current is 0"),
         35 => say(fd, b"Persistent is 1, and feature 0003 is reported"),
         36 => say(fd, b"a reserved body bit or a pad byte is not 0"),
@@ -84,7 +84,6 @@ fn say_finding(fd: i32, number: u8) {
 // A sheet's for flags, beside 5.
 fn say_flags(fd: i32, number: u8) {
     match number {
-        43 => say(fd, b"a feature's Version is not 0"),
         44 => say(fd, b"a feature is Persistent and not Current"),
         _ => {}
     }

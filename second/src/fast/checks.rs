@@ -48,10 +48,10 @@ fn first_finding(mut descriptors: &[u8], removable: bool) -> (u8, Feature) {
 
 /// Checks one descriptor; gives the first finding or 0.
 fn finding(header: Header, body: &[u8], removable: bool) -> u8 {
-    if header.flags() & (RESERVED | VERSION) != 0 {
+    if header.flags() & RESERVED != 0 {
         return FINDING_FLAGS;
     }
-    if header.flags() == PERSISTENT {
+    if header.flags() & (PERSISTENT | CURRENT) == PERSISTENT {
         return FINDING_PERSISTENT;
     }
     if header.feature() > LAST_RULED {
@@ -62,25 +62,32 @@ fn finding(header: Header, body: &[u8], removable: bool) -> u8 {
 
 /// Checks a descriptor whose flags are legal for any feature.
 fn ruled_finding(feature: u16, flags: u8, body: &[u8], removable: bool) -> u8 {
-    let has_legal_length = match feature {
-        0x0000 => true,
-        0x001F => body.is_empty(),
-        0x0021 => body.len() >= 4 && body.len() == 4 + (usize::from(body[3]) + 3) / 4 * 4,
-        0x0001..=0x0003 | 0x0020 | 0x0026 | 0x002D..=0x002F => body.len() == 4,
+    let wanted = match feature {
+        0x0000 => body.len(),
+        0x001F => 0,
+        0x0020 => 12,
+        0x0021 => body.get(3).map_or(4, |&count| 4 + (usize::from(count) + 3) / 4 * 4),
+        0x0001..=0x0003 | 0x0026 | 0x002D..=0x002F => 4,
         _ => return ACCEPTED,
     };
-    if !has_legal_length {
+    let newer = flags & VERSION != 0;
+    if body.len() < wanted || !newer && body.len() > wanted {
         return FINDING_LENGTH;
     }
-    if feature <= 3 && flags != PERSISTENT | CURRENT {
+    if feature <= 3 && flags & (PERSISTENT | CURRENT) != PERSISTENT | CURRENT {
         return FINDING_NOT_BOTH;
     }
     if feature > 3 && removable && flags & PERSISTENT != 0 {
         return FINDING_REMOVABLE;
     }
+    if newer {
+        return ACCEPTED;
+    }
     match feature {
         0x0000 => list_finding(body),
         0x001F => ACCEPTED,
+        0x0020 if body[10] > 1 || body[11] != 0 => FINDING_RESERVED,
+        0x0020 => ACCEPTED,
         0x0021 => link_sizes_finding(body),
         _ => word_finding(feature, first32(body)),
     }

@@ -93,9 +93,9 @@ pub(super) fn check_profiles(profiles: &[u8]) -> Result<(), Refusal> {
     Ok(())
 }
 
-/// Whether the reserved bits and Version are 0, and Persistent isn't set without Current.
+/// Whether the reserved bits are 0, and Persistent isn't set without Current.
 pub(super) fn flags_are_legal(flags: u8) -> bool {
-    flags < 2 || flags == PERSISTENT | CURRENT
+    flags & RESERVED == 0 && flags & (PERSISTENT | CURRENT) != PERSISTENT
 }
 
 /// Why flags that are not legal are refused; only then are the reasons told apart.
@@ -103,9 +103,6 @@ pub(super) fn flags_are_legal(flags: u8) -> bool {
 pub(super) fn flags_refused(flags: u8) -> u8 {
     if flags & RESERVED != 0 {
         return FLAGS_RESERVED;
-    }
-    if flags & VERSION != 0 {
-        return VERSION_SET;
     }
     PERSISTENT_UNCURRENT
 }

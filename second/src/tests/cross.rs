@@ -53,7 +53,8 @@ pub(super) fn make_sheet(numbers: &mut Numbers, most: u64) -> Vec<u8> {
         feature += 1 + numbers.below(4) as u16;
         let words = if numbers.below(8) == 0 { 64 } else { 4 };
         let length = 4 * numbers.below(words) as usize;
-        let flags = [0, 1, 3][numbers.below(3) as usize];
+        let version = if numbers.below(4) == 0 { numbers.below(16) as u8 } else { 0 };
+        let flags = [0, 1, 3][numbers.below(3) as usize] | version << 2;
         descriptors.push(Descriptor { feature: Feature(feature), flags, body: &bodies[..length] });
     }
     let most_profiles = if numbers.below(4) == 0 { 64 } else { 4 };
@@ -175,7 +176,7 @@ fn damaged_inputs_do_no_harm() {
             bytes.resize(length as usize, 0);
         }
         let (number, place) = told(check(&sheet));
-        assert!(number <= SHEET_END || [VERSION_SET, PERSISTENT_UNCURRENT].contains(&number));
+        assert!(number <= SHEET_END || number == PERSISTENT_UNCURRENT);
         let of_profile = number == PROFILE_BAD && (1..=63).contains(&place);
         let of_entry = ![0, 1, 2, 3, 8].contains(&number) && (1..=65_535).contains(&place);
         assert!(of_profile || of_entry || [0, 1, 2, 8].contains(&number) && place == 0);

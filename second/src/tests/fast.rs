@@ -120,7 +120,7 @@ fn ruled() -> Vec<u8> {
         (0x0003, 3, &[0x29, 0, 0, 0]),
         (0x0010, 1, &[0, 0, 8, 0, 0, 16, 1, 0]),
         (0x001F, 1, &[]),
-        (0x0020, 1, &[1, 2, 3, 4]),
+        (0x0020, 1, &[1, 2, 3, 4, 0, 0, 8, 0, 0, 16, 1, 0]),
         (0x0021, 1, &[0, 0, 0, 5, 9, 8, 7, 6, 5, 0, 0, 0]),
         (0x0023, 1, &[]),
         (0x0024, 1, &[]),
@@ -141,6 +141,29 @@ fn ruled() -> Vec<u8> {
         bytes.extend_from_slice(body);
     }
     response(0x0012, &bytes)
+}
+
+/// Each feature of the ruled response with each Version, body length and two fills of it, and two other flags.
+fn each_version(see: &mut dyn FnMut(&[u8])) {
+    let whole = ruled();
+    let mut at = 8;
+    while at < whole.len() {
+        let next = at + 4 + usize::from(whole[at + 3]);
+        for version in 0..16 {
+            for flags in [whole[at + 2], 1, 3] {
+                for length in (0..=24).step_by(4) {
+                    for fill in [0, 0xFF] {
+                        let mut bytes = whole[8..at + 2].to_vec();
+                        bytes.extend_from_slice(&[flags | version << 2, length]);
+                        bytes.extend(vec![fill; usize::from(length)]);
+                        bytes.extend_from_slice(&whole[next..]);
+                        see(&response(0x0012, &bytes));
+                    }
+                }
+            }
+        }
+        at = next;
+    }
 }
 
 /// The ruled response with up to two features left out and each bit flipped.
@@ -196,8 +219,8 @@ fn sheets_and_commands() {
     for most in [63, 64] {
         same_check(&mut checked, &build(&(1..=most).map(listed).collect::<Vec<_>>(), &[]).unwrap());
     }
-    checked.are((0..=8).chain([43, 44]));
-    answered.are((0..=1).chain(3..=12).chain([43, 44]));
+    checked.are((0..=8).chain([44]));
+    answered.are((0..=1).chain(3..=12).chain([44]));
 }
 
 #[test]
@@ -223,8 +246,8 @@ fn flags() {
             }
         }
     }
-    in_sheets.are([0, 5, 43, 44]);
-    in_captures.are([0, 5, 43, 44]);
+    in_sheets.are([0, 5, 44]);
+    in_captures.are([0, 5, 44]);
 }
 
 #[test]
@@ -252,6 +275,7 @@ fn readings_checks_and_imports() {
         same_profiles(&mut conforming, received);
         same_import(&mut imported, received, 400);
     });
+    each_version(&mut |received| same_descriptors(&mut found, received));
     for cut in 0..E_FULL.len() {
         same_reading(&mut read, 0, 0, &E_FULL[..cut], None);
         same_import(&mut imported, &E_FULL[..cut], 52);
@@ -259,7 +283,7 @@ fn readings_checks_and_imports() {
     read.are((13..=20).chain([0]));
     found.are((14..=18).chain([0, 20]).chain(29..=37).chain([39]));
     conforming.are((14..=18).chain([0, 20, 29, 40]));
-    imported.are((14..=18).chain([0, 3, 5, 20, 29]).chain(41..=44));
+    imported.are((14..=18).chain([0, 3, 5, 20, 29, 41, 42, 44]));
 }
 
 #[test]
@@ -278,7 +302,7 @@ fn bench_sweeps() {
         let rt = [0, 1, 0, 1, 2][numbers.below(5) as usize];
         same_sweep(&mut seen, &bytes, rt, allocation, [response, collected, starts]);
     }
-    seen.are([0, 1, 3, 4, 5, 6, 7, 8, 12, 21, 22, 23, 24, 25, 43, 44]);
+    seen.are([0, 1, 3, 4, 5, 6, 7, 8, 12, 21, 22, 23, 24, 25, 44]);
 }
 
 #[test]

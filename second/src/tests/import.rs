@@ -108,8 +108,8 @@ fn profiles_and_flags_of_the_sheet() {
     // Feature 0 is not counted.
     for (index, at) in [22, 30, 38, 42].into_iter().enumerate() {
         assert_eq!(with(&[(at, 2)]), (PERSISTENT_UNCURRENT, index + 1));
-        for bit in 2..6 {
-            assert_eq!(with(&[(at, 2 | 1 << bit)]), (VERSION_SET, index + 1));
+        for version in 1..16 {
+            assert_eq!(with(&[(at, 2 | version << 2)]), (PERSISTENT_UNCURRENT, index + 1));
         }
         for bit in 6..8 {
             assert_eq!(with(&[(at, 6 | 1 << bit)]), (FLAGS_RESERVED, index + 1));
@@ -134,7 +134,7 @@ fn the_earlier_fault_decides() {
         ((PROFILE_BAD, 1), &[(15, 1)]),
         ((PROFILE_BAD, 2), &[(19, 1)]),
         ((FLAGS_RESERVED, 1), &[(22, 0x42)]),
-        ((VERSION_SET, 2), &[(30, 6)]),
+        ((PERSISTENT_UNCURRENT, 2), &[(30, 6)]),
         ((PERSISTENT_UNCURRENT, 3), &[(38, 2)]),
         ((FLAGS_RESERVED, 4), &[(42, 0x83)]),
     ];
@@ -152,6 +152,22 @@ fn the_earlier_fault_decides() {
     }
     for room in 0..52 {
         assert_eq!(refused(&E_FULL, room), (SHEET_BUFFER_SHORT, 0));
+    }
+}
+
+#[test]
+fn versions_are_kept() {
+    // Where the flags of E's features stand in its full response and in the sheet.
+    for (at, in_sheet) in [(22, 6), (30, 14), (38, 22), (42, 30)] {
+        for version in 0..16 {
+            for flags in [0, 1, 3] {
+                let (mut capture, mut sheet) = (E_FULL, E);
+                capture[at] = flags | version << 2;
+                sheet[in_sheet] = flags | version << 2;
+                assert_eq!(imported(&capture), sheet);
+                assert_eq!(ask(&sheet, 0, 0, 44), (ACCEPTED, capture.to_vec()));
+            }
+        }
     }
 }
 
@@ -202,7 +218,7 @@ fn damaged_captures_are_refused_or_come_back() {
         let mut sheet = vec![FILL; 4 * capture.len()];
         match import(&capture, &mut sheet) {
             Err(refusal) => {
-                let of_sheet = [3, 5, 43, 44].contains(&refusal.number);
+                let of_sheet = [3, 5, 44].contains(&refusal.number);
                 assert!(of_sheet || [15, 16, 17, 18, 20, 29, 41].contains(&refusal.number));
                 assert_eq!(of_sheet, refusal.place > 0);
                 assert!(sheet.iter().all(|&byte| byte == FILL));

@@ -55,8 +55,7 @@ fn faults(sheet: &[u8]) -> Vec<Fault> {
         faults.push(((FEATURE_ORDER, place), at + 1, 0));
         faults.push(((FLAGS_RESERVED, place), at + 2, 0xFE));
         faults.push(((FLAGS_RESERVED, place), at + 2, 0x43));
-        faults.push(((VERSION_SET, place), at + 2, 0x3E));
-        faults.push(((VERSION_SET, place), at + 2, 0x07));
+        faults.push(((PERSISTENT_UNCURRENT, place), at + 2, 0x3E));
         faults.push(((PERSISTENT_UNCURRENT, place), at + 2, 0x02));
         faults.push(((BODY_LENGTH, place), at + 3, 6));
         faults.push(((BODY_OFFSET, place), at + 7, sheet[at + 7] ^ 4));
@@ -155,7 +154,7 @@ fn the_last_entry_there_can_be() {
     let changes = [
         (FEATURE_ORDER, 1, 0xFE),
         (FLAGS_RESERVED, 2, 0xFE),
-        (VERSION_SET, 2, 0x3E),
+        (PERSISTENT_UNCURRENT, 2, 0x3E),
         (PERSISTENT_UNCURRENT, 2, 0x02),
         (BODY_LENGTH, 3, 0x03),
         (BODY_OFFSET, 7, 0x01),
@@ -189,8 +188,7 @@ fn capture_faults() -> Vec<Fault> {
         let at = 24 + 8 * (place - 1);
         faults.push(((FLAGS_RESERVED, place), at + 2, 0xFE));
         faults.push(((FLAGS_RESERVED, place), at + 2, 0x43));
-        faults.push(((VERSION_SET, place), at + 2, 0x3E));
-        faults.push(((VERSION_SET, place), at + 2, 0x07));
+        faults.push(((PERSISTENT_UNCURRENT, place), at + 2, 0x3E));
         faults.push(((PERSISTENT_UNCURRENT, place), at + 2, 0x02));
     }
     faults
@@ -269,7 +267,9 @@ fn the_last_descriptor_of_the_longest_capture() {
     }
     let mut longest = response(0, &bytes);
     assert_eq!(longest.len(), 65_532);
-    for (flags, number) in [(0x81, FLAGS_RESERVED), (0x05, VERSION_SET), (0x02, PERSISTENT_UNCURRENT)] {
+    for (flags, number) in
+        [(0x81, FLAGS_RESERVED), (0x06, PERSISTENT_UNCURRENT), (0x02, PERSISTENT_UNCURRENT)]
+    {
         longest[65_530] = flags;
         assert_eq!(imported(&longest), (number, 16_380));
     }

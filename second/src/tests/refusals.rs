@@ -259,7 +259,8 @@ fn findings_in_flags() {
     assert_eq!(finding(&[]), (ACCEPTED, Feature(0)));
     assert_eq!(check_descriptors(&E_FULL), (ACCEPTED, Feature(0)));
     assert_eq!(finding_with(2, 0x43), (FINDING_FLAGS, Feature(0)));
-    assert_eq!(finding_with(10, 0x07), (FINDING_FLAGS, Feature(1)));
+    assert_eq!(finding_with(10, 0x07), (ACCEPTED, Feature(0)));
+    assert_eq!(finding_with(10, 0x3E), (FINDING_PERSISTENT, Feature(1)));
     assert_eq!(finding_with(10, 0x02), (FINDING_PERSISTENT, Feature(1)));
     assert_eq!(finding_with(10, 0x01), (FINDING_NOT_BOTH, Feature(1)));
     assert_eq!(finding_with(2, 0x00), (FINDING_NOT_BOTH, Feature(0)));
@@ -281,11 +282,18 @@ fn findings_in_lengths() {
     assert_eq!(finding(&[0, 2, 0, 0]), wrong(0x02));
     assert_eq!(finding(&[0, 3, 3, 0]), wrong(0x03));
     assert_eq!(finding(&[0, 0x1F, 1, 4, 0, 0, 0, 0]), wrong(0x1F));
-    for feature in [0x20, 0x21, 0x26, 0x2D, 0x2E, 0x2F] {
+    for feature in [0x21, 0x26, 0x2D, 0x2E, 0x2F] {
         assert_eq!(finding(&[0, feature, 1, 0]), wrong(feature));
         assert_eq!(finding(&[0, feature, 1, 8, 0, 0, 0, 0, 0, 0, 0, 0]), wrong(feature));
         assert_eq!(finding(&[0, feature, 1, 4, 0, 0, 0, 0]), (ACCEPTED, Feature(0)));
     }
+    for length in [0, 4, 8, 16, 252] {
+        let mut bytes = vec![0, 0x20, 1, length];
+        bytes.resize(4 + usize::from(length), 0);
+        assert_eq!(finding(&bytes), wrong(0x20));
+    }
+    let random = [0, 0x20, 1, 12, 0, 1, 2, 3, 0, 0, 8, 0, 0, 16, 1, 0];
+    assert_eq!(finding(&random), (ACCEPTED, Feature(0)));
     // An empty profile list is legal.
     assert_eq!(check_descriptors(&response(0, &[0, 0, 3, 0, 0, 1, 3, 4, 9, 9, 9, 9])).0, ACCEPTED);
 }
@@ -318,7 +326,11 @@ fn findings_in_link_sizes() {
 fn findings_with_a_removable_medium() {
     let removable = [0, 3, 3, 4, 0x29, 0, 0, 0];
     for feature in [0x1F, 0x20, 0x21, 0x26, 0x2D, 0x2E, 0x2F] {
-        let length = if feature == 0x1F { 0 } else { 4 };
+        let length = match feature {
+            0x1F => 0,
+            0x20 => 12,
+            _ => 4,
+        };
         let mut bytes = vec![0, feature, 3, length];
         bytes.resize(4 + usize::from(length), 0);
         assert_eq!(finding(&bytes), (ACCEPTED, Feature(0)));
@@ -332,11 +344,10 @@ fn findings_with_a_removable_medium() {
 #[test]
 fn findings_in_reserved_bits() {
     // Which bits of each body may be 1, from the paper's table.
-    let masks: [(u8, u8, u8, u32); 8] = [
+    let masks: [(u8, u8, u8, u32); 7] = [
         (0x01, 3, 0xFF, 0x00FF_FFFF),
         (0x02, 3, 0x01, 0),
         (0x03, 3, 0b1110_1101, 0),
-        (0x20, 1, 0xFF, 0x00FF_FFFF),
         (0x26, 1, 0xFF, 0x00FF_FFFF),
         (0x2D, 1, 0b0000_0111, 0),
         (0x2E, 1, 0b0011_1111, 0x00FF_FFFF),
@@ -360,9 +371,74 @@ fn findings_in_reserved_bits() {
             assert_eq!(check_descriptors(&response(0, &descriptors)), expected);
         }
     }
+    // 0020h: any bit up to byte 13, then one bit, then none.
+    for bit in 0..96 {
+        let mut bytes = vec![0, 0x20, 1, 12];
+        bytes.resize(16, 0);
+        bytes[4 + bit / 8] = 1 << (bit % 8);
+        let expected = if bit <= 80 { (ACCEPTED, Feature(0)) } else { (FINDING_RESERVED, Feature(0x20)) };
+        assert_eq!(finding(&bytes), expected);
+    }
     assert_eq!(finding_with(6, 0x02), (FINDING_RESERVED, Feature(0)));
     assert_eq!(finding_with(6, 0x80), (FINDING_RESERVED, Feature(0)));
     assert_eq!(finding_with(7, 0x01), (FINDING_RESERVED, Feature(0)));
+}
+
+#[test]
+fn findings_with_a_version() {
+    // Each feature of the table and its least length; 0021h counts 5 link sizes, 3 pad bytes with them.
+    let rows: [(u8, u8); 11] = [
+        (0x00, 0),
+        (0x01, 4),
+        (0x02, 4),
+        (0x03, 4),
+        (0x1F, 0),
+        (0x20, 12),
+        (0x21, 12),
+        (0x26, 4),
+        (0x2D, 4),
+        (0x2E, 4),
+        (0x2F, 4),
+    ];
+    for (feature, least) in rows {
+        for version in 0..16 {
+            for length in (0..=least + 8).step_by(4) {
+                // All ones breaks 36 nearly everywhere; byte 7 is 5.
+                let mut bytes = vec![0, feature, 3 | version << 2, length];
+                bytes.resize(4 + usize::from(length), 0xFF);
+                if length >= 4 {
+                    bytes[7] = 5;
+                }
+                let list = if feature == 0 { &[] } else { &GOOD[..8] };
+                let core = if feature == 1 { &[] } else { &GOOD[8..] };
+                let all = if feature == 0 { [&bytes, core].concat() } else { [list, core, &bytes].concat() };
+                let (number, named) = check_descriptors(&response(0, &all));
+                let expected = if length < least || version == 0 && length > least && feature != 0 {
+                    FINDING_LENGTH
+                } else if version > 0 || [0x01, 0x26, 0x1F].contains(&feature) || length == 0 {
+                    ACCEPTED
+                } else {
+                    FINDING_RESERVED
+                };
+                assert_eq!(number, expected, "{:02X} {} {}", feature, version, length);
+                assert_eq!(named, Feature(if number == ACCEPTED { 0 } else { u16::from(feature) }));
+            }
+        }
+    }
+    // Neither 37 nor 39 with a Version, and still 33, 34, 32 and 35.
+    assert_eq!(finding(&[0, 0x2E, 5, 4, 0x1F, 0, 0, 1]), (ACCEPTED, Feature(0)));
+    assert_eq!(finding(&[0, 0x2E, 0x45, 4, 0x1F, 0, 0, 1]), (FINDING_FLAGS, Feature(0x2E)));
+    assert_eq!(finding(&[0, 0x2E, 6, 4, 0x1F, 0, 0, 1]), (FINDING_PERSISTENT, Feature(0x2E)));
+    assert_eq!(finding(&[0, 2, 5, 4, 0, 0, 0, 0]), (FINDING_NOT_BOTH, Feature(2)));
+    assert_eq!(finding(&[0, 3, 7, 4, 0, 0, 0, 0, 0, 0x1F, 7, 0]), (FINDING_REMOVABLE, Feature(0x1F)));
+    let list = [0, 0, 7, 4, 0, 0, 0, 0, 0, 1, 3, 4, 0, 0, 0, 2];
+    assert_eq!(check_descriptors(&response(0, &list)), (ACCEPTED, Feature(0)));
+    // 0021h without byte 7 is too short, whatever its Version, and N counts.
+    assert_eq!(finding(&[0, 0x21, 5, 0]), (FINDING_LENGTH, Feature(0x21)));
+    assert_eq!(finding(&[0, 0x21, 5, 4, 0, 0, 0, 1]), (FINDING_LENGTH, Feature(0x21)));
+    assert_eq!(finding(&[0, 0x21, 5, 8, 0, 0, 0, 1, 1, 1, 1, 1]), (ACCEPTED, Feature(0)));
+    // Other features have only the first two rules, with a Version too.
+    assert_eq!(finding(&[0x12, 0x34, 0x3D, 4, 1, 2, 3, 4]), (ACCEPTED, Feature(0)));
 }
 
 #[test]

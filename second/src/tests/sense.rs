@@ -15,7 +15,7 @@ const KINDS: [(Kind, [u8; 18], &[u8]); 4] = [
     (Kind::Nothing, NOTHING, &[0]),
     (Kind::Operation, OPERATION, &[9, 10]),
     (Kind::Field, FIELD, &[11]),
-    (Kind::Trouble, TROUBLE, &[1, 2, 3, 4, 5, 6, 7, 8, 12, 43, 44]),
+    (Kind::Trouble, TROUBLE, &[1, 2, 3, 4, 5, 6, 7, 8, 12, 44]),
 ];
 
 /// The number with which making is refused; sees that the buffer is unchanged.

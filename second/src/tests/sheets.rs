@@ -56,7 +56,12 @@ fn bad_entries() {
     assert_eq!(with(5, 0x00), (FEATURE_ORDER, 1));
     assert_eq!(with(13, 0x01), (FEATURE_ORDER, 2));
     assert_eq!(with(6, 0x43), (FLAGS_RESERVED, 1));
-    assert_eq!(with(6, 0x07), (VERSION_SET, 1));
+    // Every Version is accepted, and hides nothing.
+    for version in 0..16 {
+        assert_eq!(with(6, 0x03 | version << 2), (ACCEPTED, 0));
+        assert_eq!(with(6, 0x02 | version << 2), (PERSISTENT_UNCURRENT, 1));
+        assert_eq!(with(6, 0x43 | version << 2), (FLAGS_RESERVED, 1));
+    }
     assert_eq!(with(6, 0x02), (PERSISTENT_UNCURRENT, 1));
     assert_eq!(with(7, 0x05), (BODY_LENGTH, 1));
     assert_eq!(with(11, 0x2D), (BODY_OFFSET, 1));

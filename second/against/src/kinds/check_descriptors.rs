@@ -46,6 +46,7 @@ fn fixed(run: &mut Run) {
     long_responses().iter().for_each(|response| see(response));
     each_bit(run);
     each_length(run);
+    each_version(run);
     each_count_of_link_sizes(run);
 }
 
@@ -111,11 +112,14 @@ fn each_two_faults(run: &mut Run) {
     });
 }
 
+/// The features that can't be Persistent where the medium can be removed.
+const OF_MEDIUM: [u16; 7] = [0x1F, 0x20, 0x21, 0x26, 0x2D, 0x2E, 0x2F];
+
 /// The faults of a feature's descriptor, in their order.
 fn part_faults(feature: u16, faults: &mut Vec<Fault<Checked>>) {
-    let of_medium = [0x1F, 0x20, 0x21, 0x26, 0x2D, 0x2E, 0x2F].contains(&feature);
+    let of_medium = OF_MEDIUM.contains(&feature);
     faults.push(of_part(33, feature, |part| part.1 |= 0x40));
-    faults.push(of_part(33, feature, |part| part.1 |= 0x04));
+    faults.push(of_part(33, feature, |part| part.1 |= 0x84));
     faults.push(of_part(34, feature, |part| part.1 = part.1 & 0xFC | 2));
     if of_medium || (1..=3).contains(&feature) {
         faults.push(of_part(31, feature, |part| part.2.extend_from_slice(&[0; 8])));
@@ -135,6 +139,8 @@ fn part_faults(feature: u16, faults: &mut Vec<Fault<Checked>>) {
         (0, 7, 1),
         (2, 0, 2),
         (3, 0, 0x10),
+        (0x20, 10, 2),
+        (0x20, 11, 0x80),
         (0x21, 0, 1),
         (0x21, 9, 1),
         (0x2D, 0, 8),
@@ -178,6 +184,50 @@ fn each_length(run: &mut Run) {
                 let mut changed = parts.clone();
                 changed[at].2 = vec![byte; length];
                 compare(run, &response_of(0, &changed), 1);
+            }
+        }
+    }
+}
+
+/// The least length of a feature's body; 0021h counts 5 link sizes where it has byte 7.
+fn least(feature: u16, length: usize) -> usize {
+    match feature {
+        1..=3 | 0x26 | 0x2D..=0x2F => 4,
+        0x20 => 12,
+        0x21 if length < 4 => 4,
+        0x21 => 9,
+        _ => 0,
+    }
+}
+
+/// What a Version above 0 is told, where 0003h is reported: what stands in the body does not matter.
+fn newer_told(feature: u16, flags: u8, length: usize) -> u64 {
+    match flags {
+        2 => 34,
+        _ if length < least(feature, length) => 31,
+        0 | 1 if feature <= 3 => 32,
+        3 if OF_MEDIUM.contains(&feature) => 35,
+        _ => 0,
+    }
+}
+
+/// Each feature that has rules with each Version, each of the other flags and lengths below, at and above its own.
+fn each_version(run: &mut Run) {
+    let parts = ruled_parts();
+    for at in 0..parts.len() {
+        let feature = parts[at].0;
+        for (version, flags) in (0..16).flat_map(|version| (0..4).map(move |flags| (version, flags))) {
+            for length in (0..=24).step_by(4).chain([252]) {
+                for byte in [0, 0xFF] {
+                    let mut changed = parts.clone();
+                    let mut body = vec![byte; length];
+                    body.iter_mut().skip(3).take(1).for_each(|count| *count = 5);
+                    changed[at] = (feature, flags | version << 2, body);
+                    let answer = compare(run, &response_of(0, &changed), 1);
+                    if version > 0 {
+                        run.expect(answer, newer_told(feature, flags, length));
+                    }
+                }
             }
         }
     }

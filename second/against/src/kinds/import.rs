@@ -22,9 +22,9 @@ pub const KIND: Kind = Kind { name: "gcf_import", answers, fixed, random };
 /// The longest response that can be complete.
 const LONGEST: usize = 65_532;
 
-/// A reading's, 29, 41, of the sheet's 3, 5, 43 and 44, and 42.
+/// A reading's, 29, 41, of the sheet's 3, 5 and 44, and 42.
 fn answers() -> Vec<u64> {
-    READING.into_iter().chain([29, 41, 3, 5, 43, 44, 42]).collect()
+    READING.into_iter().chain([29, 41, 3, 5, 44, 42]).collect()
 }
 
 /// Compares one import.
@@ -226,10 +226,9 @@ fn each_profile_list(run: &mut Run) {
 
 /// What flags of the entry at a place are told.
 fn flags_told(flags: u8, place: usize) -> Told {
-    match flags {
-        0 | 1 | 3 => (0, 0),
-        2 => (44, place),
-        4..=0x3F => (43, place),
+    match (flags >> 6, flags & 3) {
+        (0, 2) => (44, place),
+        (0, _) => (0, 0),
         _ => (5, place),
     }
 }

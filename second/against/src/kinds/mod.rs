@@ -53,7 +53,7 @@ fn fields(record: Record) -> [u64; 6] {
 }
 
 /// The answers of a sheet's check.
-const SHEET: [u64; 11] = [0, 1, 2, 3, 4, 5, 43, 44, 6, 7, 8];
+const SHEET: [u64; 10] = [0, 1, 2, 3, 4, 5, 44, 6, 7, 8];
 
 /// The answers of a reading with RT 0.
 const READING: [u64; 7] = [0, 14, 15, 16, 17, 18, 20];

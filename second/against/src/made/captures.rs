@@ -53,7 +53,7 @@ pub struct Import {
 
 /// The descriptors behind feature 0 of a good capture; 1 and 2 are free.
 fn good_parts() -> Vec<Part> {
-    vec![(3, 3, body(4)), (0x10, 0, body(0)), (0x100, 1, body(8)), (0xFFFF, 3, body(4))]
+    vec![(3, 7, body(4)), (0x10, 0, body(0)), (0x100, 0x3D, body(8)), (0xFFFF, 3, body(4))]
 }
 
 /// Three profiles, of which the second and the third are current.

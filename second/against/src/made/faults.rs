@@ -46,8 +46,13 @@ pub fn each_pair<T: Clone>(good: &T, faults: &[Fault<T>], see: &mut dyn FnMut(&T
 
 /// A sheet that has room for each fault: 5 entries, 3 profiles, and bodies that 64 profiles would fit in.
 pub fn good_sheet() -> Vec<u8> {
-    let parts =
-        [(1, 3, body(252)), (2, 1, body(0)), (0x10, 0, body(8)), (0x100, 3, body(4)), (0xFFFF, 1, body(0))];
+    let parts = [
+        (1, 7, body(252)),
+        (2, 1, body(0)),
+        (0x10, 0x3C, body(8)),
+        (0x100, 3, body(4)),
+        (0xFFFF, 0x29, body(0)),
+    ];
     sheet_of(&profiles(3, 2), &parts)
 }
 
@@ -122,25 +127,29 @@ fn entry_faults(place: usize, faults: &mut Vec<Fault<Vec<u8>>>) {
 }
 
 /// The faults of flags in the order in which they are looked for: the number, and what is done to legal flags.
-pub const FLAG_FAULTS: [(u8, fn(u8) -> u8); 9] = [
+pub const FLAG_FAULTS: [(u8, fn(u8) -> u8); 8] = [
     (5, |flags| flags | 0x80),
     (5, |flags| flags | 0x40),
     (5, |flags| flags | 0xFC),
-    (43, |flags| flags | 0x20),
-    (43, |flags| flags | 0x10),
-    (43, |flags| flags | 0x08),
-    (43, |flags| flags | 0x04),
-    (43, |flags| flags | 0x3C),
     (44, |flags| flags & 0xFC | 2),
+    (44, |_| 2),
+    (44, |_| 0x06),
+    (44, |_| 0x22),
+    (44, |_| 0x3E),
 ];
 
 /// Shows a sheet of 65,535 features in a row with each fault of its last entry; it is then as it was.
 pub fn each_last_fault(sheet: &mut [u8], see: &mut dyn FnMut(&[u8], Told)) {
     let last = 4 + 8 * 65_534;
     let entry: [u8; 8] = sheet[last..last + 8].try_into().unwrap_or_default();
-    for (number, at, bits) in
-        [(4, 1, 0x02), (5, 2, 0x40), (43, 2, 0x04), (44, 2, entry[2] ^ 2), (6, 3, 0x02), (7, 7, 0x02)]
-    {
+    for (number, at, bits) in [
+        (4, 1, 0x02),
+        (5, 2, 0x40),
+        (44, 2, entry[2] ^ 0x3E),
+        (44, 2, entry[2] ^ 2),
+        (6, 3, 0x02),
+        (7, 7, 0x02),
+    ] {
         sheet[last + at] ^= bits;
         see(sheet, (number, 65_535));
         sheet[last..last + 8].copy_from_slice(&entry);

@@ -20,7 +20,7 @@ pub fn ruled_parts() -> Vec<Part> {
         (0x0003, 3, vec![0x29, 0, 0, 0]),
         (0x0010, 1, vec![0, 0, 8, 0, 0, 16, 1, 0]),
         (0x001F, 1, vec![]),
-        (0x0020, 1, vec![1, 2, 3, 4]),
+        (0x0020, 1, vec![1, 2, 3, 4, 0, 0, 8, 0, 0, 16, 1, 0]),
         (0x0021, 1, vec![0, 0, 0, 5, 9, 8, 7, 6, 5, 0, 0, 0]),
         (0x0023, 1, vec![]),
         (0x0024, 1, vec![]),
@@ -229,16 +229,17 @@ pub fn random_ruled(random: &mut Random) -> Vec<u8> {
 /// Changes one thing about a descriptor.
 fn bend(random: &mut Random, part: &mut Part) {
     let (_, flags, body) = part;
-    match random.below(6) {
+    match random.below(7) {
         0 => *flags = random.one_of(&[0, 1, 2, 3]),
         1 => *flags ^= 1 << random.below(8),
         2 => body.resize(random.below(6) * 4, 0),
+        3 => *flags |= random.byte() & 0x3C,
         _ if body.is_empty() => {}
-        3 => {
+        4 => {
             let at = random.below(body.len());
             body[at] = random.byte();
         }
-        4 => {
+        5 => {
             let at = random.below(body.len());
             body[at] = 0;
         }

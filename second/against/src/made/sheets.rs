@@ -55,7 +55,7 @@ pub fn in_a_row(count: u16, length: usize) -> Vec<Part> {
 pub fn at_edges() -> Vec<Part> {
     let numbers = [1, 0x7F, 0x80, 0xFF, 0x100, 0x7FFF, 0x8000, 0xFFFE, 0xFFFF];
     let lengths = [0, 4, 0, 8, 252, 0, 12, 4, 16];
-    let flags = [3, 1, 0, 0, 1, 3, 0, 1, 3];
+    let flags = [3, 1, 0, 0x3C, 1, 7, 0, 0x15, 3];
     (0..numbers.len()).map(|at| (numbers[at], flags[at], body(lengths[at]))).collect()
 }
 
@@ -130,7 +130,8 @@ pub fn random_parts(random: &mut Random, count: usize, from: usize) -> Vec<Part>
         }
         let words = random.one_of(&[1, 3, 3, 3, 64]);
         let length = 4 * random.below(words);
-        parts.push((number as u16, random.one_of(&[0, 1, 3]), random.bytes(length)));
+        let version = if random.once_in(4) { random.byte() & 0x3C } else { 0 };
+        parts.push((number as u16, random.one_of(&[0, 1, 3]) | version, random.bytes(length)));
         number += 1 + random.below(step);
     }
     // The last number there is comes up rarely otherwise.

@@ -13,11 +13,5 @@ returns-2 : tie.Need-returns-2
 unfolding flagsGiving
 returns-2 c = search faults
 
-returns-3 : tie.Need-returns-3
-unfolding flagsGiving
-returns-3 c = search faults
-
 pub fault-spec : {M : Type 1} → statement M
-fault-spec =
-    tie.close
-    (tie.spec (λ c κs. search needs) returns (λ c κs. search needs) returns-2 (λ c κs. search needs) returns-3)
+fault-spec = tie.close (tie.spec (λ c κs. search needs) returns (λ c κs. search needs) returns-2)
