@@ -9,7 +9,8 @@
  *   - a pointer and the count behind it name that many elements; the pointer is not null and is aligned for its type, also where the count is 0;
  *   - what is written (a pointer without const) overlaps nothing else that is handed in.
  *
- * A uint8_t result is the paper's number: 0 is accepted, anything else a refusal (GCF_...). Further results go to the front of the array `numbers`,
+ * A uint8_t result is the paper's number: 0 is accepted, anything else a refusal (GCF_...); the two calls of a sweep give it in a struct, with the
+ * record. Further results go to the front of the array `numbers`,
  * in the order given here, also where something is refused; an array that is too short gets the first of them, and what is behind them in a longer
  * one stays as it was.
  *
@@ -105,6 +106,8 @@ enum gcf_number {
     GCF_SHEET_BUFFER_SHORT = 42,
     /* flags in a drive sheet, beside 5; 43, a Version, is withdrawn */
     GCF_PERSISTENT_UNCURRENT = 44,
+    /* sweep, beside 21 to 28 */
+    GCF_PROFILE_CHANGED = 45,
     /* sense data */
     GCF_SENSE_LENGTH = 46,
     GCF_SENSE_CODE = 47,
@@ -196,56 +199,56 @@ size_t gcf_list(const uint8_t *response, size_t response_bytes, uint8_t *text, s
 /* The most bytes that a response has with this allocation length: the smaller of it and 65,534. */
 size_t gcf_most(uint16_t allocation);
 
-/* Starts a sweep: 21, 22. numbers: the record, in the order of struct gcf_sweep; refused: a record that has ended, all else 0. */
-uint8_t gcf_sweep_start(uint8_t rt, uint16_t allocation, uint64_t *numbers, size_t numbers_count);
-
-/*
- * Takes the response to the sweep's next command, with any record: 21, 22, 26, the reading's, 28, 23, 27, 24. Accepted: the whole descriptors stand
- * behind those collected, and nothing else of the collecting buffer changed. Refused: nothing changed but, on 23, the mark that it has ended.
- * numbers: the record from then on, in the order of struct gcf_sweep.
- */
-uint8_t gcf_sweep_take(uint8_t rt, uint16_t allocation, gcf_feature next, uint32_t commands, size_t collected, bool ended,
-                       const uint8_t *response, size_t response_bytes,
-                       uint8_t *collecting, size_t collecting_bytes,
-                       uint64_t *numbers, size_t numbers_count);
-
-/* A sweep's record, and the two calls above on it. */
+/* A sweep's record. It is handed in and comes back as one thing; any record may be handed in. */
 struct gcf_sweep {
     uint8_t rt;
     uint16_t allocation;
-    gcf_feature next;   /* the Starting Feature Number to ask for */
-    uint32_t commands;  /* responses accepted so far */
-    size_t collected;   /* bytes collected so far */
+    gcf_feature next;    /* the Starting Feature Number to ask for */
+    uint32_t commands;   /* responses accepted so far */
+    size_t collected;    /* bytes collected so far */
     bool ended;
+    gcf_profile profile; /* the Current Profile of the first accepted response, 0 before it */
 };
 
-static inline void gcf_sweep_put(struct gcf_sweep *sweep, const uint64_t numbers[6])
-{
-    sweep->rt = (uint8_t)numbers[0];
-    sweep->allocation = (uint16_t)numbers[1];
-    sweep->next = gcf_feature_of((uint16_t)numbers[2]);
-    sweep->commands = (uint32_t)numbers[3];
-    sweep->collected = (size_t)numbers[4];
-    sweep->ended = numbers[5] != 0;
-}
+/* A number, and the place of a line of a drive sheet; in a sweep the place is 0. */
+struct gcf_refusal {
+    uint8_t number;
+    uint16_t place;
+};
 
+/* What a start, or a response, gives: the number, and the record from then on. */
+struct gcf_step {
+    struct gcf_refusal refusal;
+    struct gcf_sweep sweep;
+};
+
+/* Starts a sweep: 21, 22. Refused: a record that has ended, all else 0. */
+struct gcf_step gcf_sweep_start(uint8_t rt, uint16_t allocation);
+
+/*
+ * Takes the response to the sweep's next command, with any record: 21, 22, 26, the reading's, 28, 45, 23, 27, 24. Accepted: the whole descriptors stand
+ * behind those collected, and nothing else of the collecting buffer changed. Refused: nothing changed but, on 23 and 45, the mark that it has ended.
+ * 45: with commands so far, a Current Profile other than the first response had. A change that keeps the profile is not seen (docs/MANUAL.md).
+ */
+struct gcf_step gcf_sweep_take(struct gcf_sweep sweep,
+                               const uint8_t *response, size_t response_bytes,
+                               uint8_t *collecting, size_t collecting_bytes);
+
+/* The same two on a record that stays where it is. */
 static inline uint8_t gcf_sweep_begin(struct gcf_sweep *sweep, uint8_t rt, uint16_t allocation)
 {
-    uint64_t numbers[6];
-    uint8_t number = gcf_sweep_start(rt, allocation, numbers, 6);
-    gcf_sweep_put(sweep, numbers);
-    return number;
+    struct gcf_step step = gcf_sweep_start(rt, allocation);
+    *sweep = step.sweep;
+    return step.refusal.number;
 }
 
 static inline uint8_t gcf_sweep_on(struct gcf_sweep *sweep,
                                    const uint8_t *response, size_t response_bytes,
                                    uint8_t *collecting, size_t collecting_bytes)
 {
-    uint64_t numbers[6];
-    uint8_t number = gcf_sweep_take(sweep->rt, sweep->allocation, sweep->next, sweep->commands, sweep->collected, sweep->ended,
-                                    response, response_bytes, collecting, collecting_bytes, numbers, 6);
-    gcf_sweep_put(sweep, numbers);
-    return number;
+    struct gcf_step step = gcf_sweep_take(*sweep, response, response_bytes, collecting, collecting_bytes);
+    *sweep = step.sweep;
+    return step.refusal.number;
 }
 
 /* ---- the bench and the checks */

@@ -25,10 +25,11 @@ archive_cross_tools() {
 # the kit's compiler for this processor
 archive_clang=("$archive_tools/bin/clang" --target="$archive_machine-unknown-linux-gnu" --no-default-config -Wno-override-module)
 
-# The same code without the processor that each function names: a compiler for another one would take it for one that can do nothing special.
+# The same code without the processor that each function names: a compiler for another one would take it for one that can do nothing special. And
+# without the mark that a struct comes on the stack, as x86-64 hands one over; elsewhere a pointer to it comes, which is what is left.
 archive_unnamed() { # FILE OUT
     "${archive_clang[@]}" -S -emit-llvm -Xclang -disable-llvm-passes -x ir "$1" -o "$2" &&
-        sed -i -E '/^attributes /s/ "(target-cpu|target-features|tune-cpu)"="[^"]*"//g' "$2"
+        sed -i -E -e '/^attributes /s/ "(target-cpu|target-features|tune-cpu)"="[^"]*"//g' -e '/^define /s/ byval\([^)]*\)//g' "$2"
 }
 
 # A kit like the one that is there, but for a compiler that also keeps the code it is handed and the words it is called with; rt over it. Leaves

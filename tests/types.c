@@ -1,6 +1,6 @@
 /*
  * Every place of the header that wants a feature or a profile number. tests/c-example compiles it as it stands, and sees to it that a compiler refuses
- * it as soon as one of the four places gets the other kind, or a plain number.
+ * it as soon as one of the five places gets the other kind, or a plain number.
  */
 #include "../include/gcf.h"
 
@@ -13,6 +13,9 @@
 #ifndef TAKE
 #define TAKE gcf_feature_of(0x0020)
 #endif
+#ifndef FIRST
+#define FIRST gcf_profile_of(0x0012)
+#endif
 #ifndef PROFILE
 #define PROFILE gcf_profile_of(0x0012)
 #endif
@@ -20,12 +23,15 @@
 static uint8_t bytes[64];
 static uint8_t buffer[64];
 static uint64_t numbers[6];
+static struct gcf_sweep sweep;
 
 int main(void)
 {
     gcf_read(0, READ, bytes, sizeof bytes, numbers, 6);
     gcf_held(HELD, bytes, sizeof bytes, bytes, sizeof bytes, buffer, sizeof buffer);
-    gcf_sweep_take(0, 20, TAKE, 0, 0, false, bytes, sizeof bytes, buffer, sizeof buffer, numbers, 6);
+    sweep.next = TAKE;
+    sweep.profile = FIRST;
+    gcf_sweep_take(sweep, bytes, sizeof bytes, buffer, sizeof buffer);
     gcf_check_profile(PROFILE, bytes, sizeof bytes, numbers, 6);
     return gcf_conforms(PROFILE, bytes, sizeof bytes);
 }

@@ -101,6 +101,10 @@ pub const SHEET_BUFFER_SHORT: u8 = 42;
 /// Persistent without Current.
 pub const PERSISTENT_UNCURRENT: u8 = 44;
 
+// The sweep's other refusal.
+/// A Current Profile other than the first accepted response had.
+pub const PROFILE_CHANGED: u8 = 45;
+
 // The sense data.
 /// Sense data not 18 bytes.
 pub const SENSE_LENGTH: u8 = 46;

@@ -3,7 +3,7 @@
 use crate::command::most_bytes;
 use crate::numbers::*;
 use crate::reading::read_and_last;
-use crate::wire::{part, Feature};
+use crate::wire::{part, Feature, Profile};
 
 /// The most commands so far with which a record takes another response.
 const COMMANDS_MOST: u32 = 65_535;
@@ -17,12 +17,22 @@ pub struct Record {
     pub commands: u32,
     pub collected: usize,
     pub ended: bool,
+    /// The Current Profile of the first accepted response.
+    pub profile: Profile,
 }
 
 impl Record {
     /// The record that a refused start gives: ended, with all numbers 0.
     pub fn refused() -> Record {
-        Record { rt: 0, allocation: 0, next: Feature(0), commands: 0, collected: 0, ended: true }
+        Record {
+            rt: 0,
+            allocation: 0,
+            next: Feature(0),
+            commands: 0,
+            collected: 0,
+            ended: true,
+            profile: Profile(0),
+        }
     }
 
     /// Starts a sweep; gives 0, 21 or 22, and the record.
@@ -37,8 +47,10 @@ impl Record {
     pub fn take(self, response: &[u8], buffer: &mut [u8]) -> (u8, Record) {
         let (descriptors, after) = match self.step(response) {
             Ok(step) => step,
-            // Only 23 ends the sweep; every other refusal leaves the record as it was.
-            Err(NOTHING_WHOLE) => return (NOTHING_WHOLE, Record { ended: true, ..self }),
+            // 23 and 45 end the sweep; every other refusal leaves the record as it was.
+            Err(number @ (NOTHING_WHOLE | PROFILE_CHANGED)) => {
+                return (number, Record { ended: true, ..self })
+            }
             Err(number) => return (number, self),
         };
         let behind = buffer.get_mut(self.collected..);
@@ -61,15 +73,20 @@ impl Record {
         let most = most_bytes(self.allocation);
         let (reading, last) = read_and_last(self.rt, self.next, response, Some(most))?;
         let descriptors = part(response, HEADER_BYTES, reading.end);
-        if reading.complete {
-            return Ok((descriptors, Record { ended: true, ..self }));
-        }
-        if response.len() < most {
+        if !reading.complete && response.len() < most {
             return Err(CUT_SHORT);
+        }
+        let first = self.commands == 0;
+        if !first && reading.profile != self.profile {
+            return Err(PROFILE_CHANGED);
+        }
+        let profile = if first { reading.profile } else { self.profile };
+        if reading.complete {
+            return Ok((descriptors, Record { ended: true, profile, ..self }));
         }
         let last = last.ok_or(NOTHING_WHOLE)?;
         let next = last.0.checked_add(1).ok_or(CUT_AFTER_LAST)?;
-        Ok((descriptors, Record { next: Feature(next), ..self }))
+        Ok((descriptors, Record { next: Feature(next), profile, ..self }))
     }
 
     /// Counts one more command and the bytes it added, which fit the buffer.

@@ -1,17 +1,12 @@
 -- What an exported function leaves: its number, the lent buffers, and the lent array of numbers. Assumes nothing: these are definitions.
-use mathlib.Core.Bool.{Bool}
 use mathlib.Core.List.{List, [], _∷_}
 use Prim.Native.Nat.{ℕ}
 use lib.ListN.{length, getD}
 use lib.Seq.{sets}
 use Rattle.text.specs.Drive.{bit}
-use Rattle.text.specs.declared.Feature.{Feature}
 use Rattle.text.specs.declared.Reading.{Reading}
 use Rattle.refusal.specs.declared.Refusal.{Refusal}
 use Rattle.lent.specs.Maker.{Outcome}
-use Rattle.sweep.specs.declared.Sweep.{Sweep}
-use Rattle.sweep.specs.declared.Step.{Step}
-use Rattle.sweep.specs.Sweep.{Turn}
 use Rattle.bench.specs.Bench as bench
 use Rattle.checks.specs.declared.Finding.{Finding}
 use Rattle.checks.specs.Judge.{Said}
@@ -50,20 +45,6 @@ readingNumbers r = r .profile .0 ∷ r .data_length ∷ r .count ∷ r .end ∷ 
 
 unfoldable pub showRead : Reading → List ℕ → Left (Unit {0})
 showRead r ns = told (r .refusal .number) tt ns (readingNumbers r)
-
--- a sweep's record: RT, allocation length, next start, commands, bytes collected, 1 if ended
-unfoldable pub recordNumbers : Sweep → List ℕ
-recordNumbers w = w .rt ∷ w .allocation ∷ w .next .0 ∷ w .commands ∷ w .collected ∷ bit (w .ended) ∷ []
-
-abbrev pub recordOf : (rt allocation : ℕ) → Feature → (commands collected : ℕ) → Bool → Sweep
-recordOf rt a next commands collected ended = record { rt = rt; allocation = a; next = next; commands = commands; collected = collected; ended = ended }
-
--- the start of a sweep; and a turn
-unfoldable pub showStep : Step → List ℕ → Left (Unit {0})
-showStep x ns = told (x .refusal .number) tt ns (recordNumbers (x .sweep))
-
-unfoldable pub showTurn : Turn → List ℕ → Left (List ℕ)
-showTurn x ns = told (x .step .refusal .number) (x .buffer) ns (recordNumbers (x .step .sweep))
 
 -- a bench sweep: commands, bytes collected, the place of its refusal
 unfoldable pub showBenched : bench.Ending → List ℕ → Left bench.Buffers

@@ -1,4 +1,4 @@
-// The exported functions, for C and Rust (include/gcf.h): one for each operation, numbers and slices only. Each returns the paper's number, or
+// The exported functions, for C and Rust (include/gcf.h): one for each operation. The two of a sweep take its record and give a step, by value. Each other returns the paper's number, or
 // a count of bytes where nothing can be refused; further results go to the front of a lent array of numbers, as far as it has room.
 ghost use mathlib.Core.Path.{_≡_};
 ghost use mathlib.Core.List.{[], _∷_};
@@ -10,16 +10,17 @@ ghost use Rattle.responder.specs.Answer.{answered};
 ghost use Rattle.responder.specs.Trusting.{trustingCommand};
 ghost use Rattle.reading.specs.Held.{heldOf};
 ghost use Rattle.listing.specs.Listing.{listing};
-ghost use Rattle.sweep.specs.Sweep.{started, stepped};
+ghost use Rattle.sweep.specs.Sweep.{started, turn, stepped};
 ghost use Rattle.bench.specs.Bench as bench;
 ghost use Rattle.checks.specs.Check.{checked};
 ghost use Rattle.checks.specs.Judge as checks;
 ghost use Rattle.import.specs.Import.{imported};
 ghost use Rattle.sense.specs.Sense.{made, sensed};
-ghost use Rattle.abi.specs.Left.{left, showVerdict, showMade, showPlaced, readingNumbers, showRead, recordNumbers, recordOf, showStep, showTurn, showBenched, showFinding, showJudged, kindNumber, showSensed};
+ghost use Rattle.abi.specs.Left.{left, showVerdict, showMade, showPlaced, readingNumbers, showRead, showBenched, showFinding, showJudged, kindNumber, showSensed};
 use checks::Judgement;
 use sense::Kind;
 use sense::Sense;
+use sweep::Step;
 use sweep::Sweep;
 use text::Feature;
 use text::Profile;
@@ -64,19 +65,6 @@ fn tell_reading(numbers: &mut [u64], reading: Reading) -> usize
     let c = tell(numbers, b, reading.count as u64);
     let d = tell(numbers, c, reading.end as u64);
     tell(numbers, d, reading.complete as u64)
-}
-
-// Puts the six numbers of a sweep's record.
-fn tell_record(numbers: &mut [u64], w: Sweep) -> usize
-    ensures { λ r. ⌜ Wrote (now (numbers .entry)) 0 (recordNumbers w) r (now (numbers .exit)) ⌝ }
-{
-    let next = w.next;
-    let a = tell(numbers, 0, w.rt as u64);
-    let b = tell(numbers, a, w.allocation as u64);
-    let c = tell(numbers, b, next.0 as u64);
-    let d = tell(numbers, c, w.commands as u64);
-    let e = tell(numbers, d, w.collected as u64);
-    tell(numbers, e, w.ended as u64)
 }
 
 // ---- the box
@@ -168,45 +156,20 @@ pub extern "C" fn gcf_most(allocation: u16) -> usize
     text::most(allocation)
 }
 
-// Starts a sweep. Numbers: the record.
+// Starts a sweep: the refusal or none, and the record.
 #[no_mangle]
-pub extern "C" fn gcf_sweep_start(rt: u8, allocation: u16, numbers: &mut [u64]) -> u8
-    ensures { λ r. ⌜ left r tt (now (numbers .exit)) ≡ showStep (started rt allocation) (now (numbers .entry)) ⌝ }
+pub extern "C" fn gcf_sweep_start(rt: u8, allocation: u16) -> Step
+    ensures { λ r. ⌜ r ≡ started rt allocation ⌝ }
 {
-    let step = Sweep::start(rt, allocation);
-    let fault = step.refusal;
-    tell_record(numbers, step.sweep);
-    fault.number
+    Sweep::start(rt, allocation)
 }
 
-// Takes a response to the sweep's next command, with any record. Numbers: the record from then on.
+// Takes a response to the sweep's next command, with any record: the refusal or none, and the record from then on.
 #[no_mangle]
-pub extern "C" fn gcf_sweep_take(
-    rt: u8,
-    allocation: u16,
-    next: Feature,
-    commands: u32,
-    collected: usize,
-    ended: bool,
-    response: &[u8],
-    out: &mut [u8],
-    numbers: &mut [u64],
-) -> u8
-    ensures { λ r. ⌜ left r (now (out .exit)) (now (numbers .exit))
-        ≡ showTurn (stepped (recordOf rt allocation next commands collected ended) (now (response .entry)) (now (out .entry))) (now (numbers .entry)) ⌝ }
+pub extern "C" fn gcf_sweep_take(sweep: Sweep, response: &[u8], out: &mut [u8]) -> Step
+    ensures { λ r. ⌜ turn r (now (out .exit)) ≡ stepped sweep (now (response .entry)) (now (out .entry)) ⌝ }
 {
-    let record = Sweep {
-        rt: rt,
-        allocation: allocation,
-        next: next,
-        commands: commands,
-        collected: collected,
-        ended: ended,
-    };
-    let step = record.take(response, out);
-    let fault = step.refusal;
-    tell_record(numbers, step.sweep);
-    fault.number
+    sweep.take(response, out)
 }
 
 // ---- the bench and the checks

@@ -9,7 +9,7 @@ use borrow.Author.Tests.{not-false}
 use Rattle.base.specs.Lists.{flat, Bytes}
 use Rattle.text.specs.Drive.{Drive, Sound}
 use Rattle.text.specs.Response.{bytes, selected}
-use Rattle.text.specs.Reading.{Walked, lastNumber}
+use Rattle.text.specs.Reading.{statedProfile, Walked, lastNumber}
 use Rattle.text.proofs.Sizes.{length-full}
 use Rattle.text.proofs.Own.{walked-sent}
 use Rattle.text.proofs.Packing.{flat-parts}
@@ -90,7 +90,7 @@ module _ {m : Drive} (good : Sound m) (w : State) (f : roundFault m w .number �
   unfolding wholesOf
   found = ap (λ (x : Walked). x .found) (walked-sent good rt next a (facts .eight))
 
-  moves : rounded m w .sweep ≡ advanced (w .sweep) (cut (reply m (w .sweep))) (lastNumber (fits m rt a next)) (w .sweep .collected + gain m rt a next)
+  moves : rounded m w .sweep ≡ advanced (w .sweep) record { 0 = statedProfile (reply m (w .sweep)) } (cut (reply m (w .sweep))) (lastNumber (fits m rt a next)) (w .sweep .collected + gain m rt a next)
   unfolding rounded taking
   moves = ap (λ (t : Turn). t .step .sweep) (stepped-none (w .sweep) (reply m (w .sweep)) (w .buffers .collected) (taken m w f)) ∙ rw found refl
 

@@ -28,6 +28,7 @@ use Rattle.bench.specs.Bench.{Buffers, state, Ending, failing, firstFaul
 use Rattle.bench.specs.inner.Loop.{runFrom}
 use Rattle.bench.specs.Swept.{room, HasRoom, Premises, Swept, Ended, swept, short, long, narrow, many}
 use Rattle.bench.proofs.Run.{unless-zero, unless-settled, run-settled}
+use Rattle.bench.proofs.Round.{heldAfter}
 use Rattle.bench.proofs.Rounds.{startsOf, length-startsOf}
 use Rattle.bench.proofs.Honest.{rounds}
 use Rattle.bench.proofs.Ends.{finished, Runs, done, stuck, tight, spent, ends}
@@ -105,7 +106,7 @@ module _ {m : Drive} (good : Sound m) (rt a : ℕ) (two : rt < 2) (eight : 8 ≤
 
   -- the sweep of a drive that the text can speak of, with room for a longest response
   pub run-ends : most a ≤ length (bs .response) → Ended m rt a bs (runFrom m (state (fresh rt a) bs))
-  unfolding fresh
+  unfolding fresh heldAfter
   run-ends h =
       runs-ended
       (ends good rt a two eight bs 65536 0 0 0 bs

@@ -71,15 +71,15 @@ module _ {m : Drive} (good : Sound m) (rt a : ℕ) (two : rt < 2) (eight : 8 ≤
   -- a round with room for its start, and room for n more rounds
   module _ (n f c k : ℕ) (bs : Buffers) (few : c ≤ 65535) (another : c < length (bs .starts)) where
     abbrev w : State
-    w = state (going rt a f c k) bs
+    w = state (going m rt a f c k) bs
 
-    refused-by : (r : Refusal) → (r .number ≡ 0 → ⊥) → takeFault (going rt a f c k) (sent rt f a m) (length (bs .collected)) ≡ r → rounds (suc n) m came w ≡ failing came r
+    refused-by : (r : Refusal) → (r .number ≡ 0 → ⊥) → takeFault (going m rt a f c k) (sent rt f a m) (length (bs .collected)) ≡ r → rounds (suc n) m came w ≡ failing came r
     refused-by r h e =
-        let q : answer m w ≡ r = step-refusal (going rt a f c k) (sent rt f a m) (bs .collected) ∙ e in
+        let q : answer m w ≡ r = step-refusal (going m rt a f c k) (sent rt f a m) (bs .collected) ∙ e in
         run-fault n m came w refl another (λ z. h (sym (ap (λ (r : Refusal). r .number) q) ∙ z)) ∙ ap (failing came) q
 
-    taken-by : takeFault (going rt a f c k) (sent rt f a m) (length (bs .collected)) ≡ accept → rounds (suc n) m came w ≡ rounds n m came (rounded m w)
-    taken-by e = run-round n m came w refl another (ap (λ (r : Refusal). r .number) (step-refusal (going rt a f c k) (sent rt f a m) (bs .collected) ∙ e))
+    taken-by : takeFault (going m rt a f c k) (sent rt f a m) (length (bs .collected)) ≡ accept → rounds (suc n) m came w ≡ rounds n m came (rounded m w)
+    taken-by e = run-round n m came w refl another (ap (λ (r : Refusal). r .number) (step-refusal (going m rt a f c k) (sent rt f a m) (bs .collected) ∙ e))
 
     -- 24
     ends-tight : Takes m rt a f → length (bs .collected) < k + gain m rt a f → Runs m rt a came n f c k bs (rounds (suc n) m came w)
@@ -101,7 +101,7 @@ module _ {m : Drive} (good : Sound m) (rt a : ℕ) (two : rt < 2) (eight : 8 ≤
 
   -- nothing is left
   abbrev ended : (f c k : ℕ) (bs : Buffers) → State
-  ended f c k bs = state (gone rt a f (c + 1) (k + gain m rt a f)) (onto m rt a f c k bs)
+  ended f c k bs = state (gone m rt a f (c + 1) (k + gain m rt a f)) (onto m rt a f c k bs)
 
   finish : (n f c k : ℕ) (bs : Buffers) → left m rt a f ≡ []
       → succeeding (ended f c k bs) ≡ finished m rt a f c k bs (plan m rt a (suc n) f)
@@ -112,7 +112,7 @@ module _ {m : Drive} (good : Sound m) (rt a : ℕ) (two : rt < 2) (eight : 8 ≤
   all f e = whole-every (room a) (selected rt f m) (rest-fits (room a) (selected rt f m) e)
 
   ends-last : (n f c k : ℕ) (bs : Buffers) → c ≤ 65535 → c < length (bs .starts) → left m rt a f ≡ []
-      → Runs m rt a came (suc n) f c k bs (rounds (suc (suc n)) m came (state (going rt a f c k) bs))
+      → Runs m rt a came (suc n) f c k bs (rounds (suc (suc n)) m came (state (going m rt a f c k) bs))
   unfolding joined
   ends-last n f c k bs few another e = ⊎-elim
       (λ (h : k + gain m rt a f ≤ length (bs .collected)).
@@ -157,7 +157,7 @@ module _ {m : Drive} (good : Sound m) (rt a : ℕ) (two : rt < 2) (eight : 8 ≤
   abbrev Claim : (n : ℕ) → Type 0
   Claim n =
       (f c k : ℕ) (bs : Buffers) → 0 < length (selected rt f m) → length (selected rt f m) ≤ n → c + length (selected rt f m) ≤ 65536
-      → most a ≤ length (bs .response) → Runs m rt a came n f c k bs (rounds (suc n) m came (state (going rt a f c k) bs))
+      → most a ≤ length (bs .response) → Runs m rt a came n f c k bs (rounds (suc n) m came (state (going m rt a f c k) bs))
 
   pub ends : (n : ℕ) → Claim n
   ends zero f c k bs p q r s = absurd (omega arith)
@@ -167,7 +167,7 @@ module _ {m : Drive} (good : Sound m) (rt a : ℕ) (two : rt < 2) (eight : 8 ≤
       (le-or-lt (length (bs .starts)) c)
     where
       w : State
-      w = state (going rt a f c k) bs
+      w = state (going m rt a f c k) bs
 
       go : c < length (bs .starts) → (xs : List Desc) → left m rt a f ≡ xs → (ys : List Desc) → fits m rt a f ≡ ys → Claim n
           → Runs m rt a came (suc n) f c k bs (rounds (suc (suc n)) m came w)

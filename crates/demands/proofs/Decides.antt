@@ -372,10 +372,10 @@ pub gcf-most-decided : Decided gcf-most.ended (λ M. gcf-most.clauses) (λ M. gc
 gcf-most-decided x = decides (x .𝓤) (λ o o′ p q. (joined p q, refl))
 
 pub gcf-sweep-start-decided : Decided gcf-sweep-start.ended (λ M. gcf-sweep-start.clauses) (λ M. gcf-sweep-start.spec)
-gcf-sweep-start-decided x = decides (x .𝓤) (λ o o′ p q. (number (joined p q), refl & refl & numbers (joined p q) & refl))
+gcf-sweep-start-decided x = decides (x .𝓤) (λ o o′ p q. (joined p q, refl))
 
 pub gcf-sweep-take-decided : Decided gcf-sweep-take.ended (λ M. gcf-sweep-take.clauses) (λ M. gcf-sweep-take.spec)
-gcf-sweep-take-decided x = decides (x .𝓤) (λ o o′ p q. (number (joined p q), refl & refl & refl & refl & refl & refl & refl & buffers (joined p q) & numbers (joined p q) & refl))
+gcf-sweep-take-decided x = decides (x .𝓤) (λ o o′ p q. (ap (λ (z : Turn). z .step) (joined p q), refl & refl & ap (λ (z : Turn). z .buffer) (joined p q) & refl))
 
 pub gcf-bench-decided : Decided gcf-bench.ended (λ M. gcf-bench.clauses) (λ M. gcf-bench.spec)
 gcf-bench-decided x = decides (x .𝓤) (λ o o′ p q. (

@@ -7,7 +7,8 @@ use lib.ListN.{length, take}
 use Rattle.lent.specs.Wrote.{Wrote}
 use Rattle.lent.proofs.Laws.{room-left}
 use Rattle.bench.specs.Bench as bench
-use Rattle.abi.specs.Left.{left, recordOf}
+use Rattle.sweep.specs.Sweep.{turn}
+use Rattle.abi.specs.Left.{left}
 use Rattle.abi.specs.Left as abi
 use Rattle.abi.proofs.gcf_check_sheet as gcf-check-sheet
 use Rattle.abi.proofs.gcf_respond as gcf-respond
@@ -81,16 +82,12 @@ pub gcf-most-tied : Promised gcf-most.ended (λ M. gcf-most.clauses) (λ M. gcf-
 gcf-most-tied x = promises (x .𝓤) (λ o e. e)
 
 pub gcf-sweep-start-tied : Promised gcf-sweep-start.ended (λ M. gcf-sweep-start.clauses) (λ M. gcf-sweep-start.spec)
-    (λ x o. Shows (Starts (x .args .0) (x .args .1 .0)) (λ z. abi.showStep z (x .args .1 .1 .0 .now)) (left (o .0) tt (o .1 .1 .1 .0)))
-gcf-sweep-start-tied x = promises (x .𝓤) (λ o. shows _ (starts _ _))
+    (λ x o. Starts (x .args .0) (x .args .1 .0) (o .0))
+gcf-sweep-start-tied x = promises (x .𝓤) (λ o. by (Starts _ _) (starts _ _))
 
 pub gcf-sweep-take-tied : Promised gcf-sweep-take.ended (λ M. gcf-sweep-take.clauses) (λ M. gcf-sweep-take.spec)
-    (λ x o. Shows
-    (Takes (recordOf (x .args .0) (x .args .1 .0) (x .args .1 .1 .0) (x .args .1 .1 .1 .0) (x .args .1 .1 .1 .1 .0) (x .args .1 .1 .1 .1 .1 .0))
-    (x .args .1 .1 .1 .1 .1 .1 .0 .now) (x .args .1 .1 .1 .1 .1 .1 .1 .0 .now))
-    (λ z. abi.showTurn z (x .args .1 .1 .1 .1 .1 .1 .1 .1 .0 .now))
-    (left (o .0) (o .1 .1 .1 .1 .1 .1 .1 .1 .0) (o .1 .1 .1 .1 .1 .1 .1 .1 .1 .0)))
-gcf-sweep-take-tied x = promises (x .𝓤) (λ o. shows _ (takes _ _ _))
+    (λ x o. Takes (x .args .0) (x .args .1 .0 .now) (x .args .1 .1 .0 .now) (turn (o .0) (o .1 .1 .1 .0)))
+gcf-sweep-take-tied x = promises (x .𝓤) (λ o. by (Takes _ _ _) (takes _ _ _))
 
 pub gcf-bench-tied : Promised gcf-bench.ended (λ M. gcf-bench.clauses) (λ M. gcf-bench.spec)
     (λ x o. Shows

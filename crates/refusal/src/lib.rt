@@ -4,6 +4,7 @@ ghost use Rattle.refusal.specs.First.{placed};
 
 // Why something was refused: the paper's number, 0 where nothing was, and the place of the profile or entry at fault, counted from 1, 0 where the
 // number has none.
+#[repr(C)]
 pub struct Refusal {
     pub number: u8,
     pub place: u16,
@@ -243,6 +244,12 @@ pub const SHEET_BUFFER_SHORT: Refusal = Refusal {
 // The sheet's refusal of flags beside FLAGS_BAD; 43, a Version, is withdrawn.
 pub const PERSISTENT_UNCURRENT: Refusal = Refusal {
     number: 44,
+    place: 0,
+};
+
+// The sweep's refusal of another Current Profile.
+pub const PROFILE_CHANGED: Refusal = Refusal {
+    number: 45,
     place: 0,
 };
 

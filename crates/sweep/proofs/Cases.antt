@@ -14,7 +14,7 @@ use Rattle.text.specs.Response.{bytes, headerLength, most}
 use Rattle.text.specs.Reading.{readFault, lastNumber}
 use Rattle.refusal.proofs.First.{if-zero, orElse-none, orElse-fault, orElse-assoc, orElse-zero, unless-none, unless-fault, orElse-accepts, rule-accepts}
 use Rattle.sweep.specs.declared.Sweep.{Sweep}
-use Rattle.sweep.specs.Sweep.{step, startRule, fresh, started, cut, wholesOf, takeFault, endedNow, leftBy, turn, taking, stepped}
+use Rattle.sweep.specs.Sweep.{step, startRule, fresh, started, cut, wholesOf, changed, takeFault, endedNow, endsSweep, leftBy, turn, taking, stepped}
 use Rattle.sweep.specs.inner.Numbers.{closedRule}
 use Rattle.sweep.proofs.Numbers.{start-fault, start-fresh}
 
@@ -45,7 +45,7 @@ module _ (w : Sweep) (s out : List ℕ) where
   pub take-accepts : takeFault w s (length out) .number ≡ 0 → takeFault w s (length out) ≡ accept
   unfolding takeFault
   take-accepts e =
-      orElse-accepts _ _ (rule-accepts _ _ _ (rule-accepts _ _ _ (orElse-accepts _ _ (rule-accepts _ _ _ (rule-accepts _ _ _ (rule-accepts _ _ _ (rule-accepts _ _ _ (λ z. refl)))))))) e
+      orElse-accepts _ _ (rule-accepts _ _ _ (rule-accepts _ _ _ (orElse-accepts _ _ (rule-accepts _ _ _ (rule-accepts _ _ _ (rule-accepts _ _ _ (rule-accepts _ _ _ (rule-accepts _ _ _ (λ z. refl))))))))) e
 
   -- the refusal, whatever comes of it
   pub step-refusal : stepped w s out .step .refusal ≡ takeFault w s (length out)
@@ -64,6 +64,7 @@ pub record Taken (w : Sweep) (s : List ℕ) (room : ℕ) : Type 0 where
   pub few : w .commands ≤ 65535
   pub read : readFault (most (w .allocation)) (w .rt) (w .next .0) s .number ≡ 0
   pub full : cut s ≡ true → most (w .allocation) ≤ length s
+  pub same : changed w s ≡ false
   pub some : cut s ≡ true → 0 < length (wholesOf w s)
   pub below : cut s ≡ true → lastNumber (wholesOf w s) ≡ 65535 → ⊥
   pub fits : w .collected + length (flat bytes (wholesOf w s)) ≤ room
@@ -76,7 +77,8 @@ taken-facts w s room h =
     let b = if-zero _ _ _ (a .1) in
     let c = orElse-zero _ _ (b .1) in
     let e = if-zero _ _ _ (c .1) in
-    let f = if-zero _ _ _ (e .1) in
+    let k = if-zero _ _ _ (e .1) in
+    let f = if-zero _ _ _ (k .1) in
     let g = if-zero _ _ _ (f .1) in
     record {
       kind = omega (arith, ltb-false 1 (w .rt) (r .0));
@@ -85,6 +87,7 @@ taken-facts w s room h =
       few = ltb-false 65535 (w .commands) (b .0);
       read = c .0;
       full = λ q. ltb-false (length s) (most (w .allocation)) (only (ltb (length s) (most (w .allocation))) q (e .0));
+      same = k .0;
       some = λ q. omega (arith, eqb-false (length (wholesOf w s)) 0 (only (eqb (length (wholesOf w s)) 0) q (f .0)));
       below = λ q. eqb-false (lastNumber (wholesOf w s)) 65535 (only (eqb (lastNumber (wholesOf w s)) 65535) q (g .0));
       fits = ltb-false room (w .collected + length (flat bytes (wholesOf w s))) (if-zero _ _ _ (g .1) .0);
@@ -107,14 +110,15 @@ module _ (w : Sweep) (s out : List ℕ) (P : ℕ → Sweep → Type 0) where
 
       go : (n : ℕ) → takeFault w s (length out) .number ≡ n → P (stepped w s out .step .refusal .number) (stepped w s out .step .sweep)
       go zero e = rw (stepped-none w s out e) (accepts e)
-      go (suc n) e = rw (stepped-fault w s out (λ z. omega arith), e) (mark n (eqb (suc n) 23))
+      go (suc n) e = rw (stepped-fault w s out (λ z. omega arith), e) (mark n (endsSweep record { number = suc n; place = takeFault w s (length out) .place }))
 
 -- ---- the chain in parts: the record's own refusals come first, then the reading's, then those of the room
 
--- 28, 23, 27, 24
+-- 28, 45, 23, 27, 24
 abbrev pub roomRule : (w : Sweep) (s : List ℕ) (room : ℕ) → Refusal
 roomRule w s room =
     refuse 28 if cut s && ltb (length s) (most (w .allocation)) else
+    refuse 45 if changed w s else
     refuse 23 if cut s && eqb (length (wholesOf w s)) 0 else
     refuse 27 if cut s && eqb (lastNumber (wholesOf w s)) 65535 else
     refuse 24 if ltb room (w .collected + length (flat bytes (wholesOf w s))) else

@@ -17,7 +17,7 @@ use Rattle.refusal.proofs.First.{if-true, orElse-fault}
 use Rattle.text.proofs.Again.{walked-asc, walked-good}
 use Rattle.sweep.specs.declared.Sweep.{Sweep}
 use Rattle.sweep.specs.declared.Step.{Step}
-use Rattle.sweep.specs.Sweep.{step, startRule, fresh, started, cut, wholesOf, takeFault, leftBy, advanced, endedNow, Turn, turn, taking, stepped}
+use Rattle.sweep.specs.Sweep.{step, startRule, fresh, started, cut, wholesOf, takeFault, endsSweep, leftBy, advanced, endedNow, Turn, turn, taking, stepped}
 use Rattle.sweep.specs.inner.Numbers.{closedRule}
 use Rattle.sweep.specs.Run.{Offer, Received, stepWith, sweepOver, acceptedOf}
 use Rattle.sweep.proofs.Numbers.{left-same}
@@ -120,14 +120,14 @@ module _ (rt a : ℕ) (os : List Offer) (r : All Received os) where
 
 ended-numbers : (a b : Bool)
     → (((refuse 21 if a else refuse 22 if b else accept) orElse refuse 26) .number ≡ 0 → ⊥)
-    × (((refuse 21 if a else refuse 22 if b else accept) orElse refuse 26) .number ≡ 23 → ⊥)
-unfolding _if_else_ _orElse_ pickZero
-ended-numbers true b = (λ e. omega arith, λ e. omega arith)
-ended-numbers false true = (λ e. omega arith, λ e. omega arith)
-ended-numbers false false = (λ e. omega arith, λ e. omega arith)
+    × (endsSweep ((refuse 21 if a else refuse 22 if b else accept) orElse refuse 26) ≡ false)
+unfolding _if_else_ _orElse_ pickZero endsSweep
+ended-numbers true b = (λ e. omega arith, refl)
+ended-numbers false true = (λ e. omega arith, refl)
+ended-numbers false false = (λ e. omega arith, refl)
 
 module _ (w : Sweep) (h : w .ended ≡ true) where
-  ended-refuses : (closedRule w .number ≡ 0 → ⊥) × (closedRule w .number ≡ 23 → ⊥)
+  ended-refuses : (closedRule w .number ≡ 0 → ⊥) × (endsSweep (closedRule w) ≡ false)
   unfolding closedRule startRule
   ended-refuses = rw (h, if-true) (ended-numbers (ltb 1 (w .rt)) (ltb (w .allocation) 8))
 
@@ -135,7 +135,7 @@ module _ (w : Sweep) (h : w .ended ≡ true) where
   pub ended-step : (s out : List ℕ) → turn (step (closedRule w) w) out ≡ stepped w s out
   ended-step s out =
       let f : takeFault w s (length out) ≡ closedRule w = closed-first w s (length out) ∙ orElse-fault _ _ (ended-refuses .0) in
-      ap (λ (t : Step). turn t out) (left-same (closedRule w) w (ended-refuses .1) ∙ ap (λ (r : Refusal). step r (leftBy r w)) (sym f))
+      ap (λ (t : Step). turn t out) (left-same (closedRule w) w (endsSweep (closedRule w)) refl (ended-refuses .1) ∙ ap (λ (r : Refusal). step r (leftBy r w)) (sym f))
       ∙ sym (stepped-fault w s out (rw f (ended-refuses .0)))
 
   -- it accepts nothing more, whatever it is handed

@@ -3,3 +3,4 @@ pub mod Numbers
 pub mod Cases
 pub mod Taken
 pub mod Ends
+pub mod Profiles

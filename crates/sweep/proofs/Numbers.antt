@@ -1,16 +1,16 @@
 -- The rules and records in the numbers of a scan, case by case. Assumes nothing.
 use mathlib.Core.Path.{_≡_, refl, sym, ap, _∙_}
-use mathlib.Core.Bool.{true, false, not}
+use mathlib.Core.Bool.{Bool, true, false, not, true≢false}
 use Prim.Native.Nat.{ℕ, zero, suc, _+_, _≤_, _<_}
 use native.Mathlib.Omega.{arith}
 use borrow.Author.Tests.{lt-ltb, le-ltb, eq-eqb, ne-eqb}
 use Rattle.refusal.specs.declared.Refusal.{Refusal}
 use Rattle.refusal.specs.First.{refuse, accept, _if_else_, unless}
 use Rattle.refusal.proofs.First.{unless-none, unless-fault, rule-accepts}
-use Rattle.reading.specs.declared.Scanned.{Scanned}
+use Rattle.text.specs.declared.Profile.{Profile}
 use Rattle.sweep.specs.declared.Sweep.{Sweep}
 use Rattle.sweep.specs.declared.Step.{Step}
-use Rattle.sweep.specs.Sweep.{step, startRule, fresh, started, endedNow, leftBy, advanced}
+use Rattle.sweep.specs.Sweep.{step, startRule, fresh, started, endedNow, endsSweep, leftBy, heldProfile, advanced}
 use Rattle.sweep.specs.inner.Numbers.{spaceRule}
 
 -- ---- the rules
@@ -51,22 +51,52 @@ start-refusal rt a = go (startRule rt a .number) refl
 
 -- ---- the record afterwards
 
-module _ (r : Refusal) (w : Sweep) where
-  pub left-ended : r .number ≡ 23 → step r (endedNow w) ≡ step r (leftBy r w)
+-- 23 and 45 end the sweep, nothing else does
+module _ (r : Refusal) where
+  pub ends-none-whole : r .number ≡ 23 → true ≡ endsSweep r
+  unfolding endsSweep
+  ends-none-whole h = rw h
+
+  pub ends-changed : r .number ≡ 45 → true ≡ endsSweep r
+  unfolding endsSweep
+  ends-changed h = rw h
+
+  pub ends-not : (r .number ≡ 23 → ⊥) → (r .number ≡ 45 → ⊥) → false ≡ endsSweep r
+  unfolding endsSweep
+  ends-not g h = rw (ne-eqb (r .number) 23 g, ne-eqb (r .number) 45 h)
+
+  pub ends-refuses : endsSweep r ≡ true → r .number ≡ 0 → ⊥
+  unfolding endsSweep
+  ends-refuses e h = true≢false (sym (rw h at e))
+
+-- the profile of the first accepted response
+module _ (w : Sweep) (p : Profile) where
+  pub held-first : w .commands ≡ 0 → p ≡ heldProfile w p
+  unfolding heldProfile
+  held-first h = rw (eq-eqb (w .commands) 0 h, heldProfile)
+
+  pub held-kept : (w .commands ≡ 0 → ⊥) → w .profile ≡ heldProfile w p
+  unfolding heldProfile
+  held-kept h = rw (ne-eqb (w .commands) 0 h, heldProfile)
+
+module _ (r : Refusal) (w : Sweep) (b : Bool) (e : b ≡ endsSweep r) where
+  pub left-ended : b ≡ true → step r (endedNow w) ≡ step r (leftBy r w)
   unfolding leftBy
-  left-ended h = rw (eq-eqb (r .number) 23 h, leftBy)
+  left-ended h = rw (sym e ∙ h, leftBy)
 
-  pub left-same : (r .number ≡ 23 → ⊥) → step r w ≡ step r (leftBy r w)
+  pub left-same : b ≡ false → step r w ≡ step r (leftBy r w)
   unfolding leftBy
-  left-same h = rw (ne-eqb (r .number) 23 h, leftBy)
+  left-same h = rw (sym e ∙ h, leftBy)
 
-module _ (w : Sweep) (x : Scanned) (collected : ℕ) where
-  pub moved-complete : x .reading .complete ≡ true
-      → record { rt = w .rt; allocation = w .allocation; next = w .next; commands = w .commands + 1; collected = collected; ended = x .reading .complete } ≡ advanced w (not (x .reading .complete)) (x .last .0) collected
+module _ (w : Sweep) (profile p : Profile) (complete : Bool) (last collected : ℕ) (e : p ≡ heldProfile w profile) where
+  pub moved-complete : complete ≡ true
+      → record { rt = w .rt; allocation = w .allocation; next = w .next; commands = w .commands + 1; collected = collected; ended = complete; profile = p }
+      ≡ advanced w profile (not complete) last collected
   unfolding advanced
-  moved-complete h = rw (h, advanced)
+  moved-complete h = rw (e, h, advanced)
 
-  pub moved-cut : x .reading .complete ≡ false
-      → record { rt = w .rt; allocation = w .allocation; next = record { 0 = x .last .0 + 1 }; commands = w .commands + 1; collected = collected; ended = x .reading .complete } ≡ advanced w (not (x .reading .complete)) (x .last .0) collected
+  pub moved-cut : complete ≡ false
+      → record { rt = w .rt; allocation = w .allocation; next = record { 0 = last + 1 }; commands = w .commands + 1; collected = collected; ended = complete; profile = p }
+      ≡ advanced w profile (not complete) last collected
   unfolding advanced
-  moved-cut h = rw (h, advanced)
+  moved-cut h = rw (e, h, advanced)

@@ -1,4 +1,5 @@
 -- A sweep over any responses, one after the other. Assumes nothing: these are definitions.
+use mathlib.Core.Bool.{true, false}
 use mathlib.Core.List.{List, [], _∷_}
 use Prim.Native.Nat.{ℕ, _+_}
 use lib.Dec.{eqb}
@@ -29,3 +30,12 @@ sweepOver w (o ∷ os) = sweepOver (stepWith w o .sweep) os
 unfoldable pub acceptedOf : Sweep → List Offer → ℕ
 acceptedOf w [] = 0
 acceptedOf w (o ∷ os) = bit (eqb (stepWith w o .refusal .number) 0) + acceptedOf (stepWith w o .sweep) os
+
+-- the responses that are accepted
+unfoldable pub takenOf : Sweep → List Offer → List (List ℕ)
+takenOf w [] = []
+takenOf w (o ∷ os) =
+    elim (eqb (stepWith w o .refusal .number) 0) [
+      | true ↦ o .response ∷ takenOf (stepWith w o .sweep) os
+      | false ↦ takenOf (stepWith w o .sweep) os
+    ]

@@ -3,14 +3,16 @@ ghost use mathlib.Core.Path.{_≡_};
 ghost use mathlib.Core.Bool.{false, not};
 ghost use Prim.Native.Nat.{_-_, _<_};
 ghost use Rattle.text.specs.Response.{headerLength};
-ghost use Rattle.sweep.specs.Sweep.{step, startRule, started, leftBy, advanced, turn, stepped};
-ghost use Rattle.sweep.specs.inner.Numbers.{closedRule, cutRule, spaceRule, scanRule};
+ghost use Rattle.sweep.specs.Sweep.{step, startRule, started, endsSweep, leftBy, heldProfile, advanced, turn, stepped};
+ghost use Rattle.sweep.specs.inner.Numbers.{closedRule, shortRule, profileRule, cutRule, spaceRule, scanRule};
 use reading::Scanned;
 use refusal::Refusal;
 use text::Feature;
 use text::Header;
+use text::Profile;
 
 // A sweep so far. Any record may be handed in, one that no sweep reaches too.
+#[repr(C)]
 pub struct Sweep {
     pub rt: u8,
     pub allocation: u16,
@@ -18,9 +20,11 @@ pub struct Sweep {
     pub commands: u32,
     pub collected: usize,
     pub ended: bool,
+    pub profile: Profile,
 }
 
 // What starting a sweep, or taking a response, answers: the refusal or none, and the record from then on.
+#[repr(C)]
 pub struct Step {
     pub refusal: Refusal,
     pub sweep: Sweep,
@@ -43,15 +47,38 @@ fn start_rule(rt: u8, allocation: u16) -> Refusal
     refusal::ACCEPTED
 }
 
-// What is refused of a cut response of so many bytes, with so many whole descriptors, the last numbered last.
-fn cut_rule(complete: bool, received: usize, most: usize, count: u32, last: Feature) -> Refusal
-    ensures { λ r. ⌜ r ≡ cutRule complete received most count (last .0) ⌝ }
+// What is refused of a cut response of so many bytes.
+fn short_rule(complete: bool, received: usize, most: usize) -> Refusal
+    ensures { λ r. ⌜ r ≡ shortRule complete received most ⌝ }
 {
     if complete {
         return refusal::ACCEPTED;
     }
     if received < most {
         return refusal::CUT_SHORT;
+    }
+    refusal::ACCEPTED
+}
+
+// With so many commands so far, a response has the profile that is held.
+fn profile_rule(commands: u32, held: Profile, profile: Profile) -> Refusal
+    ensures { λ r. ⌜ r ≡ profileRule commands (held .0) (profile .0) ⌝ }
+{
+    if commands == 0 {
+        return refusal::ACCEPTED;
+    }
+    if profile.0 == held.0 {
+        return refusal::ACCEPTED;
+    }
+    refusal::PROFILE_CHANGED
+}
+
+// What is refused of a cut response with so many whole descriptors, the last numbered last.
+fn cut_rule(complete: bool, count: u32, last: Feature) -> Refusal
+    ensures { λ r. ⌜ r ≡ cutRule complete count (last .0) ⌝ }
+{
+    if complete {
+        return refusal::ACCEPTED;
     }
     if count == 0 {
         return refusal::NONE_WHOLE;
@@ -85,6 +112,19 @@ fn behind_header(end: usize) -> usize
     end - Header::LENGTH
 }
 
+// Whether a refusal ends the sweep: a cut response with no whole descriptor, and one with another profile.
+fn ends_sweep(fault: Refusal) -> bool
+    ensures { λ r. ⌜ r ≡ endsSweep fault ⌝ }
+{
+    if fault.number == refusal::NONE_WHOLE.number {
+        return true;
+    }
+    if fault.number == refusal::PROFILE_CHANGED.number {
+        return true;
+    }
+    false
+}
+
 impl Sweep {
     // The most responses that a started sweep accepts.
     pub const MOST_COMMANDS: u32 = 65536;
@@ -116,25 +156,27 @@ impl Sweep {
         if fault.number != 0 {
             return fault;
         }
-        let fault = cut_rule(
-            reading.complete,
-            received,
-            text::most(self.allocation),
-            reading.count,
-            last,
-        );
+        let fault = short_rule(reading.complete, received, text::most(self.allocation));
+        if fault.number != 0 {
+            return fault;
+        }
+        let fault = profile_rule(self.commands, self.profile, reading.profile);
+        if fault.number != 0 {
+            return fault;
+        }
+        let fault = cut_rule(reading.complete, reading.count, last);
         if fault.number != 0 {
             return fault;
         }
         space_rule(self.collected, behind_header(reading.end), room)
     }
 
-    // A refusal. A cut response with no whole descriptor ends the sweep, any other refusal leaves it as it was.
+    // A refusal. One that ends the sweep sets the mark and nothing else, any other leaves the record as it was.
     fn refused(self, fault: Refusal) -> Step
         ensures { λ r. ⌜ r ≡ step fault (leftBy fault self) ⌝ }
     {
         let mut sweep = self;
-        if fault.number == refusal::NONE_WHOLE.number {
+        if ends_sweep(fault) {
             sweep.ended = true;
             return Step {
                 refusal: fault,
@@ -147,15 +189,27 @@ impl Sweep {
         }
     }
 
+    // The profile that the record holds with an accepted response: that of the first.
+    fn held_profile(self, profile: Profile) -> Profile
+        ensures { λ r. ⌜ r ≡ heldProfile self profile ⌝ }
+    {
+        if self.commands == 0 {
+            return profile;
+        }
+        self.profile
+    }
+
     // The record that an accepted scan gives, with so many bytes collected.
     // Asks: fewer than 65,536 commands, and a cut response that does not end at FFFFh, which 26 and 27 have shown before.
     fn moved_on(self, scan: Scanned, collected: usize) -> Sweep
         requires { ⌜ (self .commands < 65536) × (scan .reading .complete ≡ false → scan .last .0 ≡ 65535 → ⊥) ⌝ }
-        ensures { λ r. ⌜ r ≡ advanced self (not (scan .reading .complete)) (scan .last .0) collected ⌝ }
+        ensures { λ r. ⌜ r ≡ advanced self (scan .reading .profile) (not (scan .reading .complete)) (scan .last .0) collected ⌝ }
     {
         let reading = scan.reading;
         let last = scan.last;
+        let profile = self.held_profile(reading.profile);
         let mut sweep = self;
+        sweep.profile = profile;
         sweep.commands += 1;
         sweep.collected = collected;
         sweep.ended = reading.complete;
@@ -182,6 +236,7 @@ impl Sweep {
                     commands: 0,
                     collected: 0,
                     ended: true,
+                    profile: Profile(0),
                 },
             };
         }
@@ -194,6 +249,7 @@ impl Sweep {
                 commands: 0,
                 collected: 0,
                 ended: false,
+                profile: Profile(0),
             },
         }
     }

@@ -30,9 +30,9 @@
 //     descriptors | RESPONSE = number, feature
 //     profile PROFILE | RESPONSE = number, 1 if it conforms, the missing feature
 //     most A = C
-//     start RT A = refusal, RT, A, next start, commands, bytes collected, 1 if ended
-//     take RT A NEXT COMMANDS COLLECTED ENDED | RESPONSE = the same seven
-//     lend RT A NEXT COMMANDS COLLECTED ENDED | RESPONSE = the same by `take_response`, which is lent the record
+//     start RT A = refusal, RT, A, next start, commands, bytes collected, 1 if ended, profile
+//     take RT A NEXT COMMANDS COLLECTED ENDED PROFILE | RESPONSE = the same eight
+//     lend RT A NEXT COMMANDS COLLECTED ENDED PROFILE | RESPONSE = the same by `take_response`, which is lent the record
 //     bench RT A | SHEET = refusal, commands, bytes collected, place; the buffer is 64 bytes for the response, 40 to collect, 12 for six starts
 //
 // A line of output for each: the title and `ok`, or `WRONG` and what was got, or `UNREADABLE`; last, how many of how many are ok.
@@ -533,6 +533,7 @@ fn after(step: Step) -> [u64; 8] {
     let refusal = step.refusal;
     let w = step.sweep;
     let next = w.next;
+    let profile = w.profile;
     [
         refusal.number as u64,
         w.rt as u64,
@@ -541,7 +542,7 @@ fn after(step: Step) -> [u64; 8] {
         w.commands as u64,
         w.collected as u64,
         w.ended as u64,
-        0,
+        profile.0 as u64,
     ]
 }
 
@@ -553,6 +554,7 @@ fn record(n: [u64; 8]) -> Sweep {
         commands: (n[3] % 4294967296) as u32,
         collected: n[4] as usize,
         ended: n[5] != 0,
+        profile: Profile(low16(n[6])),
     }
 }
 

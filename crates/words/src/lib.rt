@@ -85,6 +85,7 @@ fn say_finding(fd: i32, number: u8) {
 fn say_flags(fd: i32, number: u8) {
     match number {
         44 => say(fd, b"a feature is Persistent and not Current"),
+        45 => say(fd, b"another Current Profile than the first response had"),
         _ => {}
     }
 }

@@ -4,6 +4,7 @@
 //! and a slice that is written overlaps no other, which is all that the functions ask of a caller.
 
 use second::sweep::Record;
+use second::wire;
 
 /// A feature number as the functions take it: gcf_feature.
 #[repr(C)]
@@ -12,6 +13,32 @@ struct Feature(u16);
 /// A profile number as the functions take it: gcf_profile.
 #[repr(C)]
 struct Profile(u16);
+
+/// A sweep's record as the functions take it: struct gcf_sweep.
+#[repr(C)]
+struct Sweep {
+    rt: u8,
+    allocation: u16,
+    next: Feature,
+    commands: u32,
+    collected: usize,
+    ended: bool,
+    profile: Profile,
+}
+
+/// A refusal as the functions give it: struct gcf_refusal.
+#[repr(C)]
+struct Refusal {
+    number: u8,
+    place: u16,
+}
+
+/// What a start or a response gives: struct gcf_step.
+#[repr(C)]
+struct Step {
+    refusal: Refusal,
+    sweep: Sweep,
+}
 
 extern "C" {
     fn gcf_check_sheet(sheet: *const u8, sheet_len: usize, numbers: *mut u64, numbers_len: usize) -> u8;
@@ -54,21 +81,14 @@ extern "C" {
     ) -> usize;
     fn gcf_list(response: *const u8, response_len: usize, text: *mut u8, text_len: usize) -> usize;
     fn gcf_most(allocation: u16) -> usize;
-    fn gcf_sweep_start(rt: u8, allocation: u16, numbers: *mut u64, numbers_len: usize) -> u8;
+    fn gcf_sweep_start(rt: u8, allocation: u16) -> Step;
     fn gcf_sweep_take(
-        rt: u8,
-        allocation: u16,
-        next: Feature,
-        commands: u32,
-        collected: usize,
-        ended: bool,
+        sweep: Sweep,
         response: *const u8,
         response_len: usize,
         collecting: *mut u8,
         collecting_len: usize,
-        numbers: *mut u64,
-        numbers_len: usize,
-    ) -> u8;
+    ) -> Step;
     fn gcf_bench(
         sheet: *const u8,
         sheet_len: usize,
@@ -183,29 +203,41 @@ pub fn most(allocation: u16) -> usize {
     unsafe { gcf_most(allocation) }
 }
 
-/// Starts a sweep; the numbers are the record's six fields.
-pub fn sweep_start(rt: u8, allocation: u16, numbers: &mut [u64]) -> u8 {
-    unsafe { gcf_sweep_start(rt, allocation, numbers.as_mut_ptr(), numbers.len()) }
+/// Starts a sweep; gives the number, the place and the record.
+pub fn sweep_start(rt: u8, allocation: u16) -> (u8, u16, Record) {
+    let step = unsafe { gcf_sweep_start(rt, allocation) };
+    given(step)
 }
 
-/// Takes one response; the numbers are the next record's six fields.
-pub fn sweep_take(record: Record, response: &[u8], collecting: &mut [u8], numbers: &mut [u64]) -> u8 {
-    unsafe {
-        gcf_sweep_take(
-            record.rt,
-            record.allocation,
-            Feature(record.next.0),
-            record.commands,
-            record.collected,
-            record.ended,
-            response.as_ptr(),
-            response.len(),
-            collecting.as_mut_ptr(),
-            collecting.len(),
-            numbers.as_mut_ptr(),
-            numbers.len(),
-        )
-    }
+/// Takes one response; gives the number, the place and the next record.
+pub fn sweep_take(record: Record, response: &[u8], collecting: &mut [u8]) -> (u8, u16, Record) {
+    let sweep = Sweep {
+        rt: record.rt,
+        allocation: record.allocation,
+        next: Feature(record.next.0),
+        commands: record.commands,
+        collected: record.collected,
+        ended: record.ended,
+        profile: Profile(record.profile.0),
+    };
+    let step = unsafe {
+        gcf_sweep_take(sweep, response.as_ptr(), response.len(), collecting.as_mut_ptr(), collecting.len())
+    };
+    given(step)
+}
+
+/// What a step gives.
+fn given(step: Step) -> (u8, u16, Record) {
+    let record = Record {
+        rt: step.sweep.rt,
+        allocation: step.sweep.allocation,
+        next: wire::Feature(step.sweep.next.0),
+        commands: step.sweep.commands,
+        collected: step.sweep.collected,
+        ended: step.sweep.ended,
+        profile: wire::Profile(step.sweep.profile.0),
+    };
+    (step.refusal.number, step.refusal.place, record)
 }
 
 /// Sweeps a sheet; the numbers are: commands, bytes collected, place.

@@ -196,6 +196,7 @@ fn damaged_inputs_do_no_harm() {
             commands: numbers.below(70_000) as u32,
             collected: numbers.below(80) as usize,
             ended: numbers.below(9) == 0,
+            profile: Profile(numbers.below(3) as u16),
         };
         let (number, after) = record.take(&received, &mut buffer);
         assert!(number == ACCEPTED || Record { ended: record.ended, ..after } == record);

@@ -104,7 +104,7 @@ fn a_header_without_its_body_does_not_count() {
 
 /// A record with RT 0 that has begun.
 fn record(allocation: u16) -> Record {
-    Record { rt: 0, allocation, next: Feature(0), commands: 0, collected: 0, ended: false }
+    Record { allocation, ended: false, ..Record::refused() }
 }
 
 /// Takes a response that must be refused with the record unchanged but for its mark; gives the number.
@@ -113,7 +113,7 @@ fn refused_take(record: Record, response: &[u8], room: usize) -> u8 {
     let (number, after) = record.take(response, &mut buffer);
     assert_ne!(number, ACCEPTED);
     assert!(buffer.iter().all(|&byte| byte == FILL));
-    let ended = record.ended || number == NOTHING_WHOLE;
+    let ended = record.ended || [NOTHING_WHOLE, PROFILE_CHANGED].contains(&number);
     assert_eq!(after, Record { ended, ..record });
     number
 }
@@ -155,13 +155,38 @@ fn a_cut_after_the_last_number() {
     let complete = response(0, &[0xFF, 0xFF, 1, 0]);
     let (number, after) = record(12).take(&complete, &mut [0; 4]);
     assert_eq!(number, ACCEPTED);
-    assert_eq!(after, Record { commands: 1, collected: 4, ended: true, ..record(12) });
+    assert_eq!(
+        after,
+        Record { commands: 1, collected: 4, ended: true, profile: after.profile, ..record(12) }
+    );
+}
+
+#[test]
+fn a_profile_that_changes() {
+    // Sheet E has profile 0012h. The first response gives it, and the next must have the same.
+    let begun = Record { commands: 1, profile: Profile(0x0012), ..record(44) };
+    let other = Record { profile: Profile(0x0010), ..begun };
+    assert_eq!(begun.take(&E_FULL, &mut [0; 36]).0, ACCEPTED);
+    assert_eq!(refused_take(other, &E_FULL, 99), PROFILE_CHANGED);
+    assert_eq!(refused_take(Record { profile: Profile(0), ..begun }, &E_FULL, 99), PROFILE_CHANGED);
+    // With no command so far any profile is taken, whatever the record holds.
+    let (number, after) = Record { commands: 0, ..other }.take(&E_FULL, &mut [0; 36]);
+    assert_eq!((number, after.profile), (ACCEPTED, Profile(0x0012)));
+    let (number, after) = record(20).take(&E_FULL[..20], &mut [0; 12]);
+    assert_eq!((number, after.profile), (ACCEPTED, Profile(0x0012)));
+    // After the reading's numbers and 28, before 23, 27 and 24.
+    assert_eq!(refused_take(Record { next: Feature(1), ..other }, &E_FULL, 99), RESPONSE_ORDER);
+    assert_eq!(refused_take(other, &E_FULL[..43], 99), CUT_SHORT);
+    assert_eq!(refused_take(Record { allocation: 19, ..other }, &E_FULL[..19], 99), PROFILE_CHANGED);
+    let last = response(0, &[0xFF, 0xFF, 1, 0, 0, 0, 0, 0]);
+    assert_eq!(refused_take(Record { allocation: 12, ..other }, &last[..12], 99), PROFILE_CHANGED);
+    assert_eq!(refused_take(other, &E_FULL, 0), PROFILE_CHANGED);
 }
 
 #[test]
 fn accepted_takes() {
     let mut buffer = [FILL; 40];
-    let before = Record { collected: 2, commands: 65_535, ..record(20) };
+    let before = Record { collected: 2, commands: 65_535, profile: Profile(0x0012), ..record(20) };
     let (number, after) = before.take(&E_FULL[..20], &mut buffer);
     assert_eq!(number, ACCEPTED);
     assert_eq!(after, Record { next: Feature(1), commands: 65_536, collected: 14, ..before });

@@ -14,15 +14,11 @@ returns-2 c = search (tests, c .before .if1 .left)
 
 returns-3 : tie.Need-returns-3
 unfolding cutRule
-returns-3 c = search (tests, c .before .before .if1 .left)
+returns-3 c = search (tests, c .before .before .before .before .if1 .left)
 
 returns-4 : tie.Need-returns-4
 unfolding cutRule
-returns-4 c = search (tests, c .before .before .before .before .before .if1 .left)
-
-returns-5 : tie.Need-returns-5
-unfolding cutRule
-returns-5 c = search (tests, c .before .before .before .before .before .if1 .left)
+returns-4 c = search (tests, c .before .before .before .before .if1 .left)
 
 pub cut-rule-spec : {M : Type 1} → statement M
-cut-rule-spec = tie.close (tie.spec returns returns-2 returns-3 returns-4 returns-5)
+cut-rule-spec = tie.close (tie.spec returns returns-2 returns-3 returns-4)

@@ -17,11 +17,24 @@ closedRule w =
     refuse 26 if ltb 65535 (w .commands) else
     accept
 
--- 28, 23, 27: a cut response of so many bytes, with so many whole descriptors, the last numbered last
-unfoldable pub cutRule : (complete : Bool) (received most count last : ℕ) → Refusal
-cutRule complete received most count last =
+-- 28: a cut response of so many bytes
+unfoldable pub shortRule : (complete : Bool) (received most : ℕ) → Refusal
+shortRule complete received most =
     accept if complete else
     refuse 28 if ltb received most else
+    accept
+
+-- 45: with so many commands so far, another profile than the one that is held
+unfoldable pub profileRule : (commands held profile : ℕ) → Refusal
+profileRule commands held profile =
+    accept if eqb commands 0 else
+    accept if eqb profile held else
+    refuse 45
+
+-- 23, 27: a cut response with so many whole descriptors, the last numbered last
+unfoldable pub cutRule : (complete : Bool) (count last : ℕ) → Refusal
+cutRule complete count last =
+    accept if complete else
     refuse 23 if eqb count 0 else
     refuse 27 if eqb last 65535 else
     accept
@@ -30,9 +43,11 @@ cutRule complete received most count last =
 unfoldable pub spaceRule : (collected size room : ℕ) → Refusal
 spaceRule collected size room = refuse 24 if ltb room (collected + size) else accept
 
--- what an open record refuses of a scan: the reading's, then 28, 23, 27, 24
+-- what an open record refuses of a scan: the reading's, then 28, 45, 23, 27, 24
 unfoldable pub scanRule : Sweep → Scanned → (received room : ℕ) → Refusal
 scanRule w x received room =
     x .reading .refusal orElse
-    cutRule (x .reading .complete) received (most (w .allocation)) (x .reading .count) (x .last .0) orElse
+    shortRule (x .reading .complete) received (most (w .allocation)) orElse
+    profileRule (w .commands) (w .profile .0) (x .reading .profile .0) orElse
+    cutRule (x .reading .complete) (x .reading .count) (x .last .0) orElse
     spaceRule (w .collected) (x .reading .end - headerLength) room

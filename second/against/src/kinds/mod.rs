@@ -40,8 +40,8 @@ pub const KINDS: &[Kind] = &[
     read_sense::KIND,
 ];
 
-/// A record as the numbers of a result.
-fn fields(record: Record) -> [u64; 6] {
+/// A record, and the place of a refusal, as the numbers of a result.
+fn fields(record: Record, place: u16) -> [u64; 8] {
     [
         u64::from(record.rt),
         u64::from(record.allocation),
@@ -49,6 +49,8 @@ fn fields(record: Record) -> [u64; 6] {
         u64::from(record.commands),
         record.collected as u64,
         u64::from(record.ended),
+        u64::from(record.profile.0),
+        u64::from(place),
     ]
 }
 

@@ -10,14 +10,18 @@ use second::sweep::Record;
 pub const KIND: Kind = Kind { name: "gcf_sweep_start", answers: || vec![0, 21, 22], fixed, random };
 
 /// Compares one start.
-fn compare(run: &mut Run, rt: u8, allocation: u16, numbers: usize) -> u64 {
+fn compare(run: &mut Run, rt: u8, allocation: u16) -> u64 {
     run.compare(
         &[Input::Number("rt", u64::from(rt)), Input::Number("allocation", u64::from(allocation))],
-        Memory::numbers(numbers),
-        |memory| u64::from(boundary::sweep_start(rt, allocation, memory.numbers.part())),
+        Memory::numbers(8),
+        |memory| {
+            let (number, place, record) = boundary::sweep_start(rt, allocation);
+            memory.give(&fields(record, place));
+            u64::from(number)
+        },
         |memory| {
             let (number, record) = Record::start(rt, allocation);
-            memory.give(&fields(record));
+            memory.give(&fields(record, 0));
             u64::from(number)
         },
     )
@@ -27,22 +31,20 @@ fn compare(run: &mut Run, rt: u8, allocation: u16, numbers: usize) -> u64 {
 fn fixed(run: &mut Run) {
     for rt in 0..=255 {
         for allocation in (0..20).chain([0x100, 0xFFFE, 0xFFFF]) {
-            for numbers in 0..9 {
-                compare(run, rt, allocation, numbers);
-            }
+            compare(run, rt, allocation);
         }
     }
     for allocation in 0..=65_535 {
         for rt in 0..3 {
-            compare(run, rt, allocation, 6);
+            compare(run, rt, allocation);
         }
     }
     // With both faults the RT decides.
-    let answer = compare(run, 2, 7, 6);
+    let answer = compare(run, 2, 7);
     run.expect(answer, 21);
 }
 
 fn random(run: &mut Run, random: &mut Random) {
     let rt = random.one_of(&[0, 1, 2, 3, 255]);
-    compare(run, rt, random.near(8), random.below(9));
+    compare(run, rt, random.near(8));
 }

@@ -14,18 +14,18 @@ use crate::random::Random;
 use crate::run::{Input, Kind, Run};
 use second::command::most_bytes;
 use second::sweep::Record;
-use second::wire::Feature;
+use second::wire::{Feature, Profile};
 
 pub const KIND: Kind = Kind { name: "gcf_sweep_take", answers, fixed, random };
 
 /// All of a reading but 13, since 21 comes first; and the sweep's own.
 fn answers() -> Vec<u64> {
-    [0].into_iter().chain(14..=24).chain(26..=28).collect()
+    [0].into_iter().chain(14..=24).chain(26..=28).chain([45]).collect()
 }
 
 /// Compares the taking of one response; gives the answer and the next record.
-fn compare(run: &mut Run, record: Record, response: &Given, room: usize, numbers: usize) -> (u64, Record) {
-    let [rt, allocation, next, commands, collected, ended] = fields(record);
+fn compare(run: &mut Run, record: Record, response: &Given, room: usize) -> (u64, Record) {
+    let [rt, allocation, next, commands, collected, ended, profile, _] = fields(record, 0);
     let mut after = record;
     let answer = run.compare(
         &[
@@ -35,17 +35,19 @@ fn compare(run: &mut Run, record: Record, response: &Given, room: usize, numbers
             Input::Number("commands", commands),
             Input::Number("collected", collected),
             Input::Number("ended", ended),
+            Input::Number("profile", profile),
             Input::Bytes("response", response),
             Input::Number("room", room as u64),
         ],
-        Memory::numbers(numbers).with_buffer(room),
+        Memory::numbers(8).with_buffer(room),
         |memory| {
-            let (collecting, numbers) = (memory.first.part(), memory.numbers.part());
-            u64::from(boundary::sweep_take(record, response.proved(), collecting, numbers))
+            let (number, place, next) = boundary::sweep_take(record, response.proved(), memory.first.part());
+            memory.give(&fields(next, place));
+            u64::from(number)
         },
         |memory| {
             let (number, next) = record.take(response.plain(), memory.first.part());
-            memory.give(&fields(next));
+            memory.give(&fields(next, 0));
             after = next;
             u64::from(number)
         },
@@ -55,7 +57,7 @@ fn compare(run: &mut Run, record: Record, response: &Given, room: usize, numbers
 
 /// A record that has begun.
 fn record(rt: u8, allocation: usize) -> Record {
-    Record { rt, allocation: allocation as u16, next: Feature(0), commands: 0, collected: 0, ended: false }
+    Record { rt, allocation: allocation as u16, ended: false, ..Record::refused() }
 }
 
 fn fixed(run: &mut Run) {
@@ -72,6 +74,54 @@ fn fixed(run: &mut Run) {
         each_allocation_near(run, &response);
     }
     records_at_the_edges(run);
+    profile_changes(run);
+}
+
+/// Sweeps in which the profile changes with one of the responses: with the first it is taken, with any later one it is 45.
+fn profile_changes(run: &mut Run) {
+    for sheet in short_sheets() {
+        let full = length_to_send(&sheet, 0, 0);
+        for allocation in [20, 36, full] {
+            let rounds = rounds_of(&sheet, record(0, allocation), full);
+            for at in [0, 1, rounds.saturating_sub(1)] {
+                changed_at(run, &sheet, record(0, allocation), full, at);
+            }
+        }
+    }
+}
+
+/// How many responses a sweep of a sheet takes.
+fn rounds_of(sheet: &[u8], start: Record, room: usize) -> u32 {
+    let mut record = start;
+    let mut collecting = vec![0; room];
+    while !record.ended {
+        let response = sent(sheet, record.rt, record.next.0, record.allocation);
+        let (number, after) = record.take(&response, &mut collecting);
+        if number != 0 {
+            break;
+        }
+        record = after;
+    }
+    record.commands
+}
+
+/// One sweep of a sheet in which the response after so many commands has another profile.
+fn changed_at(run: &mut Run, sheet: &[u8], start: Record, room: usize, at: u32) {
+    let mut record = start;
+    while !record.ended && run.failure.is_none() {
+        let mut response = sent(sheet, record.rt, record.next.0, record.allocation);
+        if record.commands == at {
+            response[6] ^= 0x80;
+        }
+        let (answer, after) = compare(run, record, &Given::new(&response), room);
+        if record.commands > 0 && record.commands == at {
+            run.expect(answer, 45);
+        }
+        if answer != 0 {
+            return;
+        }
+        record = after;
+    }
 }
 
 /// A response taken with allocation lengths around its own length, with room and without.
@@ -81,8 +131,13 @@ fn each_allocation_near(run: &mut Run, response: &[u8]) {
     for allocation in [length.saturating_sub(1), length, length + 1, 65_535] {
         let allocation = allocation.min(65_535);
         let rt = (length % 2) as u8;
-        compare(run, record(rt, allocation), &given, length, 6);
-        compare(run, Record { collected: 3, ..record(0, allocation) }, &given, length / 2, length % 9);
+        compare(run, record(rt, allocation), &given, length);
+        compare(run, Record { collected: 3, ..record(0, allocation) }, &given, length / 2);
+        // Later in a sweep, with the profile of most responses and with another.
+        for profile in [0x0012, 0x0010] {
+            let later = Record { commands: 1, profile: Profile(profile), ..record(rt, allocation) };
+            compare(run, later, &given, length);
+        }
     }
 }
 
@@ -104,13 +159,13 @@ fn whole_sweep(run: &mut Run, sheet: &[u8], start: Record, room: usize) {
     let mut record = start;
     while !record.ended && run.failure.is_none() {
         let response = sent(sheet, record.rt, record.next.0, record.allocation);
-        let (answer, after) = compare(run, record, &Given::new(&response), room, 6);
+        let (answer, after) = compare(run, record, &Given::new(&response), room);
         if answer != 0 {
             return;
         }
         record = after;
     }
-    compare(run, record, &Given::new(&[]), room, 6);
+    compare(run, record, &Given::new(&[]), room);
 }
 
 /// A record, a response and room for what is collected.
@@ -138,6 +193,7 @@ fn good(cut_in_header: bool) -> (Taken, Vec<usize>) {
         commands: 5,
         collected: 7,
         ended: false,
+        profile: Profile(0x0012),
     };
     (Taken { record, response, room: 7 + 12 + 8 }, at)
 }
@@ -145,12 +201,15 @@ fn good(cut_in_header: bool) -> (Taken, Vec<usize>) {
 /// Each two faults of record, response and room; with 23 only those of the first descriptor are still there.
 fn each_two_faults(run: &mut Run, cut_in_header: bool, none_whole: bool) {
     let (good, at) = good(cut_in_header);
-    let (answer, _) = compare(run, good.record, &Given::new(&good.response), good.room, 6);
+    let (answer, _) = compare(run, good.record, &Given::new(&good.response), good.room);
     run.expect(answer, 0);
     let mut faults = record_faults();
     response_faults(if none_whole { &at[..1] } else { &at }, &mut faults);
     faults.push(fault(28, |taken: &mut Taken| taken.record.allocation = 65_535));
     faults.push(fault(28, |taken: &mut Taken| taken.record.allocation += 1));
+    faults.push(fault(45, |taken: &mut Taken| taken.record.profile = Profile(0x0010)));
+    faults.push(fault(45, |taken: &mut Taken| taken.record.profile = Profile(0)));
+    faults.push(fault(45, |taken: &mut Taken| taken.response[6] = 0xFF));
     if none_whole {
         faults.push(fault(23, |taken: &mut Taken| taken.response[11] = 252));
     }
@@ -164,10 +223,8 @@ fn each_two_faults(run: &mut Run, cut_in_header: bool, none_whole: bool) {
     faults.push(fault(24, |taken: &mut Taken| taken.record.collected = usize::MAX));
     each_pair(&good, &faults, &mut |taken, (number, _)| {
         let response = Given::new(&taken.response);
-        for numbers in [6, 7, 3] {
-            let (answer, _) = compare(run, taken.record, &response, taken.room, numbers);
-            run.expect(answer, u64::from(number));
-        }
+        let (answer, _) = compare(run, taken.record, &response, taken.room);
+        run.expect(answer, u64::from(number));
     });
 }
 
@@ -220,7 +277,8 @@ fn records_at_the_edges(run: &mut Run) {
             for room in [0, 1, 12, 27, 28, 39, 40, 41] {
                 for response in [&empty, &cut] {
                     let before = Record { commands, collected, ..record(0, 20) };
-                    compare(run, before, response, room, 6);
+                    compare(run, before, response, room);
+                    compare(run, Record { profile: Profile(0x0012), ..before }, response, room);
                 }
             }
         }
@@ -235,7 +293,10 @@ fn random(run: &mut Run, random: &mut Random) {
         if random.once_in(2) {
             damage(random, &mut bytes);
         }
-        let before = random_record(random, rt, made.sfn, bytes.len());
+        let mut before = random_record(random, rt, made.sfn, bytes.len());
+        if random.once_in(2) && bytes.len() >= 8 {
+            before.profile = Profile(u16::from_be_bytes([bytes[6], bytes[7]]));
+        }
         let room = if random.once_in(3) {
             random.below(100)
         } else {
@@ -245,7 +306,7 @@ fn random(run: &mut Run, random: &mut Random) {
         if random.once_in(2) && most_bytes(before.allocation) < bytes.len() {
             bytes.truncate(most_bytes(before.allocation));
         }
-        compare(run, before, &Given::new(&bytes), room, random.below(9));
+        compare(run, before, &Given::new(&bytes), room);
     }
 }
 
@@ -259,5 +320,6 @@ fn random_record(random: &mut Random, rt: u8, sfn: u16, length: usize) -> Record
         commands: random.one_of(&[0, 1, 2, 65_534, 65_535, 65_536, u32::MAX]),
         collected: random.one_of(&[0, 0, 1, 5, 40, 99, usize::MAX]),
         ended: random.once_in(9),
+        profile: Profile(random.one_of(&[0, 0x0010, 0x0012])),
     }
 }
