@@ -55,7 +55,7 @@ module _ {s c d : List ℕ} {o : maker.Outcome} (a : Answers s c d o) (z : o .ma
   is-zero zero f = refl
   is-zero (suc n) f = absurd (f (λ e. omega arith))
 
-  sheet-fine : Accepted s
+  pub sheet-fine : Accepted s
   unfolding maker.refusing
   sheet-fine = is-zero (verdict s .number) (λ h. none (verdict s .number) h (a .refuses-sheet h) refl)
 
@@ -71,12 +71,12 @@ module _ {s c d : List ℕ} {o : maker.Outcome} (a : Answers s c d o) (z : o .ma
   ]
 
   -- the bytes due stand at the buffer's front
-  got : take (o .made .count) (o .buffer) ≡ due s c
+  pub got : take (o .made .count) (o .buffer) ≡ due s c
   unfolding maker.making
   got = rw (a .sends sheet-fine command-fine room) (take-append-seam (due s c) (drop (length (due s c)) d))
 
   -- so a reading of them, as the answer to that command, gives back what the sheet has
-  read-back : {rt sfn : ℕ} {received : List ℕ} {r : Reading} → Reads 65534 rt sfn received r → Bytes s
+  pub read-back : {rt sfn : ℕ} {received : List ℕ} {r : Reading} → Reads 65534 rt sfn received r → Bytes s
       → 8 ≤ allocationOf c → rt ≡ rtOf c → sfn ≡ sfnOf c → received ≡ take (o .made .count) (o .buffer)
       → ReadBack (meaning s) 65534 (rtOf c) (sfnOf c) (allocationOf c) received r
   read-back {rt} {sfn} {received} {r} f b eight is-rt is-sfn there =

@@ -16,3 +16,4 @@ pub mod Asking
 pub mod Tied
 pub mod Exported
 pub mod EndToEnd
+pub mod Narrowing

@@ -9,6 +9,7 @@ pub mod Packing
 pub mod Own
 pub mod Again
 pub mod Next
+pub mod Narrowing
 pub mod Received
 pub mod Decides
 pub mod Lines

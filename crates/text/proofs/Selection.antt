@@ -99,7 +99,7 @@ selected-good {m} s rt sfn = keep-all (wants rt sfn) Good (all m) (all-good s)
 abbrev pub isCurrent : Desc → Bool
 isCurrent d = eqb (current (d .flags)) 1
 
-leb-max : (s t n : ℕ) → leb (max s t) n ≡ (leb s n && leb t n)
+pub leb-max : (s t n : ℕ) → leb (max s t) n ≡ (leb s n && leb t n)
 leb-max s t n = ⊎-elim
     (λ (a : s ≤ n). ⊎-elim
     (λ (b : t ≤ n). rw (le-leb s n a, le-leb t n b) (le-leb (max s t) n (omega arith)))
@@ -183,10 +183,6 @@ one-most rt s lo ds a =
     go lo [] a w = omega arith
     go lo (d ∷ []) a w = omega arith
     go lo (d ∷ e ∷ ks) a w = absurd (omega (arith, a .1 .0, w .0, w .1 .0))
-
--- ---- a list that ascends, by index
-
--- ---- those below a start and those from it
 
 -- ---- feature 0
 

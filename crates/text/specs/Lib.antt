@@ -4,3 +4,4 @@ pub mod Command
 pub mod Response
 pub mod Reading
 pub mod Packing
+pub mod Narrowing
