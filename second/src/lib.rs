@@ -5,6 +5,7 @@ pub mod bench;
 pub mod checks;
 pub mod command;
 pub mod fast;
+pub mod fewest;
 pub mod find;
 pub mod import;
 pub mod lister;

@@ -7,5 +7,6 @@ pub mod Rounds
 pub mod Ends
 pub mod Honest
 pub mod Demand
+pub mod Fewest
 pub mod Carried
 pub mod Loop

@@ -1,3 +1,4 @@
 pub mod Bench
 pub mod Swept
+pub mod Fewest
 pub mod inner

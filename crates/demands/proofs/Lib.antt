@@ -5,6 +5,7 @@ pub mod Readings
 pub mod Listings
 pub mod Steps
 pub mod Sweeping
+pub mod Fewest
 pub mod Checking
 pub mod Capturing
 pub mod Importing

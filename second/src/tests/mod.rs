@@ -2,6 +2,7 @@
 
 mod cross;
 mod fast;
+mod fewest;
 mod import;
 mod places;
 mod refusals;

@@ -8,7 +8,7 @@ use crate::made::faults::{
     each_last_fault, each_pair, fault, fault_at, good_sheet, some_sheet_faults, Fault,
 };
 use crate::made::responses::length_to_send;
-use crate::made::sheets::{every_feature, longest, random_sheet, short_sheets, E};
+use crate::made::sheets::{body, every_feature, longest, profiles, random_sheet, sheet_of, short_sheets, E};
 use crate::random::Random;
 use crate::run::{told, Input, Kind, Run, Told};
 
@@ -30,6 +30,18 @@ struct Rooms {
 
 /// Compares one bench sweep.
 fn compare(run: &mut Run, sheet: &Given, rt: u8, allocation: u16, rooms: Rooms) -> Told {
+    compare_count(run, sheet, rt, allocation, rooms, |commands| commands)
+}
+
+/// Compares one bench sweep, where the second program's command count is found by `count`, given that of its own sweep.
+fn compare_count(
+    run: &mut Run,
+    sheet: &Given,
+    rt: u8,
+    allocation: u16,
+    rooms: Rooms,
+    count: impl Fn(usize) -> usize,
+) -> Told {
     run.compare_told(
         &[
             Input::Bytes("sheet", sheet),
@@ -65,7 +77,7 @@ fn compare(run: &mut Run, sheet: &Given, rt: u8, allocation: u16, rooms: Rooms) 
             );
             let told = told(&outcome);
             let (commands, collected) = outcome.map_or((0, 0), |done| (done.commands, done.collected));
-            memory.give(&[commands as u64, collected as u64, told.1 as u64]);
+            memory.give(&[count(commands) as u64, collected as u64, told.1 as u64]);
             told
         },
     )
@@ -73,6 +85,7 @@ fn compare(run: &mut Run, sheet: &Given, rt: u8, allocation: u16, rooms: Rooms) 
 
 fn fixed(run: &mut Run) {
     each_allocation(run);
+    each_list(run);
     each_room(run);
     each_two_faults(run);
     at_the_limit(run);
@@ -92,6 +105,26 @@ fn each_allocation(run: &mut Run) {
                     numbers: allocation % 5,
                 };
                 compare(run, &given, rt, allocation as u16, rooms);
+            }
+        }
+    }
+}
+
+/// Small sheets with gaps in their numbering: the command count is the length of the shortest of all lists of starts.
+fn each_list(run: &mut Run) {
+    let starts = [0, 1, 2, 3, 4, 5, 6, 7, 65_535];
+    for sizes in 0..81 {
+        let part = |number, flags, at| (number, flags, body(4 * (sizes / 3_usize.pow(at) % 3)));
+        let parts = [part(1, 3, 0), part(2, 0, 1), part(4, 1, 2), part(6, 1, 3)];
+        let sheet = sheet_of(&profiles(sizes as u16 % 3, 1), &parts);
+        let given = Given::new(&sheet);
+        for room in [3, 4, 8, 11, 12, 16, 24] {
+            let rooms = Rooms { response: 8 + room, collected: 64, starts: 6, numbers: 3 };
+            for rt in 0..2 {
+                let allocation = 8 + room as u16;
+                compare_count(run, &given, rt, allocation, rooms, |_| {
+                    second::fewest::fewest(&sheet, rt, allocation, &starts).unwrap_or(0)
+                });
             }
         }
     }

@@ -1,0 +1,56 @@
+-- No sweep is shorter (request 12): "Under demand 3's premises show that no list of starting numbers, used with the same RT and the same allocation length
+-- on the same sheet, receives every wanted descriptor whole in fewer commands." What a list receives, the least count and what is said of a sweep
+-- are in crates/bench/specs/Fewest.antt; `benched` is the contract of `bench::bench`. Assumes nothing.
+use mathlib.Core.Path.{_≡_, refl}
+use mathlib.Core.Logic.{inl}
+use mathlib.Core.List.{List, map}
+use Prim.Native.Nat.{ℕ, _≤_, _<_}
+use native.Mathlib.Omega.{arith}
+use Rattle.base.specs.Lists.{each, flat, keep, Bytes}
+use Rattle.base.proofs.Promise.{Promised, promises, by}
+use Rattle.fields.specs.Field.{field, spell}
+use Rattle.text.specs.Drive.{Desc, profileBytes}
+use Rattle.text.specs.Response.{feature0, all, wants, selected}
+use Rattle.text.specs.Packing.{size}
+use Rattle.layout.specs.Layout as layout
+use Rattle.profiles.specs.Profiles as profiles
+use Rattle.sheet.specs.Check.{Accepted}
+use Rattle.sheet.specs.Meaning.{desc, meaning}
+use Rattle.sheet.proofs.Meaning.{meaning-fine}
+use Rattle.bench.specs.Bench.{Buffers, buffers, ending, benched}
+use Rattle.bench.specs.Swept.{room, Premises}
+use Rattle.bench.specs.Fewest.{Some, ReceivesAll, fewestFrom, fewest, Fewest}
+use Rattle.bench.proofs.Fewest as bench-fewest
+use Rattle.bench.proofs.bench as bench
+use Rattle.demands.specs.Recorder.{sheetE}
+use Rattle.demands.proofs.Sweeping.{demand3, bytesE, acceptedE}
+
+pub no-shorter : (s : List ℕ) (rt a : ℕ) (b : Buffers) → Bytes s → Accepted s → Premises (meaning s) rt a b
+    → Fewest (meaning s) rt a (benched s rt a b)
+no-shorter s rt a b w ok p = bench-fewest.fewest-commands (meaning-fine s w ok .sound) rt a (p .kind) (p .eight) p (demand3 s rt a b w ok p)
+
+-- The same of every outcome that the contract of `bench::bench` allows.
+pub bench-no-shorter : Promised bench.ended (λ M. bench.clauses) (λ M. bench.spec)
+    (λ x o. Bytes (x .args .0 .now) → Accepted (x .args .0 .now)
+    → Premises (meaning (x .args .0 .now)) (x .args .1 .0) (x .args .1 .1 .0) (buffers (x .args .1 .1 .1 .0 .now) (x .args .1 .1 .1 .1 .0 .now) (x .args .1 .1 .1 .1 .1 .0 .now))
+    → Fewest (meaning (x .args .0 .now)) (x .args .1 .0) (x .args .1 .1 .0) (ending (o .0) (buffers (o .1 .1 .1 .1 .0) (o .1 .1 .1 .1 .1 .0) (o .1 .1 .1 .1 .1 .1 .0))))
+bench-no-shorter x = promises (x .𝓤) (λ o e w ok p. by (Fewest _ _ _) (no-shorter _ _ _ _ w ok p) e)
+
+-- ---- that the premises matter
+
+-- Where a wanted descriptor has more than C - 8 bytes, no list of starts at all receives all that is wanted.
+pub too-long : (s : List ℕ) (rt a : ℕ) → Bytes s → Accepted s → rt < 2 → 8 ≤ a → Some (λ (d : Desc). room a < size d) (selected rt 0 (meaning s))
+    → (starts : List ℕ) → ReceivesAll (meaning s) rt a starts → ⊥
+too-long s rt a w ok two eight = bench-fewest.too-long (meaning-fine s w ok .sound) rt a two eight
+
+-- So with sheet E and allocation length 19: 0000h has 12 bytes, and C - 8 is 11.
+pub none-for-E : (starts : List ℕ) → ReceivesAll (meaning sheetE) 0 19 starts → ⊥
+unfolding each flat keep field spell profileBytes feature0 all wants selected layout.featureCount layout.profileCount layout.number layout.flags layout.bodyLength layout.offset layout.profilesPart profiles.profileNumber profiles.profileCurrent profiles.listed profiles.profilesOf desc meaning sheetE
+none-for-E = too-long sheetE 0 19 bytesE acceptedE (omega arith) (omega arith) (inl (omega arith))
+
+-- The manual's counts for sheet E: with allocation length 20 four commands, with 43 two, with 44 one.
+pub fewestE : (fewest (room 20) (map size (selected 0 0 (meaning sheetE))) ≡ 4)
+    × (fewest (room 43) (map size (selected 0 0 (meaning sheetE))) ≡ 2)
+    × (fewest (room 44) (map size (selected 0 0 (meaning sheetE))) ≡ 1)
+unfolding fewestFrom each flat keep field spell profileBytes feature0 all wants selected layout.featureCount layout.profileCount layout.number layout.flags layout.bodyLength layout.offset layout.profilesPart profiles.profileNumber profiles.profileCurrent profiles.listed profiles.profilesOf desc meaning sheetE
+fewestE = (refl, refl, refl)
