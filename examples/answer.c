@@ -1,13 +1,13 @@
 /*
  * The box and the driver in one program: a mistyped sheet is refused and sheet E is accepted, a command is answered from it, the answer is read and
- * judged, and then the whole drive is swept with an allocation length of 20 bytes, as a driver with little memory would. tests/c-example builds and runs
- * it.
+ * judged, and then the whole drive is swept with an allocation length of 20 bytes, as a driver with little memory would. ./install --check builds and runs
+ * it, and so does tests/c-example.
  */
 #include <inttypes.h>
 #include <stdio.h>
 #include <string.h>
 
-#include "../include/gcf.h"
+#include "gcf.h"
 
 /* The drive sheet of a recorder: counts, four contents entries, two profiles, two bodies. */
 static const uint8_t sheet[] = {

@@ -1,6 +1,6 @@
 /*
  * GET CONFIGURATION: the box that answers from a drive sheet, and the driver that reads, sweeps and checks the answers.
- * Link target/staticlib/libabi.a (rt staticlib abi). docs/MANUAL.md has every number and a worked example.
+ * Link libgcf.a, which ./install makes (pkg-config --cflags --libs gcf). docs/MANUAL.md has every number and a worked example.
  *
  * Every function takes any bytes and any numbers: nothing that is handed in makes it misbehave or run on. It keeps nothing, allocates nothing,
  * calls nothing but memcpy and memset, and may be called from several threads at once.
@@ -23,6 +23,13 @@
 #include <stdbool.h>
 #include <stddef.h>
 #include <stdint.h>
+
+/* The version, and its only place: all else that tells it takes it from here. docs/CHANGES.md says what each one brought. */
+#define GCF_VERSION "0.6.1"
+
+#if SIZE_MAX != UINT64_MAX
+#error "gcf.h: size_t has not 64 bits here, and the functions of libgcf.a take every length and count as 64 bits. There is no libgcf.a for such a target."
+#endif
 
 #ifdef __cplusplus
 extern "C" {

@@ -1,9 +1,10 @@
-# What the tests that link the archive share; they source it from the repository's root.
+# What ./install and the tests that link the archive share; they source it from the repository's root.
 #
-# The archive is for x86-64. On another processor there are two ways to use it:
+# The archive that rt makes is for x86-64. On another processor there are two ways to use it:
 #   cross  Debian's cross compilers and the emulator of rt's kit: the archive itself, slowly
 #   own    the same LLVM code, compiled for this processor by the kit's compiler: not the archive, but times mean something
-# On x86-64 both are the archive itself. After `archive_for cross` or `archive_for own` the rest of this file builds and runs for it.
+# On x86-64 both are the archive itself. After `archive_for cross` or `archive_for own` the rest of this file builds and runs for it, and
+# ARCHIVE is it under the name that a program links, libgcf.a. `archive_target` compiles the same code for any processor.
 
 archive_machine=$(uname -m)
 archive_kit=${RATTLE_HOME:-$(dirname "$(dirname "$(readlink -f "$(command -v rt)")")")}
@@ -25,11 +26,15 @@ archive_cross_tools() {
 # the kit's compiler for this processor
 archive_clang=("$archive_tools/bin/clang" --target="$archive_machine-unknown-linux-gnu" --no-default-config -Wno-override-module)
 
-# The same code without the processor that each function names: a compiler for another one would take it for one that can do nothing special. And
-# without the mark that a struct comes on the stack, as x86-64 hands one over; elsewhere a pointer to it comes, which is what is left.
+# The same code without what is x86-64's own: the processor that each function names, which a compiler for another one would take for one that can do
+# nothing special; and the mark that a struct comes on the stack, for elsewhere a pointer to it comes, which is what is left. A struct that is given is
+# written where a first pointer says, which needs its mark, since Arm has a register of its own for it, and does not come back. A byte that is returned fills
+# its register with zeros, which RISC-V asks for.
 archive_unnamed() { # FILE OUT
     "${archive_clang[@]}" -S -emit-llvm -Xclang -disable-llvm-passes -x ir "$1" -o "$2" &&
-        sed -i -E -e '/^attributes /s/ "(target-cpu|target-features|tune-cpu)"="[^"]*"//g' -e '/^define /s/ byval\([^)]*\)//g' "$2"
+        sed -i -E -e '/^attributes /s/ "(target-cpu|target-features|tune-cpu)"="[^"]*"//g' -e '/^define /s/ byval\([^)]*\)//g' \
+            -e '/^define noundef ptr @gcf_/,/^}/ { s/^define noundef ptr (@[a-z_]+\(ptr noundef) /define void \1 sret(i8) /; s/^  ret ptr %a0$/  ret void/ }' \
+            -e 's/^define noundef i8 @/define noundef zeroext i8 @/' "$2"
 }
 
 # A kit like the one that is there, but for a compiler that also keeps the code it is handed and the words it is called with; rt over it. Leaves
@@ -47,17 +52,33 @@ for word in "\$@"; do case \$word in *.bc) cp "\$word" "$here/abi.bc" && printf 
 exec "$archive_tools/bin/clang" "\$@"
 END
     chmod +x "$kit/on/$archive_machine/toolchain/bin/clang"
-    RATTLE_HOME=$kit rt staticlib abi >"$here/log" 2>&1
+    RATTLE_HOME=$kit rt staticlib abi >"$here/log" 2>&1 && return
+    rm -f "$here/abi.bc"
+    return 1
 }
 
-# That code compiled for this processor.
-archive_own() {
+# That code, without the processor that it names: target/own/abi.ll.
+archive_ll() {
     local here=$PWD/target/own
-    archive_code || return 1
-    archive_unnamed "$here/abi.bc" "$here/abi.ll" >>"$here/log" 2>&1 || return 1
-    "${archive_clang[@]}" -O3 -fPIC -ffunction-sections -fdata-sections -c -x ir "$here/abi.ll" -o "$here/abi.o" >>"$here/log" 2>&1 || return 1
-    rm -f "$here/libabi.a"
-    "$archive_tools/bin/llvm-ar" crs "$here/libabi.a" "$here/abi.o"
+    ! archive_fresh "$here/abi.ll" || return 0
+    archive_fresh "$here/abi.bc" || archive_code || return 1
+    archive_unnamed "$here/abi.bc" "$here/abi.ll.new" >>"$here/log" 2>&1 && mv "$here/abi.ll.new" "$here/abi.ll"
+}
+
+# It compiled for a processor, as FOLDER/libgcf.a. The archive that rt makes is taken as it is for x86-64 Linux.
+archive_target() { # TRIPLE FOLDER
+    local log=$PWD/target/archive.log
+    mkdir -p "$2" || return 1
+    if [ "$1" = x86_64-unknown-linux-gnu ]; then
+        archive_fresh target/staticlib/libabi.a || rt staticlib abi >"$log" 2>&1 || return 1
+        cp target/staticlib/libabi.a "$2/libgcf.a"
+        return
+    fi
+    archive_ll || return 1
+    "$archive_tools/bin/clang" --target="$1" --no-default-config -Wno-override-module -O3 -fPIC -ffunction-sections -fdata-sections \
+        -c -x ir target/own/abi.ll -o "$2/gcf.o" >"$log" 2>&1 || return 1
+    rm -f "$2/libgcf.a"
+    "$archive_tools/bin/llvm-ar" crs "$2/libgcf.a" "$2/gcf.o" && rm "$2/gcf.o"
 }
 
 # That code as text for x86-64, compiled by the words that made the archive, with the frame of each function: target/own/abi.s and target/own/abi.su.
@@ -75,20 +96,17 @@ archive_text() {
     "$archive_tools/bin/clang" "${words[@]}" -fstack-usage >>"$here/log" 2>&1
 }
 
-# whether the archive is there and nothing that it is made of is newer
-archive_fresh() {
-    [ -f "$ARCHIVE" ] && [ -z "$(find crates.txt crates/*/src -type f -newer "$ARCHIVE")" ]
+# whether a file that is made of the exported functions is there and nothing that it is made of is newer
+archive_fresh() { # FILE
+    [ -f "$1" ] && [ -z "$(find crates.txt crates/*/src -type f -newer "$1")" ]
 }
 
 archive_for() { # cross | own
     mkdir -p target
-    if [ "$archive_machine" = x86_64 ] || [ "$1" = cross ]; then
-        ARCHIVE=$PWD/target/staticlib/libabi.a
-        archive_fresh || rt staticlib abi >target/archive.log 2>&1 || return 1
-    else
-        archive_own || return 1
-        ARCHIVE=$PWD/target/own/libabi.a
-    fi
+    local machine=$archive_machine
+    [ "$1" != cross ] || machine=x86_64
+    ARCHIVE=$PWD/target/link/$machine/libgcf.a
+    archive_target "$machine-unknown-linux-gnu" "${ARCHIVE%/*}" || return 1
     CC=(gcc)
     archive_run=()
     archive_rust=(rustc)
@@ -115,13 +133,15 @@ run_it() { # FILE [WORD..]
     "${archive_run[@]}" "$@"
 }
 
-# Builds a program of second/against, which calls the archive and the second program: target/against/NAME.
+# Builds a program of second/against, which calls the archive, by the bindings, and the second program: target/against/NAME.
 build_against() { # NAME
     local out=$PWD/target/against
+    local words=(--extern "second=$out/libsecond.rlib" --extern "gcf=$out/libgcf.rlib")
     mkdir -p "$out" || return 1
     archive_rust_to "$out" second rlib second/src/lib.rs &&
-        archive_rust_to "$out" against rlib second/against/src/lib.rs --extern "second=$out/libsecond.rlib" -l static=abi &&
-        archive_rust_to "$out" "$1" bin "second/against/src/bin/$1.rs" --extern "second=$out/libsecond.rlib" --extern "against=$out/libagainst.rlib"
+        archive_rust_to "$out" gcf rlib bindings/rust/src/lib.rs &&
+        archive_rust_to "$out" against rlib second/against/src/lib.rs "${words[@]}" &&
+        archive_rust_to "$out" "$1" bin "second/against/src/bin/$1.rs" "${words[@]}" --extern "against=$out/libagainst.rlib"
 }
 
 archive_rust_to() { # FOLDER NAME KIND FILE [WORD..]

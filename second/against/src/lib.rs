@@ -1,8 +1,6 @@
 //! The proved functions against the second program.
-#![deny(unsafe_code)]
+#![forbid(unsafe_code)]
 
-#[allow(unsafe_code)]
-pub mod boundary;
 pub mod kinds;
 pub mod lent;
 pub mod made;

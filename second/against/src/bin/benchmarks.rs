@@ -1,13 +1,13 @@
 //! Times the proved functions against plain Rust written for speed and against a copy of the bytes; prints a table.
 #![forbid(unsafe_code)]
 
-use against::boundary;
 use against::made::captures::{capture_of, example, long_bodies, no_bodies};
 use against::made::responses::{long_faultless, response_of, ruled_parts, sent, MOST};
 use against::made::sheets::{body, every_feature, in_a_row, longest, profiles, sheet_of, E};
 use against::made::Part;
 use against::run::told;
 use against::timing::{head, line, Case, Effort};
+use gcf::raw;
 use second::command::Request;
 use second::fast::bench::bench;
 use second::fast::checks::{check_descriptors, check_profile};
@@ -118,7 +118,7 @@ fn time_checked(run: &Run, name: &str, sheet: &[u8], command: [u8; 10], pieces: 
         pieces,
         proved: Box::new(|sheet, out| {
             let mut numbers = [0; 2];
-            usize::from(boundary::respond(sheet, &command, out, &mut numbers)) + numbers[0] as usize
+            usize::from(raw::respond(sheet, &command, out, &mut numbers)) + numbers[0] as usize
         }),
         plain: Box::new(|sheet, out| respond(sheet, &command, out).unwrap_or(0)),
     });
@@ -134,7 +134,7 @@ fn time_accepted(run: &Run, name: &str, sheet: &[u8], command: [u8; 10], pieces:
         pieces,
         proved: Box::new(|sheet, out| {
             let mut numbers = [0];
-            usize::from(boundary::respond_accepted(sheet, &command, out, &mut numbers)) + numbers[0] as usize
+            usize::from(raw::respond_accepted(sheet, &command, out, &mut numbers)) + numbers[0] as usize
         }),
         plain: Box::new(|sheet, out| respond_checked(sheet, &command, out).unwrap_or(0)),
     });
@@ -170,7 +170,7 @@ fn checks_of_sheets(run: &Run) {
             pieces: None,
             proved: Box::new(|sheet, _| {
                 let mut numbers = [0];
-                usize::from(boundary::check_sheet(sheet, &mut numbers)) + numbers[0] as usize
+                usize::from(raw::check_sheet(sheet, &mut numbers)) + numbers[0] as usize
             }),
             plain: Box::new(|sheet, _| {
                 let (number, place) = told(&check(sheet));
@@ -194,15 +194,15 @@ fn readings(run: &Run) {
             pieces: None,
             proved: Box::new(|response, _| {
                 let mut numbers = [0; 5];
-                usize::from(boundary::read(0, 0, response, &mut numbers)) + numbers[2] as usize
+                usize::from(raw::read(0, gcf::Feature(0), response, &mut numbers)) + numbers[2] as usize
             }),
             plain: Box::new(|response, _| read(0, Feature(0), response, None).count),
         });
     }
 }
 
-/// Bench sweeps of 65,535 features without bodies, with long responses and with short ones, and with a response buffer
-/// that is as long as the longest response and longer than these.
+/// Bench sweeps of 65,535 features without bodies, with long responses and with short ones, with a response buffer
+/// that is as long as the longest response and longer than these, and with a command for each feature.
 fn sweeps(run: &Run) {
     let sheet = every_feature();
     for rt in 0..2 {
@@ -215,6 +215,13 @@ fn sweeps(run: &Run) {
         let name =
             format!("bench sweep of 65,535 features, RT 0, allocation length {allocation}, long buffer");
         time_sweep(run, &name, &sheet, 0, allocation, MOST);
+    }
+    // A descriptor to a response: as many commands as there can be.
+    let parts: Vec<Part> = (1..=65_535).map(|number| (number, 1, Vec::new())).collect();
+    let current = sheet_of(&profiles(0, 0), &parts);
+    for rt in 0..2 {
+        let name = format!("bench sweep of 65,535 current features, RT {rt}, allocation length 12");
+        time_sweep(run, &name, &current, rt, 12, 12);
     }
     let name = "bench sweep of 4,000 features of 4 bytes, RT 0, allocation length 1000";
     time_sweep(run, name, &small_bodies(), 0, 1_000, 1_000);
@@ -233,8 +240,7 @@ fn time_sweep(run: &Run, name: &str, sheet: &[u8], rt: u8, allocation: u16, room
         proved: Box::new(move |sheet, out| {
             let (response, collected) = out.split_at_mut(room);
             let mut numbers = [0; 3];
-            let answer =
-                boundary::bench(sheet, rt, allocation, response, collected, &mut starts, &mut numbers);
+            let answer = raw::bench(sheet, rt, allocation, response, collected, &mut starts, &mut numbers);
             usize::from(answer) + numbers[0] as usize
         }),
         plain: Box::new(move |sheet, out| {
@@ -269,7 +275,7 @@ fn checks_of_responses(run: &Run) {
             pieces: None,
             proved: Box::new(|response, _| {
                 let mut numbers = [0; 2];
-                usize::from(boundary::check_descriptors(response, &mut numbers)) + numbers[0] as usize
+                usize::from(raw::check_descriptors(response, &mut numbers)) + numbers[0] as usize
             }),
             plain: Box::new(|response, _| {
                 let (number, feature) = check_descriptors(response);
@@ -284,7 +290,8 @@ fn checks_of_responses(run: &Run) {
             pieces: None,
             proved: Box::new(|response, _| {
                 let mut numbers = [0; 2];
-                usize::from(boundary::check_profile(0x0012, response, &mut numbers)) + numbers[1] as usize
+                usize::from(raw::check_profile(gcf::Profile(0x0012), response, &mut numbers))
+                    + numbers[1] as usize
             }),
             plain: Box::new(|response, _| {
                 let (number, _, feature) = check_profile(Profile(0x0012), response).fields();
@@ -317,7 +324,7 @@ fn imports(run: &Run) {
             pieces: *pieces,
             proved: Box::new(|capture, sheet| {
                 let mut numbers = [0; 2];
-                usize::from(boundary::import(capture, sheet, &mut numbers)) + numbers[0] as usize
+                usize::from(raw::import(capture, sheet, &mut numbers)) + numbers[0] as usize
             }),
             plain: Box::new(|capture, sheet| import(capture, sheet).unwrap_or(0)),
         });

@@ -1,7 +1,6 @@
 //! gcf_bench.
 
 use super::SHEET;
-use crate::boundary;
 use crate::lent::{Given, Memory};
 use crate::made::damage::damage;
 use crate::made::faults::{
@@ -11,6 +10,7 @@ use crate::made::responses::length_to_send;
 use crate::made::sheets::{body, every_feature, longest, profiles, random_sheet, sheet_of, short_sheets, E};
 use crate::random::Random;
 use crate::run::{told, Input, Kind, Run, Told};
+use gcf::raw;
 
 pub const KIND: Kind = Kind { name: "gcf_bench", answers, fixed, random };
 
@@ -56,7 +56,7 @@ fn compare_count(
             .with_second(rooms.collected)
             .with_starts(rooms.starts),
         |memory| {
-            boundary::bench(
+            raw::bench(
                 sheet.proved(),
                 rt,
                 allocation,

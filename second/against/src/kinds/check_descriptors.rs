@@ -1,7 +1,6 @@
 //! gcf_check_descriptors.
 
 use super::READING;
-use crate::boundary;
 use crate::lent::{Given, Memory};
 use crate::made::damage::damage;
 use crate::made::faults::{each_faulty_response, each_pair, fault, Fault};
@@ -11,6 +10,7 @@ use crate::made::responses::{
 use crate::made::{put32, Part};
 use crate::random::Random;
 use crate::run::{Input, Kind, Run};
+use gcf::raw;
 
 pub const KIND: Kind = Kind { name: "gcf_check_descriptors", answers, fixed, random };
 
@@ -25,7 +25,7 @@ fn compare(run: &mut Run, response: &[u8], numbers: usize) -> u64 {
     run.compare(
         &[Input::Bytes("response", &response)],
         Memory::numbers(numbers),
-        |memory| u64::from(boundary::check_descriptors(response.proved(), memory.numbers.part())),
+        |memory| u64::from(raw::check_descriptors(response.proved(), memory.numbers.part())),
         |memory| {
             let (number, feature) = second::checks::check_descriptors(response.plain());
             memory.give(&[u64::from(feature.0)]);

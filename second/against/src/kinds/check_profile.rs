@@ -1,7 +1,6 @@
 //! gcf_check_profile.
 
 use super::READING;
-use crate::boundary;
 use crate::lent::{Given, Memory};
 use crate::made::damage::damage;
 use crate::made::faults::each_faulty_response;
@@ -11,6 +10,7 @@ use crate::made::responses::{
 use crate::made::sheets::E;
 use crate::random::Random;
 use crate::run::{Input, Kind, Run};
+use gcf::raw;
 use second::wire::Profile;
 
 pub const KIND: Kind = Kind { name: "gcf_check_profile", answers, fixed, random };
@@ -25,7 +25,9 @@ fn compare(run: &mut Run, profile: u16, response: &Given, numbers: usize) -> u64
     run.compare(
         &[Input::Number("profile", u64::from(profile)), Input::Bytes("response", response)],
         Memory::numbers(numbers),
-        |memory| u64::from(boundary::check_profile(profile, response.proved(), memory.numbers.part())),
+        |memory| {
+            u64::from(raw::check_profile(gcf::Profile(profile), response.proved(), memory.numbers.part()))
+        },
         |memory| {
             let (number, missing, feature) =
                 second::checks::check_profile(Profile(profile), response.plain()).fields();

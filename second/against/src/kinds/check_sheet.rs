@@ -1,7 +1,6 @@
 //! gcf_check_sheet.
 
 use super::SHEET;
-use crate::boundary;
 use crate::lent::{Given, Memory};
 use crate::made::damage::damage;
 use crate::made::faults::{each_last_fault, each_pair, good_sheet, sheet_faults, FLAG_FAULTS};
@@ -9,6 +8,7 @@ use crate::made::put16;
 use crate::made::sheets::{longest, profiles, random_sheet, sheet_of, short_sheets, E, LONGEST};
 use crate::random::Random;
 use crate::run::{told, Input, Kind, Run, Told};
+use gcf::raw;
 use second::wire::be16;
 
 pub const KIND: Kind = Kind { name: "gcf_check_sheet", answers: || SHEET.to_vec(), fixed, random };
@@ -19,7 +19,7 @@ fn compare(run: &mut Run, sheet: &[u8], numbers: usize) -> Told {
     run.compare_told(
         &[Input::Bytes("sheet", &sheet)],
         Memory::numbers(numbers),
-        |memory| boundary::check_sheet(sheet.proved(), memory.numbers.part()),
+        |memory| raw::check_sheet(sheet.proved(), memory.numbers.part()),
         |memory| {
             let told = told(&second::sheet::check(sheet.plain()));
             memory.give(&[told.1 as u64]);

@@ -1,6 +1,5 @@
 //! gcf_held.
 
-use crate::boundary;
 use crate::lent::{Given, Memory};
 use crate::made::damage::damage;
 use crate::made::faults::each_faulty_response;
@@ -9,6 +8,7 @@ use crate::made::sheets::{body, E};
 use crate::made::Part;
 use crate::random::Random;
 use crate::run::{Input, Kind, Run};
+use gcf::raw;
 use second::wire::Feature;
 
 /// It answers how many bytes it wrote.
@@ -24,7 +24,7 @@ fn compare(run: &mut Run, feature: u16, fresh: &Given, kept: &Given, room: usize
             Input::Number("room", room as u64),
         ],
         Memory::none().with_buffer(room),
-        |memory| boundary::held(feature, fresh.proved(), kept.proved(), memory.first.part()) as u64,
+        |memory| raw::held(gcf::Feature(feature), fresh.proved(), kept.proved(), memory.first.part()) as u64,
         |memory| {
             let found = second::find::find(Feature(feature), fresh.plain(), kept.plain());
             let room = memory.first.part();

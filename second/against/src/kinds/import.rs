@@ -1,7 +1,6 @@
 //! gcf_import.
 
 use super::READING;
-use crate::boundary;
 use crate::lent::{Given, Memory};
 use crate::made::captures::{
     capture_of, example, good_import, import_faults, long_bodies, no_bodies, put_current, random_capture,
@@ -14,6 +13,7 @@ use crate::made::sheets::{at_edges, body, in_a_row, profiles, random_sheet, shee
 use crate::made::{put16, Part};
 use crate::random::Random;
 use crate::run::{told, Input, Kind, Run, Told};
+use gcf::raw;
 use second::command::Request;
 use second::wire::Feature;
 
@@ -34,7 +34,7 @@ fn compare(run: &mut Run, response: &Given, room: usize, numbers: usize) -> Told
         Memory::numbers(numbers).with_buffer(room),
         |memory| {
             let (sheet, numbers) = (memory.first.part(), memory.numbers.part());
-            boundary::import(response.proved(), sheet, numbers)
+            raw::import(response.proved(), sheet, numbers)
         },
         |memory| {
             let made = second::import::import(response.plain(), memory.first.part());
@@ -115,7 +115,7 @@ fn each_two_faults(run: &mut Run) {
 fn proved_response(sheet: &[u8], room: usize) -> Vec<u8> {
     let command = Request { rt: 0, sfn: Feature(0), allocation: 65_535 }.bytes();
     let (mut response, mut numbers) = (vec![0xA5; room], [0]);
-    boundary::respond(sheet, &command, &mut response, &mut numbers);
+    raw::respond(sheet, &command, &mut response, &mut numbers);
     response.truncate(numbers[0] as usize);
     response
 }
@@ -123,7 +123,7 @@ fn proved_response(sheet: &[u8], room: usize) -> Vec<u8> {
 /// What the proved import makes, with room enough.
 fn proved_sheet(response: &[u8]) -> Vec<u8> {
     let (mut sheet, mut numbers) = (vec![0xA5; 2 * response.len() + 8], [0]);
-    boundary::import(response, &mut sheet, &mut numbers);
+    raw::import(response, &mut sheet, &mut numbers);
     sheet.truncate(numbers[0] as usize);
     sheet
 }
@@ -142,7 +142,7 @@ fn round_trip(run: &mut Run, sheet: &[u8]) {
 fn come_back(run: &mut Run, capture: &[u8]) {
     let sheet = proved_sheet(capture);
     let holds =
-        boundary::check_sheet(&sheet, &mut []) == 0 && proved_response(&sheet, capture.len() + 1) == capture;
+        raw::check_sheet(&sheet, &mut []) == 0 && proved_response(&sheet, capture.len() + 1) == capture;
     run.holds(holds, "a capture does not come back", &[Input::Bytes("capture", &Given::new(capture))]);
 }
 

@@ -1,7 +1,6 @@
 //! gcf_list.
 
 use super::READING;
-use crate::boundary;
 use crate::lent::{Given, Memory};
 use crate::made::damage::damage;
 use crate::made::faults::each_faulty_response;
@@ -10,6 +9,7 @@ use crate::made::sheets::E;
 use crate::made::Part;
 use crate::random::Random;
 use crate::run::{Input, Kind, Run};
+use gcf::raw;
 use second::wire::Feature;
 
 /// The longest listing: a line of 15 bytes, one for each of 16,381 descriptors, and the last.
@@ -25,7 +25,7 @@ fn compare(run: &mut Run, response: &Given, room: usize) -> u64 {
     run.compare_uncounted(
         &[Input::Bytes("response", response), Input::Number("room", room as u64)],
         Memory::none().with_buffer(room),
-        |memory| boundary::list(response.proved(), memory.first.part()) as u64,
+        |memory| raw::list(response.proved(), memory.first.part()) as u64,
         |memory| {
             let text = second::lister::list(response.plain());
             let room = memory.first.part();

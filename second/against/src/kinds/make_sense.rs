@@ -1,9 +1,9 @@
 //! gcf_make_sense.
 
-use crate::boundary;
 use crate::lent::Memory;
 use crate::random::Random;
 use crate::run::{Input, Kind, Run};
+use gcf::raw;
 
 pub const KIND: Kind = Kind { name: "gcf_make_sense", answers, fixed, random };
 
@@ -21,7 +21,7 @@ fn compare(run: &mut Run, number: u8, room: usize, numbers: usize) -> u64 {
         Memory::numbers(numbers).with_buffer(room),
         |memory| {
             let (sense, numbers) = (memory.first.part(), memory.numbers.part());
-            u64::from(boundary::make_sense(number, sense, numbers))
+            u64::from(raw::make_sense(number, sense, numbers))
         },
         |memory| {
             let made = second::sense::make(number, memory.first.part());
@@ -50,7 +50,7 @@ fn fixed(run: &mut Run) {
 /// What the proved maker makes, its reader takes for the kind of that number.
 fn come_back(run: &mut Run, number: u8) {
     let (mut sense, mut kind) = ([0xA5; 18], [0]);
-    if boundary::make_sense(number, &mut sense, &mut []) != 0 {
+    if raw::make_sense(number, &mut sense, &mut []) != 0 {
         return;
     }
     let wanted = match number {
@@ -59,7 +59,7 @@ fn come_back(run: &mut Run, number: u8) {
         11 => 3,
         _ => 4,
     };
-    let holds = boundary::read_sense(&sense, &mut kind) == 0 && kind == [wanted];
+    let holds = raw::read_sense(&sense, &mut kind) == 0 && kind == [wanted];
     run.holds(holds, "a kind does not come back", &[Input::Number("number", u64::from(number))]);
 }
 

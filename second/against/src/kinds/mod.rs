@@ -1,5 +1,5 @@
 //! One file for each function of the archive: how the two sides are called, and on what.
-//! A further function takes a wrapper in boundary.rs, a file here, and its line in `KINDS`.
+//! A further function takes a wrapper in bindings/rust/src/raw.rs, a file here, and its line in `KINDS`.
 
 mod bench;
 mod check_descriptors;
@@ -19,7 +19,9 @@ mod sweep_start;
 mod sweep_take;
 
 use crate::run::Kind;
+use gcf::raw;
 use second::sweep::Record;
+use second::wire::{Feature, Profile};
 
 /// Every function.
 pub const KINDS: &[Kind] = &[
@@ -52,6 +54,34 @@ fn fields(record: Record, place: u16) -> [u64; 8] {
         u64::from(record.profile.0),
         u64::from(place),
     ]
+}
+
+/// A record as the proved side takes it.
+fn handed(record: Record) -> raw::Sweep {
+    raw::Sweep {
+        rt: record.rt,
+        allocation: record.allocation,
+        next: gcf::Feature(record.next.0),
+        commands: record.commands,
+        collected: record.collected,
+        ended: record.ended,
+        profile: gcf::Profile(record.profile.0),
+    }
+}
+
+/// What the proved side gives of a sweep, as the same numbers.
+fn proved(step: raw::Step) -> [u64; 8] {
+    let sweep = step.sweep;
+    let record = Record {
+        rt: sweep.rt,
+        allocation: sweep.allocation,
+        next: Feature(sweep.next.0),
+        commands: sweep.commands,
+        collected: sweep.collected,
+        ended: sweep.ended,
+        profile: Profile(sweep.profile.0),
+    };
+    fields(record, step.refusal.place)
 }
 
 /// The answers of a sheet's check.

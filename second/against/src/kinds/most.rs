@@ -1,9 +1,9 @@
 //! gcf_most.
 
-use crate::boundary;
 use crate::lent::Memory;
 use crate::random::Random;
 use crate::run::{Input, Kind, Run};
+use gcf::raw;
 
 /// It answers a length.
 pub const KIND: Kind = Kind { name: "gcf_most", answers: || (0..=65_534).collect(), fixed, random };
@@ -13,7 +13,7 @@ fn compare(run: &mut Run, allocation: u16) {
     run.compare(
         &[Input::Number("allocation", u64::from(allocation))],
         Memory::none(),
-        |_| boundary::most(allocation) as u64,
+        |_| raw::most(allocation) as u64,
         |_| second::command::most_bytes(allocation) as u64,
     );
 }

@@ -1,6 +1,5 @@
 //! gcf_read.
 
-use crate::boundary;
 use crate::lent::{Given, Memory};
 use crate::made::damage::damage;
 use crate::made::faults::{each_pair, good_reading, reading_faults};
@@ -8,6 +7,7 @@ use crate::made::responses::{each_short, long_responses, random_response, sent};
 use crate::made::sheets::{short_sheets, starts_for};
 use crate::random::Random;
 use crate::run::{Input, Kind, Run};
+use gcf::raw;
 use second::wire::Feature;
 
 pub const KIND: Kind =
@@ -22,7 +22,7 @@ fn compare(run: &mut Run, rt: u8, sfn: u16, response: &Given, numbers: usize) ->
             Input::Bytes("response", response),
         ],
         Memory::numbers(numbers),
-        |memory| u64::from(boundary::read(rt, sfn, response.proved(), memory.numbers.part())),
+        |memory| u64::from(raw::read(rt, gcf::Feature(sfn), response.proved(), memory.numbers.part())),
         |memory| {
             let reading = second::reading::read(rt, Feature(sfn), response.plain(), None);
             memory.give(&[

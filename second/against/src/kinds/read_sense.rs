@@ -1,10 +1,10 @@
 //! gcf_read_sense.
 
-use crate::boundary;
 use crate::lent::{Given, Memory};
 use crate::made::damage::damage;
 use crate::random::Random;
 use crate::run::{Input, Kind, Run};
+use gcf::raw;
 use second::sense;
 
 pub const KIND: Kind = Kind { name: "gcf_read_sense", answers, fixed, random };
@@ -29,7 +29,7 @@ fn compare(run: &mut Run, bytes: &[u8], numbers: usize) -> u64 {
     run.compare(
         &[Input::Bytes("sense", &given)],
         Memory::numbers(numbers),
-        |memory| u64::from(boundary::read_sense(given.proved(), memory.numbers.part())),
+        |memory| u64::from(raw::read_sense(given.proved(), memory.numbers.part())),
         |memory| {
             let read = sense::read(given.plain());
             memory.give(&[read.map_or(0, |kind| kind as u64 + 1)]);

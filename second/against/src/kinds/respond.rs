@@ -1,9 +1,9 @@
 //! gcf_respond.
 
 use super::{commands, SHEET};
-use crate::boundary;
 use crate::lent::{Given, Memory};
 use crate::run::{told, Input, Kind, Run, Told};
+use gcf::raw;
 
 pub const KIND: Kind = Kind {
     name: "gcf_respond",
@@ -24,7 +24,7 @@ fn compare(run: &mut Run, sheet: &Given, command: &[u8], room: usize, numbers: u
         Memory::numbers(numbers).with_buffer(room),
         |memory| {
             let (response, numbers) = (memory.first.part(), memory.numbers.part());
-            boundary::respond(sheet.proved(), command.proved(), response, numbers)
+            raw::respond(sheet.proved(), command.proved(), response, numbers)
         },
         |memory| {
             let sent = second::command::respond(sheet.plain(), command.plain(), memory.first.part());

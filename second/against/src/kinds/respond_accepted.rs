@@ -1,9 +1,9 @@
 //! gcf_respond_accepted.
 
 use super::commands;
-use crate::boundary;
 use crate::lent::{Given, Memory};
 use crate::run::{Input, Kind, Run, Told};
+use gcf::raw;
 use second::sheet::Sheet;
 
 pub const KIND: Kind = Kind {
@@ -21,7 +21,7 @@ fn compare(run: &mut Run, sheet: &Given, command: &[u8], room: usize, numbers: u
     let memory = Memory::numbers(numbers).with_buffer(room);
     let proved = |memory: &mut Memory| {
         let (response, numbers) = (memory.first.part(), memory.numbers.part());
-        boundary::respond_accepted(sheet.proved(), command.proved(), response, numbers)
+        raw::respond_accepted(sheet.proved(), command.proved(), response, numbers)
     };
     if let Err(refusal) = second::sheet::check(sheet.plain()) {
         run.only_returns(&inputs, memory, 1, proved);

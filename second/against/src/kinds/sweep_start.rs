@@ -1,10 +1,10 @@
 //! gcf_sweep_start.
 
-use super::fields;
-use crate::boundary;
+use super::{fields, proved};
 use crate::lent::Memory;
 use crate::random::Random;
 use crate::run::{Input, Kind, Run};
+use gcf::raw;
 use second::sweep::Record;
 
 pub const KIND: Kind = Kind { name: "gcf_sweep_start", answers: || vec![0, 21, 22], fixed, random };
@@ -15,9 +15,9 @@ fn compare(run: &mut Run, rt: u8, allocation: u16) -> u64 {
         &[Input::Number("rt", u64::from(rt)), Input::Number("allocation", u64::from(allocation))],
         Memory::numbers(8),
         |memory| {
-            let (number, place, record) = boundary::sweep_start(rt, allocation);
-            memory.give(&fields(record, place));
-            u64::from(number)
+            let step = raw::sweep_start(rt, allocation);
+            memory.give(&proved(step));
+            u64::from(step.refusal.number)
         },
         |memory| {
             let (number, record) = Record::start(rt, allocation);

@@ -1,7 +1,6 @@
 //! gcf_sweep_take.
 
-use super::fields;
-use crate::boundary;
+use super::{fields, handed, proved};
 use crate::lent::{Given, Memory};
 use crate::made::damage::damage;
 use crate::made::faults::{each_faulty_response, each_pair, fault, Fault};
@@ -12,6 +11,7 @@ use crate::made::sheets::{body, short_sheets};
 use crate::made::{put16, put32, Part};
 use crate::random::Random;
 use crate::run::{Input, Kind, Run};
+use gcf::raw;
 use second::command::most_bytes;
 use second::sweep::Record;
 use second::wire::{Feature, Profile};
@@ -41,9 +41,9 @@ fn compare(run: &mut Run, record: Record, response: &Given, room: usize) -> (u64
         ],
         Memory::numbers(8).with_buffer(room),
         |memory| {
-            let (number, place, next) = boundary::sweep_take(record, response.proved(), memory.first.part());
-            memory.give(&fields(next, place));
-            u64::from(number)
+            let step = raw::sweep_take(handed(record), response.proved(), memory.first.part());
+            memory.give(&proved(step));
+            u64::from(step.refusal.number)
         },
         |memory| {
             let (number, next) = record.take(response.plain(), memory.first.part());

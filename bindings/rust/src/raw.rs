@@ -1,45 +1,45 @@
-//! The proved functions as the archive exports them (include/gcf.h). All unsafe code of this package is here.
+//! The exported functions as `include/gcf.h` declares them, over slices: a number comes out, and further results go to the front of
+//! `numbers`, as far as it has room; the two of a sweep take its record and give a step. All unsafe code of this crate is here. The functions of the crate's root are easier to use.
 //!
-//! Every wrapper hands over slices, each as its pointer and its count of elements. A slice's pointer is never null,
-//! and a slice that is written overlaps no other, which is all that the functions ask of a caller.
+//! Every wrapper hands over slices, each as its pointer and its count of elements. A slice's pointer is never null and is aligned, and a
+//! slice that is written overlaps no other, which is all that the functions ask of a caller.
 
-use second::sweep::Record;
-use second::wire;
+use crate::{Feature, Profile};
 
-/// A feature number as the functions take it: gcf_feature.
+/// A sweep's record: `struct gcf_sweep`. Any record may be handed in.
 #[repr(C)]
-struct Feature(u16);
-
-/// A profile number as the functions take it: gcf_profile.
-#[repr(C)]
-struct Profile(u16);
-
-/// A sweep's record as the functions take it: struct gcf_sweep.
-#[repr(C)]
-struct Sweep {
-    rt: u8,
-    allocation: u16,
-    next: Feature,
-    commands: u32,
-    collected: usize,
-    ended: bool,
-    profile: Profile,
+#[derive(Clone, Copy, Debug, PartialEq, Eq)]
+pub struct Sweep {
+    pub rt: u8,
+    pub allocation: u16,
+    /// The Starting Feature Number to ask for.
+    pub next: Feature,
+    /// Responses accepted so far.
+    pub commands: u32,
+    /// Bytes collected so far.
+    pub collected: usize,
+    pub ended: bool,
+    /// The Current Profile of the first accepted response, 0 before it.
+    pub profile: Profile,
 }
 
-/// A refusal as the functions give it: struct gcf_refusal.
+/// A number, and the place of a line of a drive sheet; in a sweep the place is 0: `struct gcf_refusal`.
 #[repr(C)]
-struct Refusal {
-    number: u8,
-    place: u16,
+#[derive(Clone, Copy, Debug, PartialEq, Eq)]
+pub struct Refusal {
+    pub number: u8,
+    pub place: u16,
 }
 
-/// What a start or a response gives: struct gcf_step.
+/// What a start, or a response, gives: the number, and the record from then on: `struct gcf_step`.
 #[repr(C)]
-struct Step {
-    refusal: Refusal,
-    sweep: Sweep,
+#[derive(Clone, Copy, Debug, PartialEq, Eq)]
+pub struct Step {
+    pub refusal: Refusal,
+    pub sweep: Sweep,
 }
 
+#[link(name = "gcf", kind = "static")]
 extern "C" {
     fn gcf_check_sheet(sheet: *const u8, sheet_len: usize, numbers: *mut u64, numbers_len: usize) -> u8;
     fn gcf_respond(
@@ -172,17 +172,15 @@ pub fn respond_accepted(sheet: &[u8], command: &[u8], response: &mut [u8], numbe
 }
 
 /// Reads a response; the numbers are: profile, Data Length, whole descriptors, place behind the last, complete.
-pub fn read(rt: u8, sfn: u16, response: &[u8], numbers: &mut [u64]) -> u8 {
-    unsafe {
-        gcf_read(rt, Feature(sfn), response.as_ptr(), response.len(), numbers.as_mut_ptr(), numbers.len())
-    }
+pub fn read(rt: u8, sfn: Feature, response: &[u8], numbers: &mut [u64]) -> u8 {
+    unsafe { gcf_read(rt, sfn, response.as_ptr(), response.len(), numbers.as_mut_ptr(), numbers.len()) }
 }
 
 /// Copies a feature's descriptor from the fresh response, else from the kept one; gives how many bytes it wrote.
-pub fn held(feature: u16, fresh: &[u8], kept: &[u8], descriptor: &mut [u8]) -> usize {
+pub fn held(feature: Feature, fresh: &[u8], kept: &[u8], descriptor: &mut [u8]) -> usize {
     unsafe {
         gcf_held(
-            Feature(feature),
+            feature,
             fresh.as_ptr(),
             fresh.len(),
             kept.as_ptr(),
@@ -203,41 +201,16 @@ pub fn most(allocation: u16) -> usize {
     unsafe { gcf_most(allocation) }
 }
 
-/// Starts a sweep; gives the number, the place and the record.
-pub fn sweep_start(rt: u8, allocation: u16) -> (u8, u16, Record) {
-    let step = unsafe { gcf_sweep_start(rt, allocation) };
-    given(step)
+/// Starts a sweep; gives the number and the record.
+pub fn sweep_start(rt: u8, allocation: u16) -> Step {
+    unsafe { gcf_sweep_start(rt, allocation) }
 }
 
-/// Takes one response; gives the number, the place and the next record.
-pub fn sweep_take(record: Record, response: &[u8], collecting: &mut [u8]) -> (u8, u16, Record) {
-    let sweep = Sweep {
-        rt: record.rt,
-        allocation: record.allocation,
-        next: Feature(record.next.0),
-        commands: record.commands,
-        collected: record.collected,
-        ended: record.ended,
-        profile: Profile(record.profile.0),
-    };
-    let step = unsafe {
+/// Takes one response; gives the number and the next record.
+pub fn sweep_take(sweep: Sweep, response: &[u8], collecting: &mut [u8]) -> Step {
+    unsafe {
         gcf_sweep_take(sweep, response.as_ptr(), response.len(), collecting.as_mut_ptr(), collecting.len())
-    };
-    given(step)
-}
-
-/// What a step gives.
-fn given(step: Step) -> (u8, u16, Record) {
-    let record = Record {
-        rt: step.sweep.rt,
-        allocation: step.sweep.allocation,
-        next: wire::Feature(step.sweep.next.0),
-        commands: step.sweep.commands,
-        collected: step.sweep.collected,
-        ended: step.sweep.ended,
-        profile: wire::Profile(step.sweep.profile.0),
-    };
-    (step.refusal.number, step.refusal.place, record)
+    }
 }
 
 /// Sweeps a sheet; the numbers are: commands, bytes collected, place.
@@ -274,15 +247,9 @@ pub fn check_descriptors(response: &[u8], numbers: &mut [u64]) -> u8 {
 }
 
 /// Checks a profile's features; the numbers are: whether one is missing, and which.
-pub fn check_profile(profile: u16, response: &[u8], numbers: &mut [u64]) -> u8 {
+pub fn check_profile(profile: Profile, response: &[u8], numbers: &mut [u64]) -> u8 {
     unsafe {
-        gcf_check_profile(
-            Profile(profile),
-            response.as_ptr(),
-            response.len(),
-            numbers.as_mut_ptr(),
-            numbers.len(),
-        )
+        gcf_check_profile(profile, response.as_ptr(), response.len(), numbers.as_mut_ptr(), numbers.len())
     }
 }
 

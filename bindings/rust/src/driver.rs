@@ -1,0 +1,229 @@
+//! The driver: reading a response, sweeping a drive, checking what it says.
+
+use crate::{accepted, raw, Feature, Number, Profile, DESCRIPTOR_MOST};
+
+/// The Requested Type of a command.
+#[derive(Clone, Copy, Debug, PartialEq, Eq, Hash)]
+#[repr(u8)]
+pub enum Rt {
+    /// All features from the start on.
+    All = 0,
+    /// Of these the current ones.
+    Current = 1,
+    /// The one feature that is named.
+    One = 2,
+}
+
+/// What a response holds.
+#[derive(Clone, Copy, Debug, PartialEq, Eq)]
+pub struct Reading<'a> {
+    /// The Current Profile, 0 if there is none.
+    pub profile: Profile,
+    /// Data Length, as the header states it.
+    pub data_length: u32,
+    /// How many descriptors were received whole.
+    pub count: usize,
+    /// Their bytes, a part of the response.
+    pub descriptors: &'a [u8],
+    /// Whether the response is complete; else it is cut.
+    pub complete: bool,
+}
+
+/// Reads a response to Requested Type `rt` from feature `sfn` on: `gcf_read`. Hand over exactly the bytes received.
+///
+/// ```
+/// use gcf::{Feature, Number, Profile, Rt};
+///
+/// let response = [0, 0, 0, 8, 0, 0, 0, 0x12, 1, 5, 3, 0];
+/// let reading = gcf::read(Rt::All, Feature(0x0105), &response).unwrap();
+/// assert_eq!((reading.profile, reading.count, reading.complete), (Profile(0x0012), 1, true));
+/// assert_eq!(reading.descriptors, [1, 5, 3, 0]);
+/// assert_eq!(gcf::read(Rt::All, Feature(0), &response[..7]), Err(Number::ReceivedBad));
+/// ```
+pub fn read(rt: Rt, sfn: Feature, response: &[u8]) -> Result<Reading<'_>, Number> {
+    let mut numbers = [0; 5];
+    accepted(raw::read(rt as u8, sfn, response, &mut numbers))?;
+    Ok(Reading {
+        profile: Profile(numbers[0] as u16),
+        data_length: numbers[1] as u32,
+        count: numbers[2] as usize,
+        descriptors: &response[8..numbers[3] as usize],
+        complete: numbers[4] != 0,
+    })
+}
+
+/// A feature's descriptor out of the fresh response if it is whole there, else out of the kept one: `gcf_held`. Both are responses to RT 0
+/// from 0; one that is refused, and so an empty one, holds nothing.
+///
+/// ```
+/// let response = [0, 0, 0, 8, 0, 0, 0, 0x12, 1, 5, 3, 0];
+/// let mut descriptor = [0; gcf::DESCRIPTOR_MOST];
+/// assert_eq!(gcf::held(gcf::Feature(0x0105), &[], &response, &mut descriptor), Some(&[1, 5, 3, 0][..]));
+/// assert_eq!(gcf::held(gcf::Feature(0x0107), &[], &response, &mut descriptor), None);
+/// ```
+pub fn held<'b>(
+    feature: Feature,
+    fresh: &[u8],
+    kept: &[u8],
+    descriptor: &'b mut [u8; DESCRIPTOR_MOST],
+) -> Option<&'b [u8]> {
+    let count = raw::held(feature, fresh, kept, descriptor);
+    Some(&descriptor[..count]).filter(|_| count > 0)
+}
+
+/// The listing of a response to RT 0 from 0: `gcf_list`. Gives what was written, the front of the buffer; it stops at the buffer's end, and
+/// [`LISTING_MOST`](crate::LISTING_MOST) bytes are always enough.
+///
+/// ```
+/// let mut text = [0; 80];
+/// assert_eq!(gcf::list(&[0, 0, 0, 4, 0, 0, 0, 0], &mut text), b"0000 8 0\n");
+/// assert_eq!(gcf::list(&[], &mut text), b"refused 14\n");
+/// ```
+pub fn list<'b>(response: &[u8], text: &'b mut [u8]) -> &'b [u8] {
+    let count = raw::list(response, text);
+    &text[..count]
+}
+
+/// A sweep: collects all features of a drive, or all current ones, with as many commands as it takes. The crate's first page has one.
+#[derive(Clone, Copy, Debug, PartialEq, Eq)]
+pub struct Sweep(raw::Sweep);
+
+impl Sweep {
+    /// Starts a sweep: `gcf_sweep_start`.
+    ///
+    /// ```
+    /// use gcf::{Number, Rt, Sweep};
+    ///
+    /// assert_eq!(Sweep::start(Rt::Current, 20).unwrap().command(), [0x46, 1, 0, 0, 0, 0, 0, 0, 20, 0]);
+    /// assert_eq!(Sweep::start(Rt::One, 20), Err(Number::SweepRtBad));
+    /// assert_eq!(Sweep::start(Rt::All, 7), Err(Number::AllocationShort));
+    /// ```
+    pub fn start(rt: Rt, allocation: u16) -> Result<Sweep, Number> {
+        let step = raw::sweep_start(rt as u8, allocation);
+        accepted(step.refusal.number).map(|()| Sweep(step.sweep))
+    }
+
+    /// The command to send next, while the sweep has not ended. Receive at most [`most`](crate::most) bytes.
+    pub fn command(&self) -> [u8; 10] {
+        let ([sfn_high, sfn_low], [high, low]) =
+            (self.0.next.0.to_be_bytes(), self.0.allocation.to_be_bytes());
+        [0x46, self.0.rt, sfn_high, sfn_low, 0, 0, 0, high, low, 0]
+    }
+
+    /// Takes the response to that command, exactly the bytes received: `gcf_sweep_take`. The whole descriptors are added to the
+    /// collecting buffer; a refusal changes nothing but, where the manual says so, the mark that the sweep has ended.
+    ///
+    /// ```
+    /// use gcf::{Number, Rt, Sweep};
+    ///
+    /// let mut sweep = Sweep::start(Rt::All, 12).unwrap();
+    /// let mut collecting = [0; 8];
+    /// assert_eq!(sweep.take(&[0, 0, 0, 2, 0, 0, 0, 0], &mut collecting), Err(Number::StatedBad));
+    /// assert!(!sweep.ended());
+    /// assert_eq!(sweep.take(&[0, 0, 0, 8, 0, 0, 0, 0, 0, 5, 1, 0], &mut collecting), Ok(()));
+    /// assert_eq!((sweep.ended(), sweep.collected(), collecting), (true, 4, [0, 5, 1, 0, 0, 0, 0, 0]));
+    /// ```
+    pub fn take(&mut self, response: &[u8], collecting: &mut [u8]) -> Result<(), Number> {
+        let step = raw::sweep_take(self.0, response, collecting);
+        self.0 = step.sweep;
+        accepted(step.refusal.number)
+    }
+
+    /// Whether the sweep has ended.
+    pub fn ended(&self) -> bool {
+        self.0.ended
+    }
+
+    /// How many responses were accepted.
+    pub fn commands(&self) -> u32 {
+        self.0.commands
+    }
+
+    /// How many bytes of the collecting buffer are descriptors.
+    pub fn collected(&self) -> usize {
+        self.0.collected
+    }
+
+    /// The feature number that the next command starts at.
+    pub fn next(&self) -> Feature {
+        self.0.next
+    }
+
+    /// The Current Profile of the first accepted response, 0 before it. A response with another one is refused and ends the sweep.
+    ///
+    /// ```
+    /// use gcf::{Number, Profile, Rt, Sweep};
+    ///
+    /// let mut sweep = Sweep::start(Rt::All, 12).unwrap();
+    /// let mut collecting = [0; 8];
+    /// sweep.take(&[0, 0, 0, 12, 0, 0, 0, 0x12, 0, 5, 1, 0], &mut collecting).unwrap();
+    /// assert_eq!(sweep.profile(), Profile(0x0012));
+    /// assert_eq!(sweep.take(&[0, 0, 0, 8, 0, 0, 0, 0, 0, 7, 1, 0], &mut collecting), Err(Number::ProfileChanged));
+    /// assert!(sweep.ended());
+    /// ```
+    pub fn profile(&self) -> Profile {
+        self.0.profile
+    }
+}
+
+/// What the check of a response's descriptors finds.
+#[derive(Clone, Copy, Debug, PartialEq, Eq, Hash)]
+pub enum Finding {
+    /// No fault.
+    Faultless,
+    /// The first fault, 30 to 39, and the feature at fault.
+    Fault(Number, Feature),
+    /// The response could not be read, or is cut.
+    Refused(Number),
+}
+
+/// Checks the descriptors of a complete response to RT 0 from 0: `gcf_check_descriptors`.
+///
+/// ```
+/// use gcf::{Feature, Finding, Number};
+///
+/// let response = [0, 0, 0, 16, 0, 0, 0, 0, 0, 0, 3, 0, 0, 1, 3, 4, 0, 0, 0, 2];
+/// assert_eq!(gcf::check_descriptors(&response), Finding::Faultless);
+/// assert_eq!(gcf::check_descriptors(&[0, 0, 0, 8, 0, 0, 0, 0, 0, 0, 3, 0]), Finding::Fault(Number::CoreMissing, Feature(1)));
+/// assert_eq!(gcf::check_descriptors(&response[..12]), Finding::Refused(Number::ResponseCut));
+/// ```
+pub fn check_descriptors(response: &[u8]) -> Finding {
+    let mut numbers = [0];
+    match Number::of(raw::check_descriptors(response, &mut numbers)) {
+        None => Finding::Faultless,
+        Some(number) if (30..=39).contains(&number.number()) => {
+            Finding::Fault(number, Feature(numbers[0] as u16))
+        }
+        Some(number) => Finding::Refused(number),
+    }
+}
+
+/// Whether a response has what a profile requires.
+#[derive(Clone, Copy, Debug, PartialEq, Eq, Hash)]
+pub enum Judgement {
+    /// Every feature that the profile requires.
+    Conforms,
+    /// The lowest feature that is missing.
+    Missing(Feature),
+    /// The response could not be read or is cut, or the profile has no table.
+    Refused(Number),
+}
+
+/// Whether a complete response to RT 0 from 0 has what a profile requires: `gcf_check_profile`.
+///
+/// ```
+/// use gcf::{Feature, Judgement, Number, Profile};
+///
+/// let response = [0, 0, 0, 16, 0, 0, 0, 0, 0, 0, 3, 0, 0, 1, 3, 4, 0, 0, 0, 2];
+/// assert_eq!(gcf::check_profile(Profile(0xFFFF), &response), Judgement::Conforms);
+/// assert_eq!(gcf::check_profile(Profile(0x0012), &response), Judgement::Missing(Feature(2)));
+/// assert_eq!(gcf::check_profile(Profile(0x0010), &response), Judgement::Refused(Number::NoTable));
+/// ```
+pub fn check_profile(profile: Profile, response: &[u8]) -> Judgement {
+    let mut numbers = [0; 2];
+    match (accepted(raw::check_profile(profile, response, &mut numbers)), numbers[0]) {
+        (Err(number), _) => Judgement::Refused(number),
+        (Ok(()), 0) => Judgement::Conforms,
+        (Ok(()), _) => Judgement::Missing(Feature(numbers[1] as u16)),
+    }
+}

@@ -1,0 +1,50 @@
+//! Sense data.
+
+use crate::{accepted, raw, Number, SENSE_BYTES};
+
+/// What sense data says of a command: `enum gcf_kind`.
+#[derive(Clone, Copy, Debug, PartialEq, Eq, Hash)]
+pub enum Kind {
+    /// The command was accepted.
+    Nothing = 1,
+    /// It is no GET CONFIGURATION of 10 bytes.
+    Operation = 2,
+    /// RT 3.
+    Field = 3,
+    /// The box's own trouble: its sheet, or its response buffer.
+    Trouble = 4,
+}
+
+/// Makes sense data for what the last command was refused with, or for none: `gcf_make_sense`. Refused is a number that no command gives.
+///
+/// ```
+/// use gcf::{Kind, Number};
+///
+/// let sense = gcf::make_sense(Some(Number::RtReserved)).unwrap();
+/// assert_eq!((sense[2], sense[12], &sense[15..]), (5, 0x24, &[0xC9, 0, 1][..]));
+/// assert_eq!(gcf::read_sense(&sense), Ok(Kind::Field));
+/// assert_eq!(gcf::make_sense(Some(Number::NoTable)), Err(Number::NotGiven));
+/// ```
+pub fn make_sense(last: Option<Number>) -> Result<[u8; SENSE_BYTES], Number> {
+    let mut sense = [0; SENSE_BYTES];
+    accepted(raw::make_sense(last.map_or(0, Number::number), &mut sense, &mut []))?;
+    Ok(sense)
+}
+
+/// What received sense data means: `gcf_read_sense`.
+///
+/// ```
+/// let sense = gcf::make_sense(None).unwrap();
+/// assert_eq!(gcf::read_sense(&sense), Ok(gcf::Kind::Nothing));
+/// assert_eq!(gcf::read_sense(&sense[..17]), Err(gcf::Number::SenseLength));
+/// ```
+pub fn read_sense(sense: &[u8]) -> Result<Kind, Number> {
+    let mut numbers = [0];
+    accepted(raw::read_sense(sense, &mut numbers))?;
+    Ok(match numbers[0] {
+        1 => Kind::Nothing,
+        2 => Kind::Operation,
+        3 => Kind::Field,
+        _ => Kind::Trouble,
+    })
+}

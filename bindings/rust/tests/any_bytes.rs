@@ -1,0 +1,111 @@
+//! Any bytes may be handed in: each function gives what its raw one gives, and none panics.
+
+use gcf::*;
+
+/// The example's response to RT 0 from 0.
+const RESPONSE: [u8; 44] = [
+    0, 0, 0, 40, 0, 0, 0, 0x12, 0, 0, 3, 8, 0, 0x12, 1, 0, 0, 0x10, 0, 0, 0, 1, 3, 4, 0, 0, 0, 2, 0, 3, 3, 4,
+    0x29, 0, 0, 0, 0, 0x1F, 1, 0, 1, 5, 3, 0,
+];
+
+/// Numbers that look like chance and are the same in every run.
+struct Made(u64);
+
+impl Made {
+    fn below(&mut self, limit: usize) -> usize {
+        self.0 ^= self.0 << 13;
+        self.0 ^= self.0 >> 7;
+        self.0 ^= self.0 << 17;
+        (self.0 >> 8) as usize % limit
+    }
+
+    /// The bytes, cut somewhere or not, with up to three of them changed.
+    fn spoilt(&mut self, bytes: &[u8]) -> Vec<u8> {
+        let mut spoilt = bytes.to_vec();
+        if self.below(3) == 0 {
+            spoilt.truncate(self.below(bytes.len() + 1));
+        }
+        for _ in 0..self.below(4).min(spoilt.len()) {
+            let at = self.below(spoilt.len());
+            spoilt[at] = [0, 1, 3, 4, 0x12, self.below(256) as u8][self.below(6)];
+        }
+        spoilt
+    }
+}
+
+fn number<T>(result: Result<T, Number>) -> u8 {
+    result.err().map_or(0, Number::number)
+}
+
+fn refused<T>(result: Result<T, Refused>) -> u8 {
+    number(result.map_err(|refused| refused.number))
+}
+
+#[test]
+fn the_box() {
+    let made = &mut Made(1);
+    for _ in 0..20_000 {
+        let (sheet, command) = (made.spoilt(&SHEET_E), made.spoilt(&[0x46, 0, 0, 0, 0, 0, 0, 0, 44, 0]));
+        let (room, allocation) = (made.below(60), made.below(50) as u16);
+        let mut buffers = ([0; 60], [0; 60], [0; 9]);
+        assert_eq!(refused(Sheet::check(&sheet)), raw::check_sheet(&sheet, &mut []));
+        let number = raw::respond(&sheet, &command, &mut buffers.0[..room], &mut []);
+        assert_eq!(refused(respond(&sheet, &command, &mut buffers.0[..room])), number);
+        if let Ok(sheet) = Sheet::check(&sheet) {
+            assert_eq!(sheet.respond(&command, &mut buffers.0[..room]).is_err(), number != 0);
+        }
+        let number =
+            raw::bench(&sheet, 1, allocation, &mut buffers.0, &mut buffers.1, &mut buffers.2, &mut []);
+        let swept = bench(&sheet, Rt::Current, allocation, &mut buffers.0, &mut buffers.1, &mut buffers.2);
+        assert_eq!(refused(swept), number);
+    }
+}
+
+#[test]
+fn the_driver() {
+    let made = &mut Made(2);
+    for _ in 0..20_000 {
+        let response = made.spoilt(&RESPONSE);
+        let (mut text, mut descriptor, mut sheet) = ([0; 99], [0; DESCRIPTOR_MOST], [0; 60]);
+        for (rt, code) in [(Rt::All, 0), (Rt::Current, 1), (Rt::One, 2)] {
+            assert_eq!(
+                number(read(rt, Feature(0), &response)),
+                raw::read(code, Feature(0), &response, &mut [])
+            );
+        }
+        let room = made.below(100);
+        list(&response, &mut text[..room]);
+        held(Feature(made.below(6) as u16), &response, &RESPONSE, &mut descriptor);
+        let found = match check_descriptors(&response) {
+            Finding::Faultless => 0,
+            Finding::Fault(number, _) | Finding::Refused(number) => number.number(),
+        };
+        assert_eq!(found, raw::check_descriptors(&response, &mut []));
+        let judged = match check_profile(Profile(0x0012), &response) {
+            Judgement::Conforms | Judgement::Missing(_) => 0,
+            Judgement::Refused(number) => number.number(),
+        };
+        assert_eq!(judged, raw::check_profile(Profile(0x0012), &response, &mut []));
+        assert_eq!(refused(import(&response, &mut sheet)), raw::import(&response, &mut [0; 60], &mut []));
+        read_sense(&response[..response.len().min(18)]).ok();
+    }
+}
+
+#[test]
+fn sweeps() {
+    let made = &mut Made(3);
+    for _ in 0..20_000 {
+        let mut collecting = [0; 60];
+        let room = made.below(61);
+        let mut sweep = match Sweep::start(Rt::All, 20) {
+            Ok(sweep) => sweep,
+            Err(number) => panic!("refused {number}"),
+        };
+        for _ in 0..9 {
+            let mut response = [0; 20];
+            let sent = respond(&SHEET_E, &sweep.command(), &mut response).map_or(0, <[u8]>::len);
+            let _ = sweep.take(&made.spoilt(&response[..sent]), &mut collecting[..room]);
+            assert!(sweep.collected() <= room);
+        }
+    }
+}
