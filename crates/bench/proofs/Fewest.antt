@@ -247,12 +247,12 @@ module _ {m : Drive} (good : Sound m) (rt a : ℕ) (two : rt < 2) (eight : 8 ≤
       least (room a) (length starts) starts [] wanted (omega arith) (selected-asc good rt 0) s wanted-some
       (all-map (ReceivedBy m rt a starts) _ (λ d r. some-map _ _ (λ t q. by (λ (xs : List Desc). Some (λ (e : Desc). d ≡ e) xs) q (sym (received-kept t))) starts r) wanted c)
 
-  -- a wanted descriptor that is too long is in no list's responses
-  pub too-long : Some (λ (d : Desc). room a < size d) wanted → (starts : List ℕ) → ReceivesAll m rt a starts → ⊥
-  too-long l starts c =
-      meet (ReceivedBy m rt a starts) (λ (d : Desc). room a < size d)
-      (λ d r k. some-none _ (λ t q. meet (Fits (room a)) (λ (e : Desc). d ≡ e) (λ e f w. absurd (omega (arith, ap size w))) (receivedFrom m rt a t) (by (All (Fits (room a))) (whole-fits (room a) (selected rt t m)) (received-fits t)) q) starts r)
-      wanted c l
+  -- a descriptor that is too long is received by no list
+  pub too-long : (d : Desc) → room a < size d → (starts : List ℕ) → ReceivedBy m rt a starts d → ⊥
+  too-long d k starts r =
+      some-none _
+      (λ t q. meet (Fits (room a)) (λ (e : Desc). d ≡ e) (λ e f w. absurd (omega (arith, ap size w))) (receivedFrom m rt a t) (by (All (Fits (room a))) (whole-fits (room a) (selected rt t m)) (received-fits t)) q)
+      starts r
 
   -- what honest rounds took was received by their starts
   honest-received : (starts : List ℕ) (taken : List (List Desc)) (out : List ℕ) (before f : ℕ) → Honest m rt a out before f starts taken → All (ReceivedBy m rt a starts) (joined taken)

@@ -2,7 +2,6 @@
 -- on the same sheet, receives every wanted descriptor whole in fewer commands." What a list receives, the least count and what is said of a sweep
 -- are in crates/bench/specs/Fewest.antt; `benched` is the contract of `bench::bench`. Assumes nothing.
 use mathlib.Core.Path.{_≡_, refl}
-use mathlib.Core.Logic.{inl}
 use mathlib.Core.List.{List, map}
 use Prim.Native.Nat.{ℕ, _≤_, _<_}
 use native.Mathlib.Omega.{arith}
@@ -19,7 +18,7 @@ use Rattle.sheet.specs.Meaning.{desc, meaning}
 use Rattle.sheet.proofs.Meaning.{meaning-fine}
 use Rattle.bench.specs.Bench.{Buffers, buffers, ending, benched}
 use Rattle.bench.specs.Swept.{room, Premises}
-use Rattle.bench.specs.Fewest.{Some, ReceivesAll, fewestFrom, fewest, Fewest}
+use Rattle.bench.specs.Fewest.{ReceivedBy, ReceivesAll, fewestFrom, fewest, Fewest}
 use Rattle.bench.proofs.Fewest as bench-fewest
 use Rattle.bench.proofs.bench as bench
 use Rattle.demands.specs.Recorder.{sheetE}
@@ -38,19 +37,20 @@ bench-no-shorter x = promises (x .𝓤) (λ o e w ok p. by (Fewest _ _ _) (no-sh
 
 -- ---- that the premises matter
 
--- Where a wanted descriptor has more than C - 8 bytes, no list of starts at all receives all that is wanted.
-pub too-long : (s : List ℕ) (rt a : ℕ) → Bytes s → Accepted s → rt < 2 → 8 ≤ a → Some (λ (d : Desc). room a < size d) (selected rt 0 (meaning s))
-    → (starts : List ℕ) → ReceivesAll (meaning s) rt a starts → ⊥
+-- A descriptor of more than C - 8 bytes is received by no list of starts at all.
+pub too-long : (s : List ℕ) (rt a : ℕ) → Bytes s → Accepted s → rt < 2 → 8 ≤ a
+    → (d : Desc) → room a < size d → (starts : List ℕ) → ReceivedBy (meaning s) rt a starts d → ⊥
 too-long s rt a w ok two eight = bench-fewest.too-long (meaning-fine s w ok .sound) rt a two eight
 
 -- So with sheet E and allocation length 19: 0000h has 12 bytes, and C - 8 is 11.
 pub none-for-E : (starts : List ℕ) → ReceivesAll (meaning sheetE) 0 19 starts → ⊥
 unfolding each flat keep field spell profileBytes feature0 all wants selected layout.featureCount layout.profileCount layout.number layout.flags layout.bodyLength layout.offset layout.profilesPart profiles.profileNumber profiles.profileCurrent profiles.listed profiles.profilesOf desc meaning sheetE
-none-for-E = too-long sheetE 0 19 bytesE acceptedE (omega arith) (omega arith) (inl (omega arith))
+none-for-E starts c = too-long sheetE 0 19 bytesE acceptedE (omega arith) (omega arith) (feature0 (meaning sheetE .profiles)) (omega arith) starts (c .0)
 
--- The manual's counts for sheet E: with allocation length 20 four commands, with 43 two, with 44 one.
+-- The manual's counts for sheet E: with allocation length 20 four commands, with 28 and 43 two, with 44 one.
 pub fewestE : (fewest (room 20) (map size (selected 0 0 (meaning sheetE))) ≡ 4)
+    × (fewest (room 28) (map size (selected 0 0 (meaning sheetE))) ≡ 2)
     × (fewest (room 43) (map size (selected 0 0 (meaning sheetE))) ≡ 2)
     × (fewest (room 44) (map size (selected 0 0 (meaning sheetE))) ≡ 1)
 unfolding fewestFrom each flat keep field spell profileBytes feature0 all wants selected layout.featureCount layout.profileCount layout.number layout.flags layout.bodyLength layout.offset layout.profilesPart profiles.profileNumber profiles.profileCurrent profiles.listed profiles.profilesOf desc meaning sheetE
-fewestE = (refl, refl, refl)
+fewestE = (refl, refl, refl, refl)

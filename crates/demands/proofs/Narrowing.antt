@@ -7,7 +7,7 @@ use mathlib.Core.Bool.{true, false≢true}
 use mathlib.Core.List.{List, [], _∷_, _++_}
 use Prim.Native.Nat.{ℕ, zero, suc, _+_, _-_, _≤_, _<_, max, min}
 use native.Mathlib.Omega.{arith}
-use lib.ListN.{length, take, drop}
+use lib.ListN.{length, take, drop, replicate}
 use lib.Seq.{take-all}
 use borrow.Author.Tests.{leb-true}
 use base.Logic.{ent, via}
@@ -21,9 +21,12 @@ use Rattle.fields.specs.Field.{field, spell}
 use Rattle.lent.specs.Maker as maker
 use Rattle.lent.specs.declared.Made.{Made}
 use Rattle.text.specs.declared.Reading.{Reading}
-use Rattle.text.specs.Command.{rtOf, sfnOf, allocationOf}
+use Rattle.refusal.specs.First.{_if_else_, pickZero, _orElse_, firstOf, unless, placed}
+use Rattle.text.specs.Flags as flags
+use Rattle.text.specs.Command.{opcodeOf, rtOf, sfnOf, allocationOf, commandFault}
 use Rattle.text.specs.Drive.{Desc, Drive, Sound, profileBytes}
-use Rattle.text.specs.Response.{bytes, feature0, all, wants, selected, full}
+use Rattle.text.specs.Response.{bytes, feature0, all, wants, selected, currentProfile, header, dataLength, full, sent}
+use Rattle.text.specs.Reading as text
 use Rattle.text.specs.Reading.{readFault, nothingRead, wholes}
 use Rattle.text.specs.Packing.{whole}
 use Rattle.text.specs.Narrowing.{keptFrom, keptBelow, keptCurrent, keptOne}
@@ -36,13 +39,14 @@ use Rattle.text.proofs.Sizes.{length-full}
 use Rattle.text.proofs.Walk.{readFault-header}
 use Rattle.layout.specs.Layout as layout
 use Rattle.profiles.specs.Profiles as profiles
-use Rattle.sheet.specs.Check.{Accepted}
+use Rattle.sheet.specs.Check.{Accepted, numberBefore, endBefore, flagsRule, entryRule, entryFault, counted, verdict}
 use Rattle.sheet.specs.Meaning.{desc, meaning}
 use Rattle.sheet.proofs.Meaning.{meaning-fine}
+use Rattle.responder.specs.Answer as box
 use Rattle.responder.specs.Answer.{due}
 use Rattle.responder.proofs.respond as respond
 use Rattle.reading.proofs.read as read
-use Rattle.demands.specs.Recorder.{sheetE, sheetE′}
+use Rattle.demands.specs.Recorder.{sheetE, sheetE′, command}
 use Rattle.demands.proofs.Sending.{Answers, demand2}
 use Rattle.demands.proofs.Readings.{ReadBack, Reads, reads}
 use Rattle.demands.proofs.EndToEnd.{sheet-fine, got, read-back}
@@ -143,6 +147,24 @@ pub record Combines (rt s : ℕ) (xs : List Desc) (rt′ s′ : ℕ) (ys : List 
   pub one : rt ≡ 0 → rt′ ≡ 2 → s ≤ s′ → keptOne s′ xs ≡ ys
   -- two neighbouring ranges joined are the whole
   pub joins : rt ≡ rt′ → rt < 2 → s ≤ s′ → keptBelow s′ xs ++ ys ≡ xs
+
+-- ---- that there are such exchanges: sheet E asked with RT 0 from 1 and with RT 1 from 3, into 64 bytes
+
+abbrev asked : (rt sfn : ℕ) → maker.Outcome
+asked rt sfn = box.answered sheetE (command rt sfn 64) (replicate 64 0xEE)
+
+abbrev sentBy : maker.Outcome → List ℕ
+sentBy o = take (o .made .count) (o .buffer)
+
+abbrev ExchangedE : (rt sfn : ℕ) → Type 0
+ExchangedE rt sfn = Exchanged (command rt sfn 64) (asked rt sfn .made) (asked rt sfn .buffer) rt sfn (sentBy (asked rt sfn)) (text.reading 65534 rt sfn (sentBy (asked rt sfn)))
+
+pub exchangedE : ExchangedE 0 1 × ExchangedE 1 3
+unfolding each flat keep field spell _if_else_ pickZero _orElse_ firstOf placed opcodeOf rtOf sfnOf allocationOf commandFault profileBytes bytes feature0 all wants selected currentProfile header dataLength full sent layout.featureCount layout.profileCount layout.number layout.flags layout.bodyLength layout.offset layout.profilesPart profiles.profileNumber profiles.profileCurrent profiles.profileLast profiles.listed profiles.profilesOf profiles.lists profiles.recordRule profiles.recordFault profiles.recordsFault numberBefore endBefore flagsRule flags.flagsGiving entryRule entryFault counted verdict desc meaning unless maker.refusing maker.making maker.makes box.answered sheetE command text.statedLength text.statedProfile text.headerRule text.headRule text.numberAt text.flagsAt text.lengthAt text.descAt text.headFault text.walk text.walked text.readFault text.reading text.taken
+exchangedE = (
+  record { answered = refl; asked-rt = refl; asked-sfn = refl; handed = refl; complete = refl },
+  record { answered = refl; asked-rt = refl; asked-sfn = refl; handed = refl; complete = refl },
+)
 
 -- ---- one exchange
 
