@@ -5,10 +5,11 @@ use mathlib.Core.List.{List, [], _∷_, _++_}
 use Prim.Native.Nat.{ℕ, zero, suc, _+_, _-_, _*_, _≤_, _<_}
 use native.Mathlib.Nat.{add-zero}
 use native.Mathlib.Omega.{arith}
-use lib.ListN.{length, length-append}
+use lib.ListN.{length, take, drop, getD, length-append, length-drop}
+use lib.Seq.{getD-drop, take-all}
 use Rattle.base.specs.Lists.{flat}
+use Rattle.fields.specs.Field.{field}
 use Rattle.text.specs.declared.Feature.{Feature}
-use Rattle.text.specs.declared.Flags.{Flags}
 use Rattle.refusal.specs.declared.Refusal.{Refusal}
 use Rattle.refusal.specs.First.{accept, unless}
 use Rattle.refusal.proofs.First.{unless-none, unless-fault}
@@ -76,21 +77,36 @@ module _ (count place last : ℕ) where
 
 -- ---- the four header bytes, as they were read
 
+-- the response from its fourth byte on, as the code cuts it
+pub lengths-cut : (s : List ℕ) → take (length s - 3) (drop 3 s) ≡ drop 3 s
+lengths-cut s = take-all (length s - 3) (drop 3 s) (omega (arith, length-drop 3 s))
+
+pub length-stands : (s lengths : List ℕ) (at : ℕ) → lengths ≡ drop 3 s → at + 4 ≤ length s → at < length lengths
+length-stands s lengths at d h = omega (arith, h, ap length d, length-drop 3 s)
+
 module _ (rt sfn end : ℕ) (s : List ℕ) (lo at : ℕ) where
-  module _ (number : Feature) (flags : Flags) (len : ℕ) (r : Refusal)
-      (n : number .0 ≡ numberAt s at) (f : flags .0 ≡ flagsAt s at) (l : len ≡ lengthAt s at)
-      (q : r ≡ headRule rt sfn end lo at (number .0) (flags .0) len) where
+  module _ (lengths : List ℕ) (d : lengths ≡ drop 3 s) (number flags len : ℕ) (r : Refusal)
+      (n : number ≡ field 2 s at) (f : flags ≡ getD s (at + 2) 0) (l : len ≡ getD lengths at 0)
+      (q : r ≡ headRule rt sfn end lo at number flags len) where
+    number-is : number ≡ numberAt s at
+    unfolding numberAt
+    number-is = n
+
+    length-is : len ≡ lengthAt s at
+    unfolding lengthAt
+    length-is = l ∙ ap (λ (k : List ℕ). getD k at 0) d ∙ getD-drop 3 s at 0 ∙ ap (λ (k : ℕ). getD s k 0) (omega arith)
+
     fault-is : r ≡ headFault rt sfn end s lo at
-    unfolding headFault
-    fault-is = rw (← n, ← f, ← l) q
+    unfolding headFault flagsAt
+    fault-is = rw (← number-is, ← f, ← length-is) q
 
     pub head-fault : (r .number ≡ 0 → ⊥) → head.Refused r ≡ headAt rt sfn end s lo at
     unfolding headAt
     head-fault k = ap head.Refused fault-is ∙ sym (unless-fault _ head.Refused _ (rw (← fault-is) k))
 
-    pub head-none : r .number ≡ 0 → head.Stands number len ≡ headAt rt sfn end s lo at
+    pub head-none : r .number ≡ 0 → head.Stands (record { 0 = number }) len ≡ headAt rt sfn end s lo at
     unfolding headAt
-    head-none k = rw (← n, ← l) (sym (unless-none _ head.Refused _ (rw (← fault-is) k)))
+    head-none k = rw (← number-is, ← length-is) (sym (unless-none _ head.Refused _ (rw (← fault-is) k)))
 
 -- ---- the loop
 

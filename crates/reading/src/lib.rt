@@ -3,7 +3,7 @@ ghost use mathlib.Core.Path.{_≡_};
 ghost use mathlib.Core.Bool.{not, _&&_};
 ghost use Prim.Native.Nat.{_+_, _≤_};
 ghost use lib.Dec.{eqb};
-ghost use lib.ListN.{length};
+ghost use lib.ListN.{length, drop};
 ghost use Rattle.fields.specs.Part.{PartOf};
 ghost use Rattle.text.specs.Flags.{current};
 ghost use Rattle.text.specs.Response.{headerLength, returnLimit};
@@ -173,15 +173,15 @@ fn head_rule(
 
 // ---- the walk
 
-// The header bytes at a place, judged.
-// Asks: a place inside the longest response, which 14 has shown before.
-fn head_at(rt: u8, sfn: Feature, end: usize, s: &[u8], lo: u32, at: usize) -> Head
-    requires { ⌜ at ≤ returnLimit ⌝ }
+// The header bytes at a place, judged. The walk waits for Additional Length alone, and reads it from the bytes from the fourth on, at the place itself.
+// Asks: the response from its fourth byte on, and a place that has four bytes in a response no longer than 14 lets through; the walk has looked.
+fn head_at(rt: u8, sfn: Feature, end: usize, s: &[u8], lengths: &[u8], lo: u32, at: usize) -> Head
+    requires { ⌜ (now lengths ≡ drop 3 (now s)) × (at + 4 ≤ length (now s)) × (length (now s) ≤ returnLimit) ⌝ }
     ensures { λ r. ⌜ r ≡ headAt rt (sfn .0) end (now (s .entry)) lo at ⌝ }
 {
-    let number = number_at(s, at);
-    let flags = flags_at(s, at);
-    let len = length_at(s, at);
+    let number = Feature(fields::inside2(s, at));
+    let flags = Flags(fields::inside(s, at + 2));
+    let len = fields::inside(lengths, at);
     let fault = head_rule(rt, sfn, end, lo, at, number, flags, len);
     if fault.number != 0 {
         return Head::Refused(fault);
@@ -195,12 +195,13 @@ fn walk_over(rt: u8, sfn: Feature, end: usize, s: &[u8]) -> Walk
     requires { ⌜ (headerLength ≤ length (now s)) × (length (now s) ≤ returnLimit) ⌝ }
     ensures { λ r. ⌜ r ≡ tally 0 headerLength 0 (walk (length (now (s .entry))) rt (sfn .0) end (now (s .entry)) (sfn .0) headerLength) ⌝ }
 {
+    let lengths = &s[3..];
     let mut at = Header::LENGTH;
     let mut lo = sfn.0 as u32;
     let mut count: u32 = 0;
     let mut last = Feature(0);
     while at + 4 <= s.len() {
-        match head_at(rt, sfn, end, s, lo, at) {
+        match head_at(rt, sfn, end, s, lengths, lo, at) {
             Head::Refused(fault) => {
                 return Walk::Refused(fault);
             }

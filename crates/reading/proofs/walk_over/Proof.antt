@@ -3,21 +3,21 @@ use borrow.Author.Needs.{needs}
 use Prim.Native.Nat.{_+_, _*_, _-_, _≤_}
 use mathlib.Core.Path.{_≡_}
 use native.Mathlib.Omega.{arith}
-use lib.ListN.{length}
+use lib.ListN.{length, drop}
 use Rattle.text.specs.Reading.{walk}
 use Rattle.reading.specs.inner.Tally.{tally}
-use Rattle.reading.proofs.Tally.{left, loop-start, loop-end, loop-fault, loop-cut, loop-more}
+use Rattle.reading.proofs.Tally.{lengths-cut, left, loop-start, loop-end, loop-fault, loop-cut, loop-more}
 use Rattle.reading.proofs.walk_over.Statement.{statement}
 use Rattle.reading.proofs.walk_over.Tie as tie
 
 abbrev Inv-loop : tie.InvT-loop
-Inv-loop rt sfn end s at₀ lo₀ count₀ last₀ at lo count last = (at ≤ length s) × (4 * count + 8 ≤ at) × (tally 0 8 0 (walk (length s) rt (sfn .0) end s (sfn .0) 8) ≡ left rt (sfn .0) end s at lo count (last .0))
+Inv-loop rt sfn end s lengths at₀ lo₀ count₀ last₀ at lo count last = (lengths ≡ drop 3 s) × (at ≤ length s) × (4 * count + 8 ≤ at) × (tally 0 8 0 (walk (length s) rt (sfn .0) end s (sfn .0) 8) ≡ left rt (sfn .0) end s at lo count (last .0))
 
 abbrev μ-loop : tie.MeasureT-loop
-μ-loop rt sfn end s at₀ lo₀ count₀ last₀ at lo count last = length s - at
+μ-loop rt sfn end s lengths at₀ lo₀ count₀ last₀ at lo count last = length s - at
 
 loop-holds : tie.Need-loop-holds Inv-loop μ-loop
-loop-holds c = (omega arith, omega arith, search loop-start)
+loop-holds c = (search lengths-cut, omega arith, omega arith, search loop-start)
 
 returns : tie.Need-returns Inv-loop μ-loop
 returns c = search loop-fault
@@ -26,7 +26,7 @@ returns-2 : tie.Need-returns-2 Inv-loop μ-loop
 returns-2 c = search loop-cut
 
 loop-again : tie.Need-loop-again Inv-loop μ-loop
-loop-again c = (omega arith, omega arith, search loop-more)
+loop-again c = (search needs, omega arith, omega arith, search loop-more)
 
 returns-3 : tie.Need-returns-3 Inv-loop μ-loop
 returns-3 c = search loop-end
@@ -34,4 +34,4 @@ returns-3 c = search loop-end
 pub walk-over-spec : {M : Type 1} → statement M
 walk-over-spec =
     tie.close
-    (tie.spec Inv-loop μ-loop (λ c. search needs) loop-holds (λ c. search needs) (λ c κs. search needs) (λ c. search needs) returns (λ c. search needs) (λ c. search needs) (λ c. search needs) (λ c. search needs) returns-2 (λ c. search needs) (λ c. search needs) (λ c. search needs) (λ c. search needs) loop-again returns-3)
+    (tie.spec Inv-loop μ-loop (λ c. search needs) (λ c. search needs) (λ c. search needs) (λ c. search needs) loop-holds (λ c. search needs) (λ c κs. search needs) (λ c. search needs) returns (λ c. search needs) (λ c. search needs) (λ c. search needs) (λ c. search needs) returns-2 (λ c. search needs) (λ c. search needs) (λ c. search needs) (λ c. search needs) loop-again returns-3)
