@@ -42,6 +42,11 @@ copied d b e at h k =
     let n : at + length b - at ≡ length b = omega arith in
     record { next = omega arith; holds = rw (k, n, drop-drop, sets-eq b d at h) (sym (append-assoc (take at d) b (drop (at + length b) d))) }
 
+-- the same of a block of n
+pub copied-all : (n : ℕ) (d b e : List ℕ) (at : ℕ) → length b ≡ n → at + n ≤ length d → e ≡ b
+    → Wrote d at b (at + n) (take at d ++ (e ++ drop (at + n - at) (drop at d)))
+copied-all n d b e at l h k = rw (← l) (copied d b e at (omega (arith, l, h)) k)
+
 -- ---- what a writing leaves
 
 -- the buffer keeps its length

@@ -6,13 +6,25 @@ ghost use lib.ListN.{length};
 ghost use Rattle.lent.specs.inner.Same.{Same};
 
 // Copies the 4 bytes of s from index i on to the same place.
-// Asks: a buffer as long as s that agrees with it up to i, and 4 bytes left, which the walk has shown before.
+// Asks: a buffer as long as s that agrees with it up to i, and 4 bytes left, which the caller has shown before.
 fn block4(s: &[u8], i: usize, out: &mut [u8])
     requires { ⌜ Same (now s) i (now out) × (i + 4 ≤ length (now s)) ⌝ }
     ensures { λ _. ⌜ Same (now (s .entry)) (i + 4) (now (out .exit)) ⌝ }
 {
     let mut block = [0u8; 4];
     let end = i + 4;
+    bytes::copy(&s[i..end], &mut block);
+    bytes::copy(&block, &mut out[i..end]);
+}
+
+// Copies the 8 bytes of s from index i on to the same place.
+// Asks: a buffer as long as s that agrees with it up to i, and 8 bytes left, which the caller has shown before.
+fn block8(s: &[u8], i: usize, out: &mut [u8])
+    requires { ⌜ Same (now s) i (now out) × (i + 8 ≤ length (now s)) ⌝ }
+    ensures { λ _. ⌜ Same (now (s .entry)) (i + 8) (now (out .exit)) ⌝ }
+{
+    let mut block = [0u8; 8];
+    let end = i + 8;
     bytes::copy(&s[i..end], &mut block);
     bytes::copy(&block, &mut out[i..end]);
 }
@@ -44,18 +56,23 @@ fn block64(s: &[u8], i: usize, out: &mut [u8])
     block16(s, fourth, out);
 }
 
-// Copies s over a buffer of its length, 4 bytes at a time. The last ones may be copied once more.
-// Asks: a buffer of that length, and 4 bytes or more; `fill` has looked at the length.
-fn by4(s: &[u8], out: &mut [u8])
-    requires { ⌜ (length (now out) ≡ length (now s)) × (4 ≤ length (now s)) ⌝ }
+// Copies 4 bytes over a buffer of 4.
+// Asks: 4 bytes, and a buffer of 4; `fill` and `place4` have looked at the length.
+pub fn four(s: &[u8], out: &mut [u8])
+    requires { ⌜ (length (now out) ≡ length (now s)) × (length (now s) ≡ 4) ⌝ }
     ensures { λ _. ⌜ now (out .exit) ≡ now (s .entry) ⌝ }
 {
-    let mut i = 0;
-    while 4 < s.len() - i {
-        block4(s, i, out);
-        i += 4;
-    }
-    block4(s, s.len() - 4, out);
+    block4(s, 0, out);
+}
+
+// Copies s over a buffer of its length: the first 8 bytes and the last 8. Some may be copied twice.
+// Asks: a buffer of that length, and 8 to 16 bytes; `fill` has looked at the length.
+fn by8(s: &[u8], out: &mut [u8])
+    requires { ⌜ (length (now out) ≡ length (now s)) × (8 ≤ length (now s)) × (length (now s) ≤ 16) ⌝ }
+    ensures { λ _. ⌜ now (out .exit) ≡ now (s .entry) ⌝ }
+{
+    block8(s, 0, out);
+    block8(s, s.len() - 8, out);
 }
 
 // Copies s over a buffer of its length, 16 bytes at a time.
@@ -86,18 +103,22 @@ fn by64(s: &[u8], out: &mut [u8])
     block64(s, s.len() - 64, out);
 }
 
-// Copies s over a buffer of its length, by blocks as large as there are bytes for.
+// Copies s over a buffer of its length, by blocks as large as there are bytes for. Most bodies have no bytes or 4.
 // Asks: a buffer of that length; `place` cuts it so.
 pub fn fill(s: &[u8], out: &mut [u8])
     requires { ⌜ length (now out) ≡ length (now s) ⌝ }
     ensures { λ _. ⌜ now (out .exit) ≡ now (s .entry) ⌝ }
 {
-    if s.len() < 4 {
+    if s.len() == 4 {
+        four(s, out);
+        return;
+    }
+    if s.len() < 8 {
         bytes::copy(s, out);
         return;
     }
     if s.len() < 16 {
-        by4(s, out);
+        by8(s, out);
         return;
     }
     if s.len() < 64 {

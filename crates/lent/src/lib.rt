@@ -78,6 +78,17 @@ pub fn place(out: &mut [u8], at: usize, part: &[u8]) -> usize
     end
 }
 
+// Copies four bytes to where there is room for them, with no look at how many they are.
+// Asks: four bytes, and room for them; whoever copies has looked at the buffer's length.
+pub fn place4(out: &mut [u8], at: usize, part: &[u8]) -> usize
+    requires { ⌜ (length (now part) ≡ 4) × (at + 4 ≤ length (now out)) ⌝ }
+    ensures { λ r. ⌜ Wrote (now (out .entry)) at (now (part .entry)) r (now (out .exit)) ⌝ }
+{
+    let end = at + 4;
+    blocks::four(part, &mut out[at..end]);
+    end
+}
+
 // Copies a part of something else.
 pub fn copy(out: &mut [u8], at: usize, part: &[u8]) -> usize
     ensures { λ r. ⌜ Wrote (now (out .entry)) at (now (part .entry)) r (now (out .exit)) ⌝ }
