@@ -1,13 +1,12 @@
 -- The response by index, case by case and turn by turn: what the box's functions and loops need. Assumes nothing.
 use mathlib.Core.Path.{_≡_, refl, sym, ap, _∙_}
-use mathlib.Core.Bool.{Bool, true, false, _&&_, and-eq-true-iff}
-use mathlib.Core.List.{List, [], _++_}
+use mathlib.Core.Bool.{true, false}
+use mathlib.Core.List.{List, [], _++_, append-assoc, append-nil}
 use Prim.Native.Nat.{ℕ, zero, suc, _+_, _-_, _*_, _%_, _^_, _≤_, _<_}
 use native.Mathlib.Nat.{add-zero, add-suc}
 use native.Mathlib.Omega.{arith}
-use lib.Dec.{leb}
 use lib.ListN.{length, take, drop, length-take}
-use borrow.Author.Tests.{leb-true, lt-ltb, le-ltb, eq-eqb, ne-eqb}
+use borrow.Author.Tests.{lt-ltb, le-ltb, eq-eqb, ne-eqb}
 use Rattle.base.specs.Lists.{Bytes}
 use Rattle.fields.proofs.Laws.{field-lt}
 use Rattle.lent.specs.Wrote.{Wrote}
@@ -40,13 +39,6 @@ module _ (rt : ℕ) (s : List ℕ) (i : ℕ) where
   pub size-some : skips rt (flags s i) ≡ false → pieceSize rt s i ≡ 4 + bodyLength s i
   unfolding pieceSize
   size-some e = rw (e, pieceSize)
-
--- where it fits, an entry is there and its descriptor has room
-pub fits-both : (s : List ℕ) (i room : ℕ) {r : Bool} → r ≡ (leb (entryAt i + 8) (length s) && leb (4 + bodyLength s i) room) → r ≡ true
-    → (entryAt i + 8 ≤ length s) × (4 + bodyLength s i ≤ room)
-fits-both s i room p q =
-    let e = and-eq-true-iff (leb (entryAt i + 8) (length s)) (leb (4 + bodyLength s i) room) .0 (sym p ∙ q) in
-    (leb-true (entryAt i + 8) (length s) (e .0), leb-true (4 + bodyLength s i) room (e .1))
 
 module _ (s : List ℕ) (i : ℕ) (e : Entry) (body : List ℕ) (h : e ≡ entryOf s i) (r : body ≡ take (e .length) (drop (e .offset) s)) where
   -- the body of an entry that was read is no longer than the entry says
@@ -97,6 +89,24 @@ pub full-stop : {d e : List ℕ} {at w : ℕ} (rt : ℕ) (s : List ℕ) (from to
 full-stop rt s from to i v h l m =
     let k : to - from ≡ (i - from) + (to - i) = omega arith in
     rw k (full-more rt s from (i - from) (to - i) v h)
+
+-- entries, and the entries behind them
+pieces-join : (rt : ℕ) (s : List ℕ) (from k j : ℕ) → pieces rt s from (k + j) ≡ pieces rt s from k ++ pieces rt s (from + k) j
+unfolding pieces
+pieces-join rt s from k zero = rw add-zero (sym (append-nil (pieces rt s from k)))
+pieces-join rt s from k (suc j) =
+    let e : from + (k + j) ≡ from + k + j = omega arith in
+    rw add-suc
+    (ap (λ (x : List ℕ). x ++ piece rt s (from + (k + j))) (pieces-join rt s from k j)
+    ∙ append-assoc (pieces rt s from k) (pieces rt s (from + k) j) (piece rt s (from + (k + j)))
+    ∙ ap (λ (m : ℕ). pieces rt s from k ++ (pieces rt s (from + k) j ++ piece rt s m)) e)
+
+pub then-rest : {d e f : List ℕ} {at w q : ℕ} (rt : ℕ) (s : List ℕ) (from to i : ℕ) → from ≤ i → i - from ≤ to - from
+    → Wrote d at (pieces rt s from (i - from)) w e → Wrote e w (pieces rt s i (to - i)) q f → Wrote d at (pieces rt s from (to - from)) q f
+then-rest rt s from to i l m v w =
+    let k : to - from ≡ (i - from) + (to - i) = omega arith in
+    let b : from + (i - from) ≡ i = omega arith in
+    rw (k, pieces-join rt s from (i - from) (to - i), b) (then v w)
 
 -- ---- which entries are wanted
 

@@ -1,6 +1,5 @@
 // The box: a sheet, a command and a lent buffer in; the refusal or the count of bytes sent out.
 ghost use mathlib.Core.Path.{_≡_};
-ghost use mathlib.Core.Bool.{_&&_};
 ghost use Prim.Native.Nat.{_+_, _-_, _*_, _%_, _^_, _≤_, _<_, min};
 ghost use lib.Dec.{leb};
 ghost use lib.ListN.{length};
@@ -11,6 +10,7 @@ ghost use Rattle.lent.specs.Maker.{outcome};
 ghost use Rattle.responder.specs.Answer.{answered};
 ghost use Rattle.responder.specs.Trusting.{trusting, trustingCommand};
 ghost use Rattle.responder.specs.Sized.{sized};
+ghost use Rattle.responder.specs.inner.Fitted.{Fitted};
 ghost use Rattle.responder.specs.inner.Index.{wantedEnd, skips, descOf, descBytes, piece, pieces, pieceSize, piecesSize, span, entriesSize, zeroBytes, zeroPart, zeroSize, takenSize, planOf, fullBytes, limit};
 use lent::Made;
 use text::Command;
@@ -181,13 +181,12 @@ fn put_slowly(out: &mut [u8], at: usize, s: &[u8], rt: u8, i: u16) -> usize
     put_entry(out, at, s, i)
 }
 
-// Whether the sheet has the entry, and so many bytes are room for its descriptor.
+// Whether so many bytes are room for an entry's descriptor.
+// Asks: an entry that the sheet has; `put_fitting` has looked at its length.
 fn fits(s: &[u8], i: u16, room: usize) -> bool
-    ensures { λ r. ⌜ r ≡ (leb (entryAt i + 8) (length (now (s .entry))) && leb (4 + bodyLength (now (s .entry)) i) room) ⌝ }
+    requires { ⌜ entryAt i + 8 ≤ length (now s) ⌝ }
+    ensures { λ r. ⌜ r ≡ leb (4 + bodyLength (now (s .entry)) i) room ⌝ }
 {
-    if s.len() < layout::entry_end(i) {
-        return false;
-    }
     let e = layout::entry_in(s, i);
     4 + e.length as usize <= room
 }
@@ -200,16 +199,15 @@ fn put_whole(out: &mut [u8], at: usize, s: &[u8], i: u16) -> usize
 {
     let e = layout::entry_in(s, i);
     let body = fields::part(s, e.offset as usize, e.length as usize);
-    let a = lent::place(out, at, layout::head_part(s, i));
+    let a = lent::place4(out, at, layout::head_part(s, i));
     lent::place(out, a, body)
 }
 
+// Asks: the same as `put_whole`.
 fn put_piece(out: &mut [u8], at: usize, s: &[u8], rt: u8, i: u16) -> usize
+    requires { ⌜ (entryAt i + 8 ≤ length (now s)) × (4 + bodyLength (now s) i ≤ length (now out) - at) ⌝ }
     ensures { λ r. ⌜ Wrote (now (out .entry)) at (piece rt (now (s .entry)) i) r (now (out .exit)) ⌝ }
 {
-    if !fits(s, i, difference(out.len(), at)) {
-        return put_slowly(out, at, s, rt, i);
-    }
     let e = layout::entry_in(s, i);
     if skipped(rt, e.flags) {
         return at;
@@ -217,8 +215,33 @@ fn put_piece(out: &mut [u8], at: usize, s: &[u8], rt: u8, i: u16) -> usize
     put_whole(out, at, s, i)
 }
 
-// Stops where the buffer is full.
-fn put_pieces(out: &mut [u8], at: usize, s: &[u8], rt: u8, from: u16, to: u16) -> usize
+// How far a writing of entries has come: the next entry, and where its descriptor starts.
+struct Progress {
+    i: u16,
+    next: usize,
+}
+
+// Entries one by one, as long as the buffer has room for a descriptor: one look at the sheet for all, one at the room for each.
+fn put_fitting(out: &mut [u8], at: usize, s: &[u8], rt: u8, from: u16, to: u16) -> Progress
+    ensures { λ r. ⌜ Fitted rt (now (s .entry)) from to (now (out .entry)) at r (now (out .exit)) ⌝ }
+{
+    let mut next = at;
+    let mut i = from;
+    if s.len() < layout::profiles_behind(to) {
+        return Progress { i, next };
+    }
+    while i < to {
+        if !fits(s, i, difference(out.len(), next)) {
+            return Progress { i, next };
+        }
+        next = put_piece(out, next, s, rt, i);
+        i += 1;
+    }
+    Progress { i, next }
+}
+
+// Entries whatever the sheet has of them and the buffer of room. Stops where the buffer is full.
+fn put_rest(out: &mut [u8], at: usize, s: &[u8], rt: u8, from: u16, to: u16) -> usize
     ensures { λ r. ⌜ Wrote (now (out .entry)) at (pieces rt (now (s .entry)) from (to - from)) r (now (out .exit)) ⌝ }
 {
     let mut next = at;
@@ -227,10 +250,18 @@ fn put_pieces(out: &mut [u8], at: usize, s: &[u8], rt: u8, from: u16, to: u16) -
         if out.len() <= next {
             return next;
         }
-        next = put_piece(out, next, s, rt, i);
+        next = put_slowly(out, next, s, rt, i);
         i += 1;
     }
     next
+}
+
+// All that fit, and then what is left of the buffer.
+fn put_pieces(out: &mut [u8], at: usize, s: &[u8], rt: u8, from: u16, to: u16) -> usize
+    ensures { λ r. ⌜ Wrote (now (out .entry)) at (pieces rt (now (s .entry)) from (to - from)) r (now (out .exit)) ⌝ }
+{
+    let fitting = put_fitting(out, at, s, rt, from, to);
+    put_rest(out, fitting.next, s, rt, fitting.i, to)
 }
 
 // Feature 0, straight from the profiles.

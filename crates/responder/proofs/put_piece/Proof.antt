@@ -1,44 +1,32 @@
--- `responder::put_piece` meets its contract: where the entry fits, by its two cases.
+-- `responder::put_piece` meets its contract, by the two cases of an entry.
 use mathlib.Core.Path.{_≡_, sym, ap, _∙_}
 use mathlib.Core.Bool.{true, false}
-use native.Mathlib.Omega.{arith}
-use borrow.Author.Tests.{not-false}
 use Rattle.lent.proofs.Laws.{nothing}
 use Rattle.layout.specs.Layout.{flags}
 use Rattle.layout.specs.declared.Entry.{Entry}
 use Rattle.layout.specs.inner.Entry.{entryOf}
 use Rattle.responder.specs.inner.Index.{skips}
-use Rattle.responder.proofs.Laws.{piece-none, piece-some, fits-both}
+use Rattle.responder.proofs.Laws.{piece-none, piece-some}
 use borrow.Author.Needs.{needs}
 use Rattle.responder.proofs.put_piece.Statement.{statement}
 use Rattle.responder.proofs.put_piece.Tie as tie
 
-entry-in-requires : tie.Need-entry-in-requires
-entry-in-requires c κs = let a = c .before .before .before .before .before .args in fits-both (a .s .now) (a .i) _ (c .before .fits2 .ensures) (not-false _ (c .if1 .left)) .0
+returns : tie.Need-returns
+unfolding entryOf
+returns c =
+    let a = c .before .before .before .before .before .args in
+    let e : skips (a .rt) (flags (a .s .now) (a .i)) ≡ true =
+    ap (λ (e : Entry). skips (a .rt) (e .flags .0)) (sym (c .before .before .entry-in .ensures)) ∙ sym (c .before .skipped .ensures) ∙ c .if1 .taken in
+    rw (piece-none (a .rt) (a .s .now) (a .i) e) (nothing (a .out .now) (a .at))
 
 returns-2 : tie.Need-returns-2
 unfolding entryOf
 returns-2 c =
-    let a = c .before .before .before .before .before .before .before .before .args in
-    let e : skips (a .rt) (flags (a .s .now) (a .i)) ≡ true =
-    ap (λ (e : Entry). skips (a .rt) (e .flags .0)) (sym (c .before .before .entry-in .ensures)) ∙ sym (c .before .skipped .ensures) ∙ c .if2 .taken in
-    rw (piece-none (a .rt) (a .s .now) (a .i) e) (nothing (a .out .now) (a .at))
-
-put-whole-requires : tie.Need-put-whole-requires
-put-whole-requires c κs =
     let a = c .before .before .before .before .before .before .before .before .before .args in
-    let f = fits-both (a .s .now) (a .i) (c .before .before .before .before .before .before .difference .result) (c .before .before .before .before .before .fits2 .ensures) (not-false _ (c .before .before .before .before .if1 .left)) in
-    (f .0, omega (arith, f .1, c .before .before .before .before .before .before .difference .ensures))
-
-returns-3 : tie.Need-returns-3
-unfolding entryOf
-returns-3 c =
-    let a = c .before .before .before .before .before .before .before .before .before .before .before .before .args in
     let e : skips (a .rt) (flags (a .s .now) (a .i)) ≡ false =
-    ap (λ (e : Entry). skips (a .rt) (e .flags .0)) (sym (c .before .before .before .before .before .before .entry-in .ensures)) ∙ sym (c .before .before .before .before .before .skipped .ensures) ∙ c .before .before .before .before .if2 .left in
+    ap (λ (e : Entry). skips (a .rt) (e .flags .0)) (sym (c .before .before .before .before .before .before .entry-in .ensures)) ∙ sym (c .before .before .before .before .before .skipped .ensures) ∙ c .before .before .before .before .if1 .left in
     rw (piece-some (a .rt) (a .s .now) (a .i) e) (c .before .before .put-whole .ensures)
 
 pub put-piece-spec : {M : Type 1} → statement M
 put-piece-spec =
-    tie.close
-    (tie.spec (λ c κs. search needs) (λ c κs. search needs) (λ c κs. search needs) (λ c. search needs) (λ c. search needs) entry-in-requires (λ c κs. search needs) returns-2 put-whole-requires (λ c. search needs) returns-3)
+    tie.close (tie.spec (λ c κs. search needs) (λ c κs. search needs) returns (λ c κs. search needs) (λ c. search needs) returns-2)
