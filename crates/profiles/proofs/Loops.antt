@@ -1,10 +1,11 @@
 -- The loops over records: a return, a further turn, the end. Assumes nothing.
 use borrow.Author.Tests.{eq-eqb, ne-eqb}
 use mathlib.Core.Bool.{Bool, true, false}
-use mathlib.Core.Path.{_≡_, sym, ap, _∙_}
+use mathlib.Core.Path.{_≡_, refl, sym, ap, _∙_}
 use mathlib.Core.List.{List, _∷_}
-use Prim.Native.Nat.{ℕ, suc, _+_, _-_, _*_, _%_, _≤_, _<_}
+use Prim.Native.Nat.{ℕ, zero, suc, _+_, _-_, _*_, _%_, _≤_, _<_, min}
 use native.Mathlib.Numerals.{add-one}
+use native.Mathlib.Decide.{decLe}
 use native.Mathlib.Omega.{arith}
 use lib.ListN.{getD}
 use Rattle.base.specs.Lists.{each}
@@ -14,6 +15,7 @@ use Rattle.refusal.specs.First.{placed}
 use Rattle.text.specs.Response.{currentProfile}
 use Rattle.text.proofs.Profiles.{current-on, current-off}
 use Rattle.profiles.specs.Profiles.{profileNumber, profileCurrent, profileLast, listed, lists, recordRule, recordFault}
+use Rattle.profiles.specs.inner.Within.{Within}
 
 -- ---- a number among the records
 
@@ -40,6 +42,40 @@ module _ (w : Bool) (m : ℕ) (b : List ℕ) (n i : ℕ) (e : w ≡ lists m b i 
   pub lists-none : n ≤ i → false ≡ w
   unfolding lists
   lists-none h = sym (e ∙ ap (lists m b i) {x = n - i} {y = 0} (omega arith))
+
+-- none of the records has a number that they all differ from
+lists-nowhere : (m : ℕ) (b : List ℕ) (i k : ℕ) → ((j : ℕ) → j < i + k → profileNumber b j ≡ m → ⊥) → lists m b i k ≡ false
+unfolding lists
+lists-nowhere m b i zero h = refl
+lists-nowhere m b i (suc k) h = lists-no m b i k (h i (omega arith)) ∙ lists-nowhere m b (suc i) k (λ j l. h j (omega (arith, l)))
+
+module _ (low high : ℕ) (b : List ℕ) (n : ℕ) (w : Within low high b n) where
+  pub lists-below : (m : ℕ) → m < low → false ≡ lists m b 0 n
+  lists-below m h = sym (lists-nowhere m b 0 n (λ j l e. omega (arith, w .above j (omega (arith, l)), e, h)))
+
+  pub lists-above : (m : ℕ) → high < m → false ≡ lists m b 0 n
+  lists-above m h = sym (lists-nowhere m b 0 n (λ j l e. omega (arith, w .below j (omega (arith, l)), e, h)))
+
+-- no record, and one more
+pub within-none : (low high : ℕ) (b : List ℕ) → Within low high b 0
+within-none low high b = record { above = λ j l. absurd (omega (arith, l)); below = λ j l. absurd (omega (arith, l)) }
+
+pub within-more : (low high : ℕ) (b : List ℕ) (i x lo hi : ℕ) → Within low high b i → x ≡ field 2 b (4 * i) → lo ≡ min low x → hi ≡ high + (x - high) → Within lo hi b (i + 1)
+unfolding profileNumber
+within-more low high b i x lo hi w e l h = record {
+  above =
+      λ j k.
+      elim (decLe (suc j) i) [
+        | yes m ↦ omega (arith, l, w .above j m)
+        | no m ↦ omega (arith, l, e, ap (λ (n : ℕ). field 2 b (4 * n)) {x = j} {y = i} (omega (arith, k, m)))
+      ];
+  below =
+      λ j k.
+      elim (decLe (suc j) i) [
+        | yes m ↦ omega (arith, h, w .below j m)
+        | no m ↦ omega (arith, h, e, ap (λ (n : ℕ). field 2 b (4 * n)) {x = j} {y = i} (omega (arith, k, m)))
+      ];
+}
 
 -- ---- the current profile
 

@@ -6,24 +6,26 @@ use native.Mathlib.Omega.{arith}
 use Rattle.refusal.specs.First.{firstOf}
 use Rattle.refusal.proofs.First.{rest, first-start, first-stop, first-go, first-none}
 use Rattle.profiles.specs.Profiles.{recordFault, recordsFault}
+use Rattle.profiles.specs.inner.Within.{Within}
+use Rattle.profiles.proofs.Loops.{within-none, within-more}
 use Rattle.profiles.proofs.fault.Statement.{statement}
 use Rattle.profiles.proofs.fault.Tie as tie
 
 abbrev Inv-loop : tie.InvT-loop
-Inv-loop b n i₀ i = (i ≤ n) × (firstOf (recordFault b) 0 n ≡ rest (recordFault b) n i)
+Inv-loop b n i₀ low₀ high₀ i low high = (i ≤ n) × Within low high b i × (firstOf (recordFault b) 0 n ≡ rest (recordFault b) n i)
 
 abbrev μ-loop : tie.MeasureT-loop
-μ-loop b n i₀ i = n - i
+μ-loop b n i₀ low₀ high₀ i low high = n - i
 
 loop-holds : tie.Need-loop-holds Inv-loop μ-loop
-loop-holds c = (omega arith, search first-start)
+loop-holds c = (omega arith, within-none _ _ _, search first-start)
 
 returns : tie.Need-returns Inv-loop μ-loop
 unfolding recordsFault
 returns c = search first-stop
 
 loop-again : tie.Need-loop-again Inv-loop μ-loop
-loop-again c = (omega arith, search first-go)
+loop-again c = (omega arith, search within-more, search first-go)
 
 returns-2 : tie.Need-returns-2 Inv-loop μ-loop
 unfolding recordsFault
@@ -32,4 +34,4 @@ returns-2 c = search first-none
 pub fault-spec : {M : Type 1} → statement M
 fault-spec =
     tie.close
-    (tie.spec Inv-loop μ-loop loop-holds (λ c κs. search needs) returns (λ c. search needs) (λ c. search needs) loop-again returns-2)
+    (tie.spec Inv-loop μ-loop loop-holds (λ c κs. search needs) returns (λ c. search needs) (λ c κs. search needs) (λ c κs. search needs) (λ c κs. search needs) (λ c. search needs) (λ c. search needs) loop-again returns-2)
