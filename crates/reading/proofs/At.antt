@@ -1,5 +1,7 @@
 -- A descriptor at a place: what its fields are behind the end, and where the next one stands. Assumes nothing.
-use borrow.Author.Tests.{lt-ltb, le-ltb}
+use borrow.Author.Tests.{lt-ltb, le-ltb, leb-true}
+use lib.Dec.{leb}
+use mathlib.Core.Bool.{Bool, true}
 use mathlib.Core.Path.{_≡_, refl, sym, ap, _∙_}
 use mathlib.Core.List.{List, []}
 use Prim.Native.Nat.{ℕ, _+_, _≤_, _<_}
@@ -36,6 +38,20 @@ module _ (s : List ℕ) (at : ℕ) where
   pub body-short : (b : List ℕ) → b ≡ descAt s at .body → Bytes s → length b < 256
   unfolding descAt lengthAt
   body-short b e u = rw e (omega (arith, length-take (getD s (at + 3) 0) (drop (at + 4) s), u (at + 3)))
+
+-- where the four header bytes were received, each of them stands there
+module _ (r : Bool) (at n : ℕ) (e : r ≡ leb (at + 4) n) (t : r ≡ true) where
+  all-stand : at + 4 ≤ n
+  all-stand = leb-true (at + 4) n (sym e ∙ t)
+
+  pub number-stands : at + 2 ≤ n
+  number-stands = omega (arith, all-stand)
+
+  pub flags-stand : at + 2 < n
+  flags-stand = omega (arith, all-stand)
+
+  pub length-stand : at + 3 < n
+  length-stand = omega (arith, all-stand)
 
 -- the empty part at the end is the body there
 pub body-behind : (s r : RefT (List ℕ)) (at : ℕ) → length (now s) ≤ at → PartOf s at (take 0 (drop at (now s))) r → PartOf s (at + 4) (descAt (now s) at .body) r

@@ -2,7 +2,7 @@
 ghost use mathlib.Core.Path.{_≡_};
 ghost use mathlib.Core.Bool.{not, _&&_};
 ghost use Prim.Native.Nat.{_+_, _≤_};
-ghost use lib.Dec.{eqb};
+ghost use lib.Dec.{leb, eqb};
 ghost use lib.ListN.{length, drop};
 ghost use Rattle.fields.specs.Part.{PartOf};
 ghost use Rattle.text.specs.Flags.{current};
@@ -44,15 +44,34 @@ enum Walk {
 
 // ---- a descriptor at a place; behind the end of s there is an empty one whose fields are 0
 
+// Whether the four header bytes at a place were received. Each accessor looks first, so that where several read one descriptor one look serves them all.
+fn headed(s: &[u8], at: usize) -> bool
+    ensures { λ r. ⌜ r ≡ leb (at + 4) (length (now (s .entry))) ⌝ }
+{
+    if s.len() < 4 {
+        return false;
+    }
+    if s.len() - 4 < at {
+        return false;
+    }
+    true
+}
+
 pub fn number_at(s: &[u8], at: usize) -> Feature
     ensures { λ r. ⌜ r .0 ≡ numberAt (now (s .entry)) at ⌝ }
 {
+    if headed(s, at) {
+        return Feature(fields::inside2(s, at));
+    }
     Feature(fields::get2(s, at))
 }
 
 pub fn flags_at(s: &[u8], at: usize) -> Flags
     ensures { λ r. ⌜ r .0 ≡ flagsAt (now (s .entry)) at ⌝ }
 {
+    if headed(s, at) {
+        return Flags(fields::inside(s, at + 2));
+    }
     if s.len() <= at {
         return Flags(0);
     }
@@ -63,6 +82,9 @@ pub fn flags_at(s: &[u8], at: usize) -> Flags
 pub fn length_at(s: &[u8], at: usize) -> u8
     ensures { λ r. ⌜ r ≡ lengthAt (now (s .entry)) at ⌝ }
 {
+    if headed(s, at) {
+        return fields::inside(s, at + 3);
+    }
     if s.len() <= at {
         return 0;
     }
