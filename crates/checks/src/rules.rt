@@ -1,7 +1,7 @@
 // The rules for one descriptor, and the first descriptor that breaks one.
 ghost use mathlib.Core.Path.{_≡_};
 ghost use mathlib.Core.Bool.{_||_};
-ghost use Prim.Native.Nat.{_/_, _<_};
+ghost use Prim.Native.Nat.{_+_, _/_, _%_, _<_};
 ghost use lib.ListN.{length, getD};
 ghost use Rattle.fields.specs.Field.{field};
 ghost use Rattle.refusal.specs.First.{firstOf};
@@ -10,6 +10,7 @@ ghost use Rattle.checks.specs.Rules.{flagsFault, tooShort, tooLong, wron
 ghost use Rattle.reading.specs.Places.{descs};
 ghost use Rattle.reading.specs.Completed.{completeFault};
 ghost use Rattle.checks.specs.Check.{firstFinding};
+ghost use Rattle.checks.specs.inner.Periodic.{periodicAt};
 use super::Finding;
 use super::legal;
 use super::legal::Length;
@@ -147,8 +148,37 @@ fn reserved_rule(byte: u8, mask: u8) -> Refusal
 
 // ---- the rules, over a body
 
-// 36 anywhere in a body.
-fn reserved_fault(row: Row, body: &[u8]) -> Refusal
+// The place behind a place, of twelve.
+// Asks: one of the twelve.
+fn behind(j: usize) -> usize
+    requires { ⌜ j < 12 ⌝ }
+    ensures { λ r. ⌜ r ≡ (j + 1) % 12 ⌝ }
+{
+    if j == 11 {
+        return 0;
+    }
+    j + 1
+}
+
+// 36 anywhere in a body whose bits the row's bytes tell over and over. The place among them goes along, so that no byte costs a division.
+fn periodic_fault(masks: [u8; 12], body: &[u8]) -> Refusal
+    ensures { λ r. ⌜ r ≡ firstOf (periodicAt masks (now (body .entry))) 0 (length (now (body .entry))) ⌝ }
+{
+    let mut k = 0;
+    let mut j = 0;
+    while k < body.len() {
+        let fault = reserved_rule(body[k], masks[j]);
+        if fault.number != 0 {
+            return fault;
+        }
+        k += 1;
+        j = behind(j);
+    }
+    refusal::ACCEPTED
+}
+
+// 36 anywhere in a body whose bits byte 7 counts.
+fn counted_fault(row: Row, body: &[u8]) -> Refusal
     ensures { λ r. ⌜ r ≡ firstOf (reservedAt row (now (body .entry))) 0 (length (now (body .entry))) ⌝ }
 {
     let n = fields::byte(body, 3);
@@ -164,13 +194,26 @@ fn reserved_fault(row: Row, body: &[u8]) -> Refusal
     refusal::ACCEPTED
 }
 
+// 36 anywhere in a body.
+fn reserved_fault(row: Row, body: &[u8]) -> Refusal
+    ensures { λ r. ⌜ r ≡ firstOf (reservedAt row (now (body .entry))) 0 (length (now (body .entry))) ⌝ }
+{
+    let length = row.1;
+    let masks = row.2;
+    match length {
+        Length::Any => periodic_fault(masks, body),
+        Length::Exactly(_) => periodic_fault(masks, body),
+        Length::Counted => counted_fault(row, body),
+    }
+}
+
 // 39 at profile i.
 // Asks: an index inside the profile list; the walk stops at its end.
 fn profile_at(body: &[u8], i: usize) -> Refusal
     requires { ⌜ i < length (now body) / 4 ⌝ }
     ensures { λ r. ⌜ r ≡ profileAt (now (body .entry)) i ⌝ }
 {
-    let number = Profile(fields::get2(body, 4 * i));
+    let number = Profile(fields::inside2(body, 4 * i));
     if number.0 == 0 {
         return refusal::PROFILE_ZERO;
     }

@@ -1,35 +1,16 @@
--- `checks::rules::reserved_fault` meets its contract: the loop carries what is left of the search.
+-- `checks::rules::reserved_fault` meets its contract, by the cases of the length.
+use Rattle.checks.proofs.Reserved.{periodic-any, periodic-exactly}
 use borrow.Author.Needs.{needs}
-use Prim.Native.Nat.{_≤_, _-_}
-use mathlib.Core.Path.{_≡_}
-use native.Mathlib.Omega.{arith}
-use lib.ListN.{length}
-use Rattle.refusal.specs.First.{firstOf}
-use Rattle.refusal.proofs.First.{rest, first-start, first-stop, first-go, first-none}
-use Rattle.checks.specs.Rules.{reservedAt}
-use Rattle.checks.proofs.Reserved.{reserved-is}
 use Rattle.checks.proofs.rules.reserved_fault.Statement.{statement}
 use Rattle.checks.proofs.rules.reserved_fault.Tie as tie
 
-abbrev Inv-loop : tie.InvT-loop
-Inv-loop row body n k₀ k = (k ≤ length body) × (firstOf (reservedAt row body) 0 (length body) ≡ rest (reservedAt row body) (length body) k)
+returns : tie.Need-returns
+returns c = let a = c .before .before .before .before .before .args in periodic-any (a .row) (a .body .now) _ (c .periodic-fault .ensures) (c .before .enum-told .given .1)
 
-abbrev μ-loop : tie.MeasureT-loop
-μ-loop row body n k₀ k = length body - k
-
-loop-holds : tie.Need-loop-holds Inv-loop μ-loop
-loop-holds c = (omega arith, search first-start)
-
-returns : tie.Need-returns Inv-loop μ-loop
-returns c = search (first-stop, reserved-is)
-
-loop-again : tie.Need-loop-again Inv-loop μ-loop
-loop-again c = (omega arith, search (first-go, reserved-is))
-
-returns-2 : tie.Need-returns-2 Inv-loop μ-loop
-returns-2 c = search first-none
+returns-2 : tie.Need-returns-2
+returns-2 c = let a = c .before .before .before .before .before .args in periodic-exactly (a .row) (a .body .now) _ (c .periodic-fault2 .ensures) _ (c .before .enum-told2 .given .1)
 
 pub reserved-fault-spec : {M : Type 1} → statement M
 reserved-fault-spec =
     tie.close
-    (tie.spec Inv-loop μ-loop (λ c κs. search needs) loop-holds (λ c κs. search needs) (λ c. search needs) (λ c κs. search needs) returns (λ c. search needs) (λ c. search needs) loop-again returns-2)
+    (tie.spec (λ c. search needs) (λ c κs. search needs) (λ c. search needs) (λ c κs. search needs) (λ c. search needs) (λ c κs. search needs) returns returns-2 (λ c. search needs))
