@@ -23,6 +23,7 @@ use Rattle.fields.proofs.inside as inside
 use Rattle.fields.proofs.inside2 as inside2
 use Rattle.fields.proofs.inside4 as inside4
 use Rattle.lent.proofs.place as place
+use Rattle.lent.proofs.place4 as place4
 use Rattle.profiles.proofs.fault as profiles-fault
 use Rattle.layout.proofs.entry_in as entry-in
 use Rattle.layout.proofs.head_part as head-part
@@ -80,6 +81,13 @@ place-decided x = decides-asking (x .𝓤) (λ o o′ p q. (same p q .0, same p 
 pub place-tied : PromisedAsking place.ended (λ M. place.clauses) (λ M. place.spec) (λ x. x .args .1 .0 + length (x .args .1 .1 .0 .now) ≤ length (x .args .0 .now))
     (λ x o. Wrote (x .args .0 .now) (x .args .1 .0) (x .args .1 .1 .0 .now) (o .0) (o .1 .0))
 place-tied x = promises-asking (x .𝓤) (λ o e. e)
+
+pub place4-decided : DecidedAsking place4.ended (λ M. place4.clauses) (λ M. place4.spec) (λ x. (length (x .args .1 .1 .0 .now) ≡ 4) × (x .args .1 .0 + 4 ≤ length (x .args .0 .now))) (λ κs r. r)
+place4-decided x = decides-asking (x .𝓤) (λ o o′ p q. (same p q .0, same p q .1 & refl))
+
+pub place4-tied : PromisedAsking place4.ended (λ M. place4.clauses) (λ M. place4.spec) (λ x. (length (x .args .1 .1 .0 .now) ≡ 4) × (x .args .1 .0 + 4 ≤ length (x .args .0 .now)))
+    (λ x o. Wrote (x .args .0 .now) (x .args .1 .0) (x .args .1 .1 .0 .now) (o .0) (o .1 .0))
+place4-tied x = promises-asking (x .𝓤) (λ o e. e)
 
 -- ---- profiles
 

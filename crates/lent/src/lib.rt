@@ -84,9 +84,9 @@ pub fn place4(out: &mut [u8], at: usize, part: &[u8]) -> usize
     requires { ⌜ (length (now part) ≡ 4) × (at + 4 ≤ length (now out)) ⌝ }
     ensures { λ r. ⌜ Wrote (now (out .entry)) at (now (part .entry)) r (now (out .exit)) ⌝ }
 {
-    let end = at + 4;
-    blocks::four(part, &mut out[at..end]);
-    end
+    let behind = at + 4;
+    blocks::four(part, &mut out[at..behind]);
+    behind
 }
 
 // Copies a part of something else.
