@@ -32,6 +32,20 @@ module _ (s : List ℕ) (sfn low high : ℕ) where
   closing-done zero l = refl
   closing-done (suc k) l = rw (le-ltb low high l, closing)
 
+-- no number is below 0
+closing-zero : (k : ℕ) (s : List ℕ) (low high : ℕ) → closing k s 0 low high ≡ low
+unfolding closing
+closing-zero zero s low high = refl
+closing-zero (suc k) s low high =
+    elim (decLe (suc low) high) [
+      | yes l ↦ closing-more s 0 low high k l ∙ rw (half-below s 0 low high (omega arith)) (closing-zero k s low (middle low high))
+      | no l ↦ closing-done s 0 low high (suc k) (omega arith)
+    ]
+
+pub first-of-all : (s : List ℕ) (n sfn : ℕ) → sfn ≡ 0 → 0 ≡ firstFrom s n sfn
+unfolding firstFrom
+first-of-all s n sfn e = rw e (sym (closing-zero n s 0 n))
+
 -- ---- the loop: what is left of the search, with turns enough for the range
 
 pub record Turning (s : List ℕ) (n sfn low high : ℕ) : Type 0 where

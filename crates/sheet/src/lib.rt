@@ -152,6 +152,10 @@ fn halved(s: &[u8], sfn: Feature, low: u16, high: u16) -> Range
 pub fn first_from(s: &[u8], n: u16, sfn: Feature) -> u16
     ensures { λ r. ⌜ r ≡ firstFrom (now (s .entry)) n (sfn .0) ⌝ }
 {
+    // no number is below 0
+    if sfn.0 == 0 {
+        return 0;
+    }
     let mut low: u16 = 0;
     let mut high = n;
     while low < high {
