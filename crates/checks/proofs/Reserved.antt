@@ -7,7 +7,6 @@ use lib.ListN.{length, getD}
 use Rattle.refusal.specs.declared.Refusal.{Refusal}
 use Rattle.refusal.specs.First.{firstOf}
 use Rattle.checks.specs.declared.legal.Row.{Row}
-use Rattle.checks.specs.declared.legal.Length.{Length}
 use Rattle.checks.specs.declared.legal.Length.the-variants.{Any, Exactly}
 use Rattle.checks.specs.inner.Periodic.{periodicAt}
 use Rattle.checks.specs.Rules.{maskAt, reservedRule, reservedAt}

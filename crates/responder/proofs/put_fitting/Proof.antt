@@ -1,5 +1,5 @@
 -- `responder::put_fitting` meets its contract: the loop has written the entries passed.
-use mathlib.Core.Path.{_≡_, sym, _∙_}
+use mathlib.Core.Path.{sym, _∙_}
 use borrow.Author.Needs.{needs}
 use borrow.Author.Tests.{not-false, leb-true}
 use Prim.Native.Nat.{_+_, _-_, _≤_}
