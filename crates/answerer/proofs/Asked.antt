@@ -1,59 +1,40 @@
--- What the box answers to RT 0 from 0 with the highest allocation length: the sheet's refusal, or what is sent. Assumes nothing.
-use mathlib.Core.Path.{_≡_, refl, ap, _∙_}
-use mathlib.Core.List.{List, [], _∷_}
+-- What the box answers to any command with a buffer that has room for the longest answer: the sheet's refusal, then the command's, or the bytes due. Assumes nothing.
+use mathlib.Core.Path.{_≡_, refl, sym, _∙_}
+use mathlib.Core.List.{List}
 use Prim.Native.Nat.{ℕ, zero, suc, _≤_}
 use native.Mathlib.Omega.{arith}
 use lib.ListN.{length, drop, length-append}
-use Rattle.fields.specs.Field.{field}
-use Rattle.refusal.specs.First.{_if_else_, unless}
-use Rattle.text.specs.Command.{commandFault, opcodeOf, rtOf, sfnOf, allocationOf}
-use Rattle.text.specs.Response.{sent}
+use Rattle.refusal.specs.declared.Refusal.{Refusal}
+use Rattle.refusal.specs.First.{_orElse_, unless}
+use Rattle.text.specs.Command.{commandFault, rtOf, sfnOf, allocationOf}
 use Rattle.refusal.proofs.First.{unless-none, unless-fault}
 use Rattle.lent.specs.Maker.{refusing, making}
-use Rattle.lent.proofs.Maker.{makes-made, makes-after}
+use Rattle.lent.proofs.Maker.{makes-made, makes-fault}
 use Rattle.text.proofs.Sent.{length-sent}
 use Rattle.sheet.specs.Check.{verdict}
 use Rattle.sheet.specs.Meaning.{meaning}
 use Rattle.responder.specs.Answer.{due, answered}
 
--- the command
-abbrev pub ask : List ℕ
-ask = 0x46 ∷ 0 ∷ 0 ∷ 0 ∷ 0 ∷ 0 ∷ 0 ∷ 255 ∷ 255 ∷ 0 ∷ []
+module _ (s c d : List ℕ) (h : 65534 ≤ length d) where
+  abbrev fault : Refusal
+  fault = verdict s orElse commandFault c
 
-ask-good : commandFault ask .number ≡ 0
-unfolding commandFault opcodeOf rtOf _if_else_
-ask-good = refl
+  due-most : length (due s c) ≤ 65534
+  due-most = omega (arith, length-sent (rtOf c) (sfnOf c) (allocationOf c) (meaning s))
 
-ask-rt : rtOf ask ≡ 0
-unfolding rtOf
-ask-rt = refl
-
-ask-sfn : sfnOf ask ≡ 0
-unfolding sfnOf field
-ask-sfn = refl
-
-ask-allocation : allocationOf ask ≡ 65535
-unfolding allocationOf field
-ask-allocation = refl
-
-module _ (s d : List ℕ) (h : 65534 ≤ length d) where
-  abbrev out : List ℕ
-  out = sent 0 0 65535 (meaning s)
-
-  sent-most : length out ≤ 65534
-  sent-most = omega (arith, length-sent 0 0 65535 (meaning s))
-
-  pub asked : answered s ask d ≡ unless (verdict s) (refusing d) (making out d)
+  pub asked : answered s c d ≡ unless fault (refusing d) (making (due s c) d)
   unfolding answered
-  asked =
-      makes-after (verdict s) (commandFault ask) 12 (due s ask) d
-      ∙ ap (unless (verdict s) (refusing d)) (rw (ask-rt, ask-sfn, ask-allocation) (makes-made (commandFault ask) 12 out d ask-good (omega (arith, sent-most))))
+  asked = go (fault .number) refl
+    where
+      go : (n : ℕ) → fault .number ≡ n → answered s c d ≡ unless fault (refusing d) (making (due s c) d)
+      go zero e = makes-made fault 12 (due s c) d e (omega (arith, due-most)) ∙ sym (unless-none fault (refusing d) (making (due s c) d) e)
+      go (suc n) e = makes-fault fault 12 (due s c) d (λ z. omega arith) ∙ sym (unless-fault fault (refusing d) (making (due s c) d) (λ z. omega arith))
 
   -- a count of bytes that are there
-  pub asked-count : answered s ask d .made .count ≤ length (answered s ask d .buffer)
+  pub asked-count : answered s c d .made .count ≤ length (answered s c d .buffer)
   unfolding refusing making
-  asked-count = rw asked (go (verdict s .number) refl)
+  asked-count = rw asked (go (fault .number) refl)
     where
-      go : (n : ℕ) → verdict s .number ≡ n → unless (verdict s) (refusing d) (making out d) .made .count ≤ length (unless (verdict s) (refusing d) (making out d) .buffer)
-      go zero e = rw (unless-none (verdict s) (refusing d) (making out d) e) (omega (arith, length-append out (drop (length out) d)))
-      go (suc n) e = rw (unless-fault (verdict s) (refusing d) (making out d) (λ z. omega arith)) (omega arith)
+      go : (n : ℕ) → fault .number ≡ n → unless fault (refusing d) (making (due s c) d) .made .count ≤ length (unless fault (refusing d) (making (due s c) d) .buffer)
+      go zero e = rw (unless-none fault (refusing d) (making (due s c) d) e) (omega (arith, length-append (due s c) (drop (length (due s c)) d)))
+      go (suc n) e = rw (unless-fault fault (refusing d) (making (due s c) d) (λ z. omega arith)) (omega arith)

@@ -1,10 +1,11 @@
 // Reads a response from standard input and says in words what is wrong with its descriptors, and whether it has what a profile requires: the
-// one that the argument names, else each listed one that has a table.
+// one that is asked for, else each listed one that has a table. Of a response that is refused it says only why. Arguments: RT, starting feature number, allocation
+// length (`asked`), profile.
+use checks::Finding;
 use checks::Judgement;
-use libc::STDERR_FILENO;
-use libc::STDIN_FILENO;
 use libc::STDOUT_FILENO;
 use refusal::Refusal;
+use streams::say;
 use text::Feature;
 use text::Header;
 use text::Profile;
@@ -12,18 +13,7 @@ use text::Profile;
 // One byte more than a response may have: an input that fills it is refused, not shortened.
 const ROOM: usize = Header::RETURN_LIMIT + 1;
 
-// The profiles that are asked for.
-enum Asked {
-    Listed,
-    One(Profile),
-    Malformed,
-}
-
 // ---- words
-
-fn say(what: &[u8]) {
-    io::write_all(STDOUT_FILENO, what);
-}
 
 fn say_feature(feature: Feature) {
     say(b"feature ");
@@ -37,24 +27,17 @@ fn say_profile(profile: Profile) {
 
 // ---- the descriptors
 
-// Where a fault is. Numbers under 30 are of the whole response, not of a feature.
-fn say_place(number: u8, feature: Feature) {
-    if number < 30 {
-        return;
-    }
+fn say_fault(refusal: Refusal, feature: Feature) {
+    streams::mark_fault();
+    streams::say_decimal(refusal.number as u64);
     say(b" in ");
     say_feature(feature);
-}
-
-fn say_fault(refusal: Refusal, feature: Feature) {
-    io::print_decimal(STDOUT_FILENO, refusal.number as u64);
-    say_place(refusal.number, feature);
     say(b": ");
     words::say_meaning(STDOUT_FILENO, refusal);
+    say(b"\n");
 }
 
-fn say_descriptors(s: &[u8]) {
-    let finding = checks::check_descriptors(s);
+fn say_descriptors(finding: Finding) {
     let refusal = finding.refusal;
     say(b"descriptors: ");
     if refusal.number == 0 {
@@ -62,18 +45,19 @@ fn say_descriptors(s: &[u8]) {
         return;
     }
     say_fault(refusal, finding.feature);
-    say(b"\n");
 }
 
 // ---- the profiles
 
 fn say_missing(feature: Feature) {
+    streams::mark_fault();
     say_feature(feature);
     say(b" is missing\n");
 }
 
 fn say_refused(refusal: Refusal) {
-    io::print_decimal(STDOUT_FILENO, refusal.number as u64);
+    streams::mark_fault();
+    streams::say_decimal(refusal.number as u64);
     say(b": ");
     words::say_meaning(STDOUT_FILENO, refusal);
     say(b"\n");
@@ -127,76 +111,51 @@ fn say_listed(s: &[u8]) {
     }
 }
 
-// ---- the argument
-
-// The value of a hexadecimal digit, 16 for any other byte.
-fn value(byte: u8) -> u8 {
-    match byte {
-        b'0'..=b'9' => byte - b'0',
-        b'A'..=b'F' => byte - b'A' + 10,
-        b'a'..=b'f' => byte - b'a' + 10,
-        _ => 16,
+// The profiles that are asked for. A response to RT 1 leaves out what is not current, so that no profile can be judged by it.
+fn say_profiles(s: &[u8]) {
+    if asked::rt() != 0 {
+        return;
     }
+    if streams::given(4) {
+        say_judged(Profile(streams::arg(4)), s);
+        return;
+    }
+    say_listed(s);
 }
 
-// The profile that a word of 1 to 4 hexadecimal digits spells. Of more digits the last four count, and no caller has more.
-fn spelt(word: &[u8]) -> Asked {
-    if word.len() == 0 {
-        return Asked::Malformed;
+// ---- the program
+
+// What is refused of the response as a whole. Numbers from 30 on are of a feature.
+fn whole_fault(finding: Finding, s: &[u8]) -> Refusal {
+    let fault = asked::fault(s);
+    if fault.number != 0 {
+        return fault;
     }
-    let mut number: u16 = 0;
-    let mut i = 0;
-    while i < word.len() {
-        let d = value(word[i]);
-        if d > 15 {
-            return Asked::Malformed;
-        }
-        number = number % 4096 * 16 + d as u16;
-        i += 1;
+    let fault = finding.refusal;
+    if fault.number < 30 {
+        return fault;
     }
-    Asked::One(Profile(number))
+    refusal::ACCEPTED
 }
 
-// What the arguments ask for. One of more than 4 bytes counts as empty.
-fn what_asked() -> Asked {
-    let count = os::arg_count();
-    if count < 2 {
-        return Asked::Listed;
+fn check(s: &[u8]) {
+    let finding = checks::check_descriptors(s);
+    let fault = whole_fault(finding, s);
+    if fault.number != 0 {
+        streams::mark_fault();
+        words::say_refused(STDOUT_FILENO, fault, 0, 0);
+        return;
     }
-    if count > 2 {
-        return Asked::Malformed;
-    }
-    let mut word = [0u8; 4];
-    let length = os::arg(1, &mut word);
-    spelt(&word[..length])
-}
-
-fn say_usage() {
-    io::write_all(
-        STDERR_FILENO,
-        b"usage: checker [PROFILE], a profile number of 1 to 4 hexadecimal digits\n",
-    );
-}
-
-fn check_listed() {
-    let mut input = [0u8; ROOM];
-    let received = io::read_full(STDIN_FILENO, &mut input);
-    say_descriptors(&input[..received]);
-    say_listed(&input[..received]);
-}
-
-fn check_one(profile: Profile) {
-    let mut input = [0u8; ROOM];
-    let received = io::read_full(STDIN_FILENO, &mut input);
-    say_descriptors(&input[..received]);
-    say_judged(profile, &input[..received]);
+    say_descriptors(finding);
+    say_profiles(s);
 }
 
 fn main() {
-    let asked = what_asked();
-    match asked {
-        Asked::Listed => check_listed(),
-        Asked::One(profile) => check_one(profile),
-        Asked::Malformed => say_usage(),
+    let mut input = [0u8; ROOM];
+    let got = streams::read(&mut input);
+    let count = got.count;
+    if !got.failed {
+        check(&input[..count]);
     }
+    streams::mark_end();
 }

@@ -8,8 +8,6 @@ ghost use Rattle.capture.specs.Capture.{captureFault};
 ghost use Rattle.import.specs.Import.{sheetFrom};
 use lent::Made;
 use libc::STDERR_FILENO;
-use libc::STDIN_FILENO;
-use libc::STDOUT_FILENO;
 use refusal::Refusal;
 use text::Feature;
 use text::Header;
@@ -30,10 +28,6 @@ fn sheet_of(s: &[u8], sheet: &mut [u8; LONGEST]) -> Made
 
 // ---- words
 
-fn say(what: &[u8]) {
-    io::write_all(STDERR_FILENO, what);
-}
-
 // The feature number of an entry that the sheet would have, counted from 1: its descriptor stands as many places behind feature 0's.
 fn feature_of(response: &[u8], entry: u16) -> Feature {
     let mut at = Header::LENGTH;
@@ -47,6 +41,7 @@ fn feature_of(response: &[u8], entry: u16) -> Feature {
 
 // A refusal, with the profile or the entry that it names.
 fn say_refused(refusal: Refusal, response: &[u8]) {
+    streams::mark_fault();
     let profiles = reading::body_at(response, Header::LENGTH).len() / 4;
     let feature = feature_of(response, refusal.place);
     words::say_refused(STDERR_FILENO, refusal, profiles as u64, feature.0);
@@ -54,18 +49,24 @@ fn say_refused(refusal: Refusal, response: &[u8]) {
 
 // ---- the program
 
-fn main() {
-    let mut input = [0u8; ROOM];
-    let received = io::read_full(STDIN_FILENO, &mut input);
+fn import_from(s: &[u8]) {
     let mut sheet = [0u8; LONGEST];
-    let imported = sheet_of(&input[..received], &mut sheet);
+    let imported = sheet_of(s, &mut sheet);
     let refusal = imported.refusal;
     if refusal.number != 0 {
-        say_refused(refusal, &input[..received]);
+        say_refused(refusal, s);
         return;
     }
     let count = imported.count;
-    if !io::write_all(STDOUT_FILENO, &sheet[..count]) {
-        say(b"importer: not all of the sheet could be written\n");
+    streams::say(&sheet[..count]);
+}
+
+fn main() {
+    let mut input = [0u8; ROOM];
+    let got = streams::read(&mut input);
+    let count = got.count;
+    if !got.failed {
+        import_from(&input[..count]);
     }
+    streams::mark_end();
 }

@@ -1,11 +1,8 @@
-// Reads a response from standard input and prints its listing.
+// Reads a response from standard input and prints its listing. Arguments: RT, starting feature number, allocation length (`asked`).
 ghost use mathlib.Core.Path.{_≡_};
 ghost use lib.ListN.{take};
 ghost use Rattle.io.specs.Counts.{Counts};
 ghost use Rattle.listing.specs.Listing.{listing};
-use libc::STDERR_FILENO;
-use libc::STDIN_FILENO;
-use libc::STDOUT_FILENO;
 use text::Header;
 
 // One byte more than a response may have: an input that fills it is refused, not shortened.
@@ -19,15 +16,47 @@ fn listed(s: &[u8], text: &mut [u8; listing::LONGEST]) -> usize
     listing::list(s, text)
 }
 
+// A listing of a response that is read as RT 0 from 0, or the refusal of that reading, which alone begins with a small letter. What a reading of another RT or start
+// accepts, that of RT 0 from 0 accepts too, with the same values.
+fn say_listed(s: &[u8]) {
+    let mut text = [0u8; listing::LONGEST];
+    let count = listed(s, &mut text);
+    if text[0] == b'r' {
+        streams::mark_fault();
+    }
+    streams::say(&text[..count]);
+}
+
+fn say_refused(number: u8) {
+    streams::mark_fault();
+    streams::say(b"refused ");
+    streams::say_decimal(number as u64);
+    streams::say(b"\n");
+}
+
+fn say_asked(s: &[u8]) {
+    let fault = asked::fault(s);
+    if fault.number != 0 {
+        say_refused(fault.number);
+        return;
+    }
+    say_listed(s);
+}
+
+fn list(s: &[u8]) {
+    if asked::plain() {
+        say_listed(s);
+        return;
+    }
+    say_asked(s);
+}
+
 fn main() {
     let mut input = [0u8; ROOM];
-    let received = io::read_full(STDIN_FILENO, &mut input);
-    let mut text = [0u8; listing::LONGEST];
-    let count = listed(&input[..received], &mut text);
-    if !io::write_all(STDOUT_FILENO, &text[..count]) {
-        io::write_all(
-            STDERR_FILENO,
-            b"lister: not all of the listing could be written\n",
-        );
+    let got = streams::read(&mut input);
+    let count = got.count;
+    if !got.failed {
+        list(&input[..count]);
     }
+    streams::mark_end();
 }

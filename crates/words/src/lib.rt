@@ -2,7 +2,7 @@
 use refusal::Refusal;
 
 fn say(fd: i32, what: &[u8]) {
-    io::write_all(fd, what);
+    streams::say_to(fd, what);
 }
 
 // A sheet's numbers, and a command's.
@@ -131,13 +131,13 @@ fn say_line(fd: i32, refusal: Refusal, profiles: u64, feature: u16) {
     }
     if refusal.number == refusal::PROFILE_BAD.number {
         say(fd, b" at profile ");
-        io::print_decimal(fd, refusal.place as u64);
+        streams::say_decimal_to(fd, refusal.place as u64);
         say(fd, b" of ");
-        io::print_decimal(fd, profiles);
+        streams::say_decimal_to(fd, profiles);
         return;
     }
     say(fd, b" at entry ");
-    io::print_decimal(fd, refusal.place as u64);
+    streams::say_decimal_to(fd, refusal.place as u64);
     say(fd, b", feature ");
     say_hex4(fd, feature);
     say(fd, b"h");
@@ -146,7 +146,7 @@ fn say_line(fd: i32, refusal: Refusal, profiles: u64, feature: u16) {
 // Says `refused`, the number, the line at fault of a sheet with so many profiles, whose entry there has this feature number, and what the number means.
 pub fn say_refused(fd: i32, refusal: Refusal, profiles: u64, feature: u16) {
     say(fd, b"refused ");
-    io::print_decimal(fd, refusal.number as u64);
+    streams::say_decimal_to(fd, refusal.number as u64);
     say_line(fd, refusal, profiles, feature);
     say(fd, b": ");
     say_meaning(fd, refusal);

@@ -10,4 +10,4 @@ slice-aggregate-answer-input : tie.Need-slice-aggregate-answer-input
 slice-aggregate-answer-input c = sym (length-replicate {A = ℕ} 1048577 0)
 
 pub main-spec : {M : Type 1} → statement M
-main-spec = tie.close (tie.spec slice-aggregate-answer-input (λ c κs. search needs) (λ c. search needs))
+main-spec = tie.close (tie.spec slice-aggregate-answer-input (λ c κs. search needs) (λ c κs. search needs) (λ c. search needs))

@@ -1,0 +1,89 @@
+// Reads a drive sheet from standard input, runs the bench sweep against it and tells its rounds and totals. Arguments: RT, `-`, allocation length (`asked`), and
+// whether the collected descriptors are to be written as one response.
+use streams::say;
+use streams::say_decimal;
+use text::Feature;
+use text::Header;
+use text::Profile;
+
+// The longest sheet that is taken, as for an answer; no more bytes than it has can be collected from it.
+const MOST: usize = 1048576;
+
+// One byte more: an input that fills it is too long, and is not shortened.
+const ROOM: usize = MOST + 1;
+
+// No sweep has more commands.
+const STARTS: usize = 65536;
+
+// A line for each start that was noted: the box is asked again, and gives the same bytes.
+fn say_rounds(sheet: &[u8], rt: u8, a: u16, starts: &[u16], commands: u32, response: &mut [u8]) {
+    let mut i = 0;
+    while i < starts.len() {
+        if commands as usize <= i {
+            return;
+        }
+        let start = Feature(starts[i]);
+        let reply = responder::send(sheet, rt, start, a, response);
+        told::say_round(rt, start, fields::part(response, 0, reply.count));
+        i += 1;
+    }
+}
+
+// What is promised of the totals.
+fn say_bound(commands: u32, most: usize, collected: usize) {
+    say(b"bound: (");
+    say_decimal(commands as u64);
+    say(b" - 1) * (");
+    say_decimal(most as u64);
+    say(b" - 8) < 2 * ");
+    say_decimal(collected as u64);
+    say(b"\n");
+}
+
+// And that no list of starts receives all that was collected in fewer commands.
+fn say_fewest(commands: u32) {
+    say(b"no list of starts takes fewer than ");
+    say_decimal(commands as u64);
+    say(b"\n");
+}
+
+fn sweep(sheet: &[u8], response: &mut [u8], collected: &mut [u8], starts: &mut [u16]) {
+    let rt = asked::rt();
+    let a = streams::arg(3);
+    let benched = bench::bench(sheet, rt, a, response, collected, starts);
+    let refusal = benched.refusal;
+    if refusal.number != 0 {
+        told::say_sheet_refused(refusal, sheet);
+        return;
+    }
+    let profile = Profile(fields::get2(response, 6));
+    say_rounds(sheet, rt, a, starts, benched.commands, response);
+    told::say_totals(benched.commands, benched.collected);
+    say_bound(benched.commands, text::most(a), benched.collected);
+    say_fewest(benched.commands);
+    if streams::given(4) {
+        told::put_response(profile, fields::part(collected, 0, benched.collected));
+    }
+}
+
+fn sweep_input(input: &mut [u8], collected: &mut [u8], starts: &mut [u16]) {
+    let got = streams::read(input);
+    if got.failed {
+        return;
+    }
+    let count = got.count;
+    if count > MOST {
+        told::say_sheet_too_long();
+        return;
+    }
+    let mut response = [0u8; Header::RETURN_LIMIT];
+    sweep(&input[..count], &mut response, collected, starts);
+}
+
+fn main() {
+    let mut input = [0u8; ROOM];
+    let mut collected = [0u8; MOST];
+    let mut starts = [0u16; STARTS];
+    sweep_input(&mut input, &mut collected, &mut starts);
+    streams::mark_end();
+}

@@ -1,0 +1,79 @@
+// What the programs tell of a sweep and of a sheet: a line a round, the totals, the collected descriptors as one response, the line of a sheet that is refused.
+use libc::STDERR_FILENO;
+use libc::STDOUT_FILENO;
+use refusal::Refusal;
+use streams::say;
+use streams::say_decimal;
+use text::Feature;
+use text::Header;
+use text::Profile;
+
+// The descriptor that a response goes to: the front-end has opened a file there.
+const RESPONSE: i32 = 5;
+
+// A round: the start of its command, the bytes that came, and what a reading of them gives.
+pub fn say_round(rt: u8, start: Feature, response: &[u8]) {
+    let reading = reading::read(rt, start, response);
+    say(b"start ");
+    words::say_hex4(STDOUT_FILENO, start.0);
+    say(b": bytes ");
+    say_decimal(response.len() as u64);
+    say(b", whole descriptors ");
+    say_decimal(reading.count as u64);
+    if reading.complete {
+        say(b", complete\n");
+        return;
+    }
+    say(b", cut\n");
+}
+
+// How many commands, and how many bytes were collected.
+pub fn say_totals(commands: u32, collected: usize) {
+    say(b"commands ");
+    say_decimal(commands as u64);
+    say(b", bytes collected ");
+    say_decimal(collected as u64);
+    say(b"\n");
+}
+
+fn say_too_many() {
+    streams::mark_fault();
+    streams::say_to(
+        STDERR_FILENO,
+        b"the collected descriptors and a header are over 65,534 bytes, more than a response may have: no response is written\n",
+    );
+}
+
+// Writes collected descriptors as one complete response: Data Length counts all behind its own four bytes, then two zero bytes and the Current Profile.
+pub fn put_response(profile: Profile, descriptors: &[u8]) {
+    let count = descriptors.len();
+    if count > Header::RETURN_LIMIT - Header::LENGTH {
+        say_too_many();
+        return;
+    }
+    let mut header = [0u8; 8];
+    lent::put4(&mut header, 0, count as u32 + 4);
+    lent::put2(&mut header, 6, profile.0);
+    streams::say_to(RESPONSE, &header);
+    streams::say_to(RESPONSE, descriptors);
+}
+
+// A refusal of a sheet or a command, with the line of the sheet that it names.
+pub fn say_sheet_refused(refusal: Refusal, sheet: &[u8]) {
+    streams::mark_fault();
+    let profiles = layout::profile_count(sheet);
+    if refusal.place == 0 {
+        words::say_refused(STDERR_FILENO, refusal, profiles as u64, 0);
+        return;
+    }
+    let feature = layout::feature_at(sheet, refusal.place - 1);
+    words::say_refused(STDERR_FILENO, refusal, profiles as u64, feature.0);
+}
+
+pub fn say_sheet_too_long() {
+    streams::mark_fault();
+    streams::say_to(
+        STDERR_FILENO,
+        b"the sheet has over 1,048,576 bytes, more than are taken here\n",
+    );
+}
