@@ -1,5 +1,5 @@
 /*
- * GET CONFIGURATION: the box that answers from a drive sheet, and the driver that reads, sweeps and checks the answers.
+ * GET CONFIGURATION: the box that answers from a drive sheet or from an image, and the driver that reads, sweeps and checks the answers.
  * Link libgcf.a, which ./install makes (pkg-config --cflags --libs gcf). docs/MANUAL.md has every number and a worked example.
  *
  * Every function takes any bytes and any numbers: nothing that is handed in makes it misbehave or run on. It keeps nothing, allocates nothing,
@@ -15,7 +15,7 @@
  * one stays as it was.
  *
  * A place says which line of a drive sheet is refused: for 3 which profile of the list, for 4, 5, 44, 6 and 7 which entry of the contents, counted
- * from 1. With every other number, and with 0, it is 0.
+ * from 1. With every other number, and with 0, it is 0. Of an image it is the place that the imported sheet would have.
  */
 #ifndef GCF_H
 #define GCF_H
@@ -25,7 +25,7 @@
 #include <stdint.h>
 
 /* The version, and its only place: all else that tells it takes it from here. docs/CHANGES.md says what each one brought. */
-#define GCF_VERSION "0.8.1"
+#define GCF_VERSION "0.9.0"
 
 #if SIZE_MAX != UINT64_MAX
 #error "gcf.h: size_t has not 64 bits here, and the functions of libgcf.a take every length and count as 64 bits. There is no libgcf.a for such a target."
@@ -128,7 +128,7 @@ enum gcf_kind {
     GCF_KIND_NOTHING = 1,   /* the command was accepted */
     GCF_KIND_OPERATION = 2, /* it is no GET CONFIGURATION of 10 bytes */
     GCF_KIND_FIELD = 3,     /* RT 3 */
-    GCF_KIND_TROUBLE = 4    /* the box's own trouble: its sheet, or its response buffer */
+    GCF_KIND_TROUBLE = 4    /* the box's own trouble: its sheet or its image, or its response buffer */
 };
 
 /* Sizes that are always enough. */
@@ -169,6 +169,36 @@ uint8_t gcf_respond_accepted(const uint8_t *sheet, size_t sheet_bytes,
                              const uint8_t *command, size_t command_bytes,
                              uint8_t *response, size_t response_bytes,
                              uint64_t *numbers, size_t numbers_count);
+
+/* ---- the box without a sheet: it holds an image, a complete response to RT 0 from 0 that gcf_import accepts */
+
+/*
+ * The check of an image: 14 to 18, 20, 29, 41, the sheet's 3, then for each descriptor behind feature 0 the sheet's 5, 44. These are import's numbers
+ * but 42, in import's order.
+ * numbers: the place, as gcf_import tells it.
+ */
+uint8_t gcf_check_image(const uint8_t *image, size_t image_bytes, uint64_t *numbers, size_t numbers_count);
+
+/*
+ * Answers a command from any image: the numbers of gcf_check_image, then 9 to 12. Accepted: what gcf_respond sends from the sheet that gcf_import makes of
+ * the image stands at the front of the response buffer, and only it changed. Refused: nothing changed.
+ * numbers: bytes sent, the place. Refused: 0, the place.
+ */
+uint8_t gcf_respond_image(const uint8_t *image, size_t image_bytes,
+                          const uint8_t *command, size_t command_bytes,
+                          uint8_t *response, size_t response_bytes,
+                          uint64_t *numbers, size_t numbers_count);
+
+/*
+ * The same for an image that gcf_check_image has accepted and that has not changed since: 9 to 12, and no time spent on the image's check. It walks from
+ * the first descriptor to the first wanted one, and with RT 1 on to the last. (With any other image it still keeps to its buffers; what it sends then
+ * means nothing.)
+ * numbers: bytes sent.
+ */
+uint8_t gcf_respond_image_accepted(const uint8_t *image, size_t image_bytes,
+                                   const uint8_t *command, size_t command_bytes,
+                                   uint8_t *response, size_t response_bytes,
+                                   uint64_t *numbers, size_t numbers_count);
 
 /* ---- the driver */
 
@@ -306,8 +336,9 @@ uint8_t gcf_import(const uint8_t *response, size_t response_bytes, uint8_t *shee
 /* ---- sense data */
 
 /*
- * Makes the 18 bytes of fixed-format sense data for the number that gcf_respond or gcf_respond_accepted gave, 0 too: 54 for a number that no command
- * gives, then 55 for a buffer under GCF_SENSE_BYTES. Accepted: they stand at the front of the buffer, and only they changed. Refused: nothing changed.
+ * Makes the 18 bytes of fixed-format sense data for the number that gcf_respond, gcf_respond_image or their two for what was accepted before gave, 0 too:
+ * 54 for a number that no command gives, then 55 for a buffer under GCF_SENSE_BYTES. Accepted: they stand at the front of the buffer, and only they
+ * changed. Refused: nothing changed.
  * numbers: bytes written.
  */
 uint8_t gcf_make_sense(uint8_t number, uint8_t *sense, size_t sense_bytes, uint64_t *numbers, size_t numbers_count);

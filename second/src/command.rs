@@ -158,13 +158,13 @@ fn put_entries(sheet: Sheet, request: Request, writer: &mut Writer) {
 }
 
 /// The part of the lent buffer that is still to be written.
-struct Writer<'a> {
-    room: &'a mut [u8],
+pub(crate) struct Writer<'a> {
+    pub(crate) room: &'a mut [u8],
 }
 
 impl Writer<'_> {
     /// Writes as many of the bytes as there is room for.
-    fn put(&mut self, bytes: &[u8]) {
+    pub(crate) fn put(&mut self, bytes: &[u8]) {
         let count = bytes.len().min(self.room.len());
         let (now, later) = std::mem::take(&mut self.room).split_at_mut(count);
         now.copy_from_slice(&bytes[..count]);

@@ -18,7 +18,7 @@ pub fn import(response: &[u8], sheet: &mut [u8]) -> Result<usize, Refusal> {
 }
 
 /// A captured response that a sheet can give.
-struct Capture<'a> {
+pub(crate) struct Capture<'a> {
     /// The body of feature 0; the sheet lists its profiles in the same 4 bytes each.
     profiles: &'a [u8],
     /// The descriptors behind feature 0.
@@ -28,7 +28,7 @@ struct Capture<'a> {
 
 impl<'a> Capture<'a> {
     /// Checks a response to RT 0 from 0 in the order of the numbers' table, but for the buffer.
-    fn accept(response: &'a [u8]) -> Result<Capture<'a>, Refusal> {
+    pub(crate) fn accept(response: &'a [u8]) -> Result<Capture<'a>, Refusal> {
         let reading = read_complete(response)?;
         let mut features = whole(response, &reading);
         let list = features.next().ok_or(CAPTURE_BAD)?;

@@ -1,4 +1,4 @@
-//! GET CONFIGURATION: the box that answers from a drive sheet and the driver that reads the answers.
+//! GET CONFIGURATION: the box that answers from a drive sheet or from an image, and the driver that reads the answers.
 #![forbid(unsafe_code)]
 
 pub mod bench;
@@ -12,6 +12,7 @@ pub mod lister;
 pub mod numbers;
 pub mod reading;
 pub mod refusal;
+pub mod rom;
 pub mod sense;
 pub mod sheet;
 pub mod sweep;

@@ -23,6 +23,8 @@ impl Kind {
             COMMAND_LENGTH | COMMAND_OPCODE => Some(Kind::Operation),
             COMMAND_RT => Some(Kind::Field),
             SHEET_SHORT..=SHEET_END | PERSISTENT_UNCURRENT | BUFFER_SHORT => Some(Kind::Trouble),
+            // What import says of an image; a reading of one is with RT 0, and there is no buffer for a sheet.
+            RECEIVED_LENGTH..=RESPONSE_ORDER | BEYOND_DATA | CHECK_CUT | CAPTURE_BAD => Some(Kind::Trouble),
             _ => None,
         }
     }

@@ -21,7 +21,7 @@ pub struct Refused {
 }
 
 /// Nothing where the number is 0, else the refusal with its place.
-fn placed(number: u8, place: u64) -> Result<(), Refused> {
+pub(crate) fn placed(number: u8, place: u64) -> Result<(), Refused> {
     accepted(number).map_err(|number| {
         let line = match (number, place as u16) {
             (_, 0) => None,

@@ -16,6 +16,15 @@
 //! assert_eq!(sheet.respond(&[0x46, 3, 0, 0, 0, 0, 0, 0, 44, 0], &mut response), Err(Number::RtReserved));
 //! ```
 //!
+//! Or from an image, a complete response to RT 0 from 0 that stands in its ROM:
+//!
+//! ```
+//! let image = gcf::Image::check(&gcf::IMAGE_E).unwrap();
+//! let mut response = [0; 44];
+//! let sent = image.respond(&[0x46, 0, 0, 0, 0, 0, 0, 0, 44, 0], &mut response).unwrap();
+//! assert_eq!(sent, gcf::IMAGE_E);
+//! ```
+//!
 //! The driver sweeps it, here with an allocation length of 20 bytes:
 //!
 //! ```
@@ -39,6 +48,7 @@ compile_error!("libgcf.a takes lengths of 64 bits, and usize has fewer on this t
 
 mod drive;
 mod driver;
+mod image;
 mod numbers;
 #[allow(unsafe_code, missing_docs)]
 pub mod raw;
@@ -48,6 +58,7 @@ pub use drive::{bench, import, most, respond, Line, Refused, Sheet, Swept};
 pub use driver::{
     check_descriptors, check_profile, held, list, read, Finding, Judgement, Reading, Rt, Sweep,
 };
+pub use image::{respond_image, Image};
 pub use numbers::Number;
 pub use sense::{make_sense, read_sense, Kind};
 
@@ -89,6 +100,16 @@ pub const SHEET_E: [u8; 52] = [
     0x00, 0x10, 0x00, 0x00, // profile 0010h
     0x00, 0x00, 0x00, 0x02, // the body of 0001h
     0x29, 0x00, 0x00, 0x00, // the body of 0003h
+];
+
+/// The response of sheet E to RT 0 from 0: the image of a box that holds one in place of the sheet.
+pub const IMAGE_E: [u8; 44] = [
+    0x00, 0x00, 0x00, 0x28, 0x00, 0x00, 0x00, 0x12, // Data Length 40, Current Profile 0012h
+    0x00, 0x00, 0x03, 0x08, 0x00, 0x12, 0x01, 0x00, 0x00, 0x10, 0x00, 0x00, // 0000h, the profiles
+    0x00, 0x01, 0x03, 0x04, 0x00, 0x00, 0x00, 0x02, // 0001h
+    0x00, 0x03, 0x03, 0x04, 0x29, 0x00, 0x00, 0x00, // 0003h
+    0x00, 0x1F, 0x01, 0x00, // 001Fh
+    0x01, 0x05, 0x03, 0x00, // 0105h
 ];
 
 /// Nothing where the number is 0, else what it says.

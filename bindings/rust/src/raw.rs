@@ -62,6 +62,27 @@ extern "C" {
         numbers: *mut u64,
         numbers_len: usize,
     ) -> u8;
+    fn gcf_check_image(image: *const u8, image_len: usize, numbers: *mut u64, numbers_len: usize) -> u8;
+    fn gcf_respond_image(
+        image: *const u8,
+        image_len: usize,
+        command: *const u8,
+        command_len: usize,
+        response: *mut u8,
+        response_len: usize,
+        numbers: *mut u64,
+        numbers_len: usize,
+    ) -> u8;
+    fn gcf_respond_image_accepted(
+        image: *const u8,
+        image_len: usize,
+        command: *const u8,
+        command_len: usize,
+        response: *mut u8,
+        response_len: usize,
+        numbers: *mut u64,
+        numbers_len: usize,
+    ) -> u8;
     fn gcf_read(
         rt: u8,
         sfn: Feature,
@@ -161,6 +182,43 @@ pub fn respond_accepted(sheet: &[u8], command: &[u8], response: &mut [u8], numbe
         gcf_respond_accepted(
             sheet.as_ptr(),
             sheet.len(),
+            command.as_ptr(),
+            command.len(),
+            response.as_mut_ptr(),
+            response.len(),
+            numbers.as_mut_ptr(),
+            numbers.len(),
+        )
+    }
+}
+
+/// Checks an image; the numbers are: place.
+pub fn check_image(image: &[u8], numbers: &mut [u64]) -> u8 {
+    unsafe { gcf_check_image(image.as_ptr(), image.len(), numbers.as_mut_ptr(), numbers.len()) }
+}
+
+/// Answers a command from an image; the numbers are: bytes sent, place.
+pub fn respond_image(image: &[u8], command: &[u8], response: &mut [u8], numbers: &mut [u64]) -> u8 {
+    unsafe {
+        gcf_respond_image(
+            image.as_ptr(),
+            image.len(),
+            command.as_ptr(),
+            command.len(),
+            response.as_mut_ptr(),
+            response.len(),
+            numbers.as_mut_ptr(),
+            numbers.len(),
+        )
+    }
+}
+
+/// Answers a command from an image that was accepted before; the numbers are: bytes sent.
+pub fn respond_image_accepted(image: &[u8], command: &[u8], response: &mut [u8], numbers: &mut [u64]) -> u8 {
+    unsafe {
+        gcf_respond_image_accepted(
+            image.as_ptr(),
+            image.len(),
             command.as_ptr(),
             command.len(),
             response.as_mut_ptr(),

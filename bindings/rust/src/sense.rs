@@ -11,7 +11,7 @@ pub enum Kind {
     Operation = 2,
     /// RT 3.
     Field = 3,
-    /// The box's own trouble: its sheet, or its response buffer.
+    /// The box's own trouble: its sheet or its image, or its response buffer.
     Trouble = 4,
 }
 
@@ -23,6 +23,8 @@ pub enum Kind {
 /// let sense = gcf::make_sense(Some(Number::RtReserved)).unwrap();
 /// assert_eq!((sense[2], sense[12], &sense[15..]), (5, 0x24, &[0xC9, 0, 1][..]));
 /// assert_eq!(gcf::read_sense(&sense), Ok(Kind::Field));
+/// let trouble = gcf::make_sense(Some(Number::ResponseCut)).unwrap(); // an image that is cut
+/// assert_eq!(gcf::read_sense(&trouble), Ok(Kind::Trouble));
 /// assert_eq!(gcf::make_sense(Some(Number::NoTable)), Err(Number::NotGiven));
 /// ```
 pub fn make_sense(last: Option<Number>) -> Result<[u8; SENSE_BYTES], Number> {

@@ -2,12 +2,6 @@
 
 use gcf::*;
 
-/// The example's response to RT 0 from 0.
-const RESPONSE: [u8; 44] = [
-    0, 0, 0, 40, 0, 0, 0, 0x12, 0, 0, 3, 8, 0, 0x12, 1, 0, 0, 0x10, 0, 0, 0, 1, 3, 4, 0, 0, 0, 2, 0, 3, 3, 4,
-    0x29, 0, 0, 0, 0, 0x1F, 1, 0, 1, 5, 3, 0,
-];
-
 /// Numbers that look like chance and are the same in every run.
 struct Made(u64);
 
@@ -62,10 +56,32 @@ fn the_box() {
 }
 
 #[test]
+fn the_box_with_an_image() {
+    let made = &mut Made(4);
+    for _ in 0..20_000 {
+        let (image, command) = (made.spoilt(&IMAGE_E), made.spoilt(&[0x46, 0, 0, 0, 0, 0, 0, 0, 44, 0]));
+        let room = made.below(60);
+        let (mut response, mut other, mut sheet) = ([0; 60], [0; 60], [0; 99]);
+        let checked = Image::check(&image);
+        assert_eq!(refused(checked), raw::check_image(&image, &mut []));
+        let number = raw::respond_image(&image, &command, &mut response[..room], &mut []);
+        let answer = respond_image(&image, &command, &mut other[..room]).map(<[u8]>::to_vec);
+        assert_eq!(refused(answer.clone()), number);
+        if let Ok(image) = checked {
+            assert_eq!(image.respond(&command, &mut response[..room]).ok(), answer.as_deref().ok());
+            // What the imported sheet gives.
+            let sheet = import(image.bytes(), &mut sheet).map(|sheet| sheet.bytes());
+            let answered = sheet.and_then(|sheet| respond(sheet, &command, &mut response[..room]));
+            assert_eq!(answered.map(<[u8]>::to_vec), answer);
+        }
+    }
+}
+
+#[test]
 fn the_driver() {
     let made = &mut Made(2);
     for _ in 0..20_000 {
-        let response = made.spoilt(&RESPONSE);
+        let response = made.spoilt(&IMAGE_E);
         let (mut text, mut descriptor, mut sheet) = ([0; 99], [0; DESCRIPTOR_MOST], [0; 60]);
         for (rt, code) in [(Rt::All, 0), (Rt::Current, 1), (Rt::One, 2)] {
             assert_eq!(
@@ -75,7 +91,7 @@ fn the_driver() {
         }
         let room = made.below(100);
         list(&response, &mut text[..room]);
-        held(Feature(made.below(6) as u16), &response, &RESPONSE, &mut descriptor);
+        held(Feature(made.below(6) as u16), &response, &IMAGE_E, &mut descriptor);
         let found = match check_descriptors(&response) {
             Finding::Faultless => 0,
             Finding::Fault(number, _) | Finding::Refused(number) => number.number(),

@@ -14,7 +14,10 @@ ghost use Rattle.sweep.specs.Sweep.{started, turn, stepped};
 ghost use Rattle.bench.specs.Bench as bench;
 ghost use Rattle.checks.specs.Check.{checked};
 ghost use Rattle.checks.specs.Judge as checks;
+ghost use Rattle.capture.specs.Capture.{captureFault};
 ghost use Rattle.import.specs.Import.{imported};
+ghost use Rattle.rom.specs.Rom.{imageAnswered};
+ghost use Rattle.rom.specs.Image.{imageCommanded};
 ghost use Rattle.sense.specs.Sense.{made, sensed};
 ghost use Rattle.abi.specs.Left.{left, showVerdict, showMade, showPlaced, readingNumbers, showRead, showBenched, showFinding, showJudged, kindNumber, showSensed};
 use checks::Judgement;
@@ -110,6 +113,53 @@ pub extern "C" fn gcf_respond_accepted(
     let trusted = responder::respond_accepted(sheet, command, response);
     let fault = trusted.refusal;
     tell(numbers, 0, trusted.count as u64);
+    fault.number
+}
+
+// ---- the box with an image in place of a sheet
+
+// The number of an image. Numbers: the place of the profile or entry at fault.
+#[no_mangle]
+pub extern "C" fn gcf_check_image(image: &[u8], numbers: &mut [u64]) -> u8
+    ensures { λ r. ⌜ left r tt (now (numbers .exit)) ≡ showVerdict (captureFault (now (image .entry))) (now (numbers .entry)) ⌝ }
+{
+    let capture = capture::check(image);
+    let fault = capture.refusal;
+    tell(numbers, 0, fault.place as u64);
+    fault.number
+}
+
+// Answers a command from any image. Numbers: bytes sent, the place of the profile or entry at fault.
+#[no_mangle]
+pub extern "C" fn gcf_respond_image(
+    image: &[u8],
+    command: &[u8],
+    response: &mut [u8],
+    numbers: &mut [u64],
+) -> u8
+    ensures { λ r. ⌜ left r (now (response .exit)) (now (numbers .exit))
+        ≡ showPlaced (imageAnswered (now (image .entry)) (now (command .entry)) (now (response .entry))) (now (numbers .entry)) ⌝ }
+{
+    let sent = rom::respond(image, command, response);
+    let fault = sent.refusal;
+    tell2(numbers, sent.count as u64, fault.place as u64);
+    fault.number
+}
+
+// Answers a command with no check of the image: what a box calls that has checked it once. Numbers: bytes sent.
+#[no_mangle]
+pub extern "C" fn gcf_respond_image_accepted(
+    image: &[u8],
+    command: &[u8],
+    response: &mut [u8],
+    numbers: &mut [u64],
+) -> u8
+    ensures { λ r. ⌜ left r (now (response .exit)) (now (numbers .exit))
+        ≡ showMade (imageCommanded (now (image .entry)) (now (command .entry)) (now (response .entry))) (now (numbers .entry)) ⌝ }
+{
+    let known = rom::respond_accepted(image, command, response);
+    let fault = known.refusal;
+    tell(numbers, 0, known.count as u64);
     fault.number
 }
 

@@ -12,7 +12,7 @@ use Rattle.base.proofs.Lists.{take-more}
 use Rattle.fields.specs.Field.{field, spell}
 use Rattle.fields.proofs.Laws.{spell-field}
 use Rattle.text.specs.Drive.{Desc, Good, Asc, profileBytes}
-use Rattle.text.specs.Response.{bytes, feature0, selected, currentProfile, header, dataLength, full}
+use Rattle.text.specs.Response.{all, bytes, feature0, selected, currentProfile, header, dataLength, full}
 use Rattle.text.specs.Reading.{statedLength, statedProfile, statedEnd, walked, readFault}
 use Rattle.refusal.proofs.First.{if-zero, orElse-zero, placed-number, orElse-accepts}
 use Rattle.text.proofs.Selection.{asc-above, asc-down, from-all, selected-zero}
@@ -183,6 +183,13 @@ pub captured-full : (r : List ℕ) → Bytes r → captureFault r .number ≡ 0 
 captured-full r bs e =
     let c = described r e .holds in
     rw (drive bs c) (full-back bs c)
+
+-- its features, feature 0 first, are the descriptors that were captured
+pub captured-all : (r : List ℕ) → Bytes r → captureFault r .number ≡ 0 → all (captured (descs r)) ≡ descs r
+unfolding all
+captured-all r bs e =
+    let d = described r e in
+    rw (drive bs (d .holds), d .holds .found) (ap (λ (x : Desc). x ∷ d .others) (feature-back bs (d .holds)))
 
 pub captured-short : (r : List ℕ) → captureFault r .number ≡ 0 → length r ≤ 65534
 captured-short r e = readFault-header 65534 0 0 r (described r e .holds .read) .most

@@ -80,9 +80,14 @@ use Rattle.sense.proofs.make as sense-make
 use Rattle.sense.proofs.read as sense-read
 use Rattle.sense.proofs.Picked.{heard-injective}
 use Rattle.abi.specs.Left.{Left}
+use Rattle.rom.proofs.respond_accepted as rom-respond-accepted
+use Rattle.rom.proofs.respond as rom-respond
 use Rattle.abi.proofs.gcf_check_sheet as gcf-check-sheet
 use Rattle.abi.proofs.gcf_respond as gcf-respond
 use Rattle.abi.proofs.gcf_respond_accepted as gcf-respond-accepted
+use Rattle.abi.proofs.gcf_check_image as gcf-check-image
+use Rattle.abi.proofs.gcf_respond_image as gcf-respond-image
+use Rattle.abi.proofs.gcf_respond_image_accepted as gcf-respond-image-accepted
 use Rattle.abi.proofs.gcf_read as gcf-read
 use Rattle.abi.proofs.gcf_held as gcf-held
 use Rattle.abi.proofs.gcf_list as gcf-list
@@ -331,6 +336,14 @@ capture-check-decided x = decides (x .𝓤) (λ o o′ p q. (joined p q, refl))
 pub import-decided : Decided import.ended (λ M. import.clauses) (λ M. import.spec)
 import-decided x = decides (x .𝓤) (λ o o′ p q. (ap (λ (z : Outcome). z .made) (joined p q), refl & ap (λ (z : Outcome). z .buffer) (joined p q) & refl))
 
+-- ---- rom
+
+pub rom-respond-accepted-decided : Decided rom-respond-accepted.ended (λ M. rom-respond-accepted.clauses) (λ M. rom-respond-accepted.spec)
+rom-respond-accepted-decided x = decides (x .𝓤) (λ o o′ p q. (ap (λ (z : Outcome). z .made) (joined p q), refl & refl & ap (λ (z : Outcome). z .buffer) (joined p q) & refl))
+
+pub rom-respond-decided : Decided rom-respond.ended (λ M. rom-respond.clauses) (λ M. rom-respond.spec)
+rom-respond-decided x = decides (x .𝓤) (λ o o′ p q. (ap (λ (z : Outcome). z .made) (joined p q), refl & refl & ap (λ (z : Outcome). z .buffer) (joined p q) & refl))
+
 -- ---- sense
 
 pub sense-make-decided : Decided sense-make.ended (λ M. sense-make.clauses) (λ M. sense-make.spec)
@@ -358,6 +371,15 @@ gcf-respond-decided x = decides (x .𝓤) (λ o o′ p q. (number (joined p q), 
 
 pub gcf-respond-accepted-decided : Decided gcf-respond-accepted.ended (λ M. gcf-respond-accepted.clauses) (λ M. gcf-respond-accepted.spec)
 gcf-respond-accepted-decided x = decides (x .𝓤) (λ o o′ p q. (number (joined p q), refl & refl & buffers (joined p q) & numbers (joined p q) & refl))
+
+pub gcf-check-image-decided : Decided gcf-check-image.ended (λ M. gcf-check-image.clauses) (λ M. gcf-check-image.spec)
+gcf-check-image-decided x = decides (x .𝓤) (λ o o′ p q. (number (joined p q), refl & numbers (joined p q) & refl))
+
+pub gcf-respond-image-decided : Decided gcf-respond-image.ended (λ M. gcf-respond-image.clauses) (λ M. gcf-respond-image.spec)
+gcf-respond-image-decided x = decides (x .𝓤) (λ o o′ p q. (number (joined p q), refl & refl & buffers (joined p q) & numbers (joined p q) & refl))
+
+pub gcf-respond-image-accepted-decided : Decided gcf-respond-image-accepted.ended (λ M. gcf-respond-image-accepted.clauses) (λ M. gcf-respond-image-accepted.spec)
+gcf-respond-image-accepted-decided x = decides (x .𝓤) (λ o o′ p q. (number (joined p q), refl & refl & buffers (joined p q) & numbers (joined p q) & refl))
 
 pub gcf-read-decided : Decided gcf-read.ended (λ M. gcf-read.clauses) (λ M. gcf-read.spec)
 gcf-read-decided x = decides (x .𝓤) (λ o o′ p q. (number (joined p q), refl & refl & refl & numbers (joined p q) & refl))

@@ -13,6 +13,9 @@ use Rattle.abi.specs.Left as abi
 use Rattle.abi.proofs.gcf_check_sheet as gcf-check-sheet
 use Rattle.abi.proofs.gcf_respond as gcf-respond
 use Rattle.abi.proofs.gcf_respond_accepted as gcf-respond-accepted
+use Rattle.abi.proofs.gcf_check_image as gcf-check-image
+use Rattle.abi.proofs.gcf_respond_image as gcf-respond-image
+use Rattle.abi.proofs.gcf_respond_image_accepted as gcf-respond-image-accepted
 use Rattle.abi.proofs.gcf_read as gcf-read
 use Rattle.abi.proofs.gcf_held as gcf-held
 use Rattle.abi.proofs.gcf_list as gcf-list
@@ -28,6 +31,7 @@ use Rattle.abi.proofs.gcf_read_sense as gcf-read-sense
 use Rattle.base.proofs.Promise.{Promised, promises, by, Shows, shows}
 use Rattle.reading.proofs.Promised.{Holds, holds}
 use Rattle.demands.proofs.Sheets.{Checks, checks}
+use Rattle.demands.proofs.Images.{ChecksImage, checks-image, Images, images, ImagesOnce, images-once}
 use Rattle.demands.proofs.Sending.{Answers, demand2, Trusts, trusts}
 use Rattle.demands.proofs.Readings.{Reads, reads}
 use Rattle.demands.proofs.Listings.{Lists, lists}
@@ -52,6 +56,20 @@ pub gcf-respond-accepted-tied : Promised gcf-respond-accepted.ended (λ M. gcf-r
     (λ x o. Shows (Trusts (x .args .0 .now) (x .args .1 .0 .now) (x .args .1 .1 .0 .now)) (λ z. abi.showMade z (x .args .1 .1 .1 .0 .now))
     (left (o .0) (o .1 .1 .1 .0) (o .1 .1 .1 .1 .0)))
 gcf-respond-accepted-tied x = promises (x .𝓤) (λ o. shows _ (trusts _ _ _))
+
+pub gcf-check-image-tied : Promised gcf-check-image.ended (λ M. gcf-check-image.clauses) (λ M. gcf-check-image.spec)
+    (λ x o. Shows (ChecksImage (x .args .0 .now)) (λ z. abi.showVerdict z (x .args .1 .0 .now)) (left (o .0) tt (o .1 .1 .0)))
+gcf-check-image-tied x = promises (x .𝓤) (λ o. shows _ (checks-image _))
+
+pub gcf-respond-image-tied : Promised gcf-respond-image.ended (λ M. gcf-respond-image.clauses) (λ M. gcf-respond-image.spec)
+    (λ x o. Shows (Images (x .args .0 .now) (x .args .1 .0 .now) (x .args .1 .1 .0 .now)) (λ z. abi.showPlaced z (x .args .1 .1 .1 .0 .now))
+    (left (o .0) (o .1 .1 .1 .0) (o .1 .1 .1 .1 .0)))
+gcf-respond-image-tied x = promises (x .𝓤) (λ o. shows _ (images _ _ _))
+
+pub gcf-respond-image-accepted-tied : Promised gcf-respond-image-accepted.ended (λ M. gcf-respond-image-accepted.clauses) (λ M. gcf-respond-image-accepted.spec)
+    (λ x o. Shows (ImagesOnce (x .args .0 .now) (x .args .1 .0 .now) (x .args .1 .1 .0 .now)) (λ z. abi.showMade z (x .args .1 .1 .1 .0 .now))
+    (left (o .0) (o .1 .1 .1 .0) (o .1 .1 .1 .1 .0)))
+gcf-respond-image-accepted-tied x = promises (x .𝓤) (λ o. shows _ (images-once _ _ _))
 
 -- ---- the driver
 

@@ -9,6 +9,7 @@ pub mod Fewest
 pub mod Checking
 pub mod Capturing
 pub mod Importing
+pub mod Images
 pub mod Senses
 pub mod Stars
 pub mod Decides

@@ -23,8 +23,15 @@ use Rattle.lent.specs.Maker.{Outcome, refusing, making, makes}
 use Rattle.lent.proofs.Maker.{makes-number}
 use Rattle.responder.specs.Answer.{due, answered}
 use Rattle.responder.proofs.respond as respond
+use Rattle.text.specs.Reading as text
+use Rattle.reading.specs.Completed.{completeFault}
+use Rattle.capture.specs.Capture.{captureFault, ownRule, flagsFaults, sheetRule}
+use Rattle.capture.proofs.Numbers.{capture-is}
+use Rattle.rom.specs.Rom.{imageAnswered}
+use Rattle.rom.proofs.respond as rom-respond
 use Rattle.abi.specs.Left.{Left, showPlaced}
 use Rattle.abi.proofs.gcf_respond as gcf-respond
+use Rattle.abi.proofs.gcf_respond_image as gcf-respond-image
 use Rattle.sense.specs.declared.Kind.{Kind}
 use Rattle.sense.specs.declared.Sense.the-variants.{Means, Refused}
 use Rattle.sense.specs.Sense.{Heard, heard, given, kindOf, senseOf, made, sensed}
@@ -117,15 +124,26 @@ pub gcf-respond-taken : Promised gcf-respond.ended (λ M. gcf-respond.clauses) (
 unfolding showPlaced
 gcf-respond-taken x = promises (x .𝓤) (λ o. by (λ (z : Left (List ℕ)). Taken (z .number)) (answered-taken _ _ _))
 
--- A command gives the number n: from this sheet, for these bytes, with this buffer.
-pub record Occurs (n : ℕ) : Type 0 where
-  pub sheet : List ℕ
-  pub asked : List ℕ
-  pub buffer : List ℕ
-  pub gives : answered sheet asked buffer .made .refusal .number ≡ n
+-- The same of a box with an image: import's numbers but 42, and those that it shares.
+pub image-taken : (i c d : List ℕ) → Taken (imageAnswered i c d .made .refusal .number)
+unfolding imageAnswered pick given kindOf
+image-taken i c d =
+    subst Taken (sym (makes-number (captureFault i orElse commandFault c) 12 _ d))
+    (orElse-holds Taken _ _
+    (orElse-holds Taken _ _ (capture-is Taken refl refl refl refl refl refl refl refl refl refl refl refl i) (command-taken c))
+    (if-holds Taken (refuse 12) _ accept refl refl))
 
-occurs-in : {n : ℕ} (s c d : List ℕ) → answered s c d .made .refusal .number ≡ n → Occurs n
-occurs-in s c d e = record { sheet = s; asked = c; buffer = d; gives = e }
+pub rom-respond-taken : Promised rom-respond.ended (λ M. rom-respond.clauses) (λ M. rom-respond.spec) (λ x o. Taken (o .0 .refusal .number))
+rom-respond-taken x = promises (x .𝓤) (λ o. by (λ (z : Outcome). Taken (z .made .refusal .number)) (image-taken _ _ _))
+
+pub gcf-respond-image-taken : Promised gcf-respond-image.ended (λ M. gcf-respond-image.clauses) (λ M. gcf-respond-image.spec) (λ x o. Taken (o .0))
+unfolding showPlaced
+gcf-respond-image-taken x = promises (x .𝓤) (λ o. by (λ (z : Left (List ℕ)). Taken (z .number)) (image-taken _ _ _))
+
+-- A command gives the number n: from this sheet or this image, for these bytes, with this buffer.
+pub data Occurs (n : ℕ) : Type 0 where
+  occurs-in : (sheet asked buffer : List ℕ) → answered sheet asked buffer .made .refusal .number ≡ n → Occurs n
+  occurs-with : (image asked buffer : List ℕ) → imageAnswered image asked buffer .made .refusal .number ≡ n → Occurs n
 
 -- a sheet with nothing; one with a single entry
 abbrev none : List ℕ
@@ -134,52 +152,18 @@ none = 0 ∷ 0 ∷ 0 ∷ 0 ∷ []
 abbrev one : (number flags len offset : ℕ) → List ℕ
 one number flags len offset = 0 ∷ 1 ∷ 0 ∷ 0 ∷ 0 ∷ number ∷ flags ∷ len ∷ 0 ∷ 0 ∷ 0 ∷ offset ∷ []
 
--- Each number of the table is given: 0 to 12, 44.
+-- an image with this Data Length, and these bytes behind its header
+abbrev image : (stated : ℕ) → List ℕ → List ℕ
+image stated behind = 0 ∷ 0 ∷ 0 ∷ stated ∷ 0 ∷ 0 ∷ 0 ∷ 0 ∷ behind
+
+-- the head of a descriptor
+abbrev head : (number len : ℕ) → List ℕ → List ℕ
+head number len behind = 0 ∷ number ∷ 3 ∷ len ∷ behind
+
+-- Each number of the table is given: 0 to 12, 44 from a sheet, 14 to 18, 20, 29, 41 with an image.
 pub each-given : All Occurs taken
-unfolding each flat keep field spell _if_else_ pickZero _orElse_ firstOf placed opcodeOf rtOf sfnOf allocationOf commandFault profileBytes bytes feature0 all wants selected currentProfile header dataLength full sent layout.featureCount layout.profileCount layout.number layout.flags layout.bodyLength layout.offset layout.profilesPart profiles.profileNumber profiles.profileCurrent profiles.profileLast profiles.listed profiles.profilesOf profiles.lists profiles.recordRule profiles.recordFault profiles.recordsFault numberBefore endBefore flagsRule flags.flagsGiving entryRule entryFault counted verdict desc meaning unless refusing making makes answered command
-each-given = (
-  occurs-in none (command 0 0 0) [] refl,
-  (
-    occurs-in [] [] [] refl,
-    (
-      occurs-in (0 ∷ 0 ∷ 0 ∷ 64 ∷ replicate 256 0) [] [] refl,
-      (
-        occurs-in (0 ∷ 0 ∷ 0 ∷ 1 ∷ 0 ∷ 0 ∷ 0 ∷ 0 ∷ []) [] [] refl,
-        (
-          occurs-in (one 0 0 0 12) [] [] refl,
-          (
-            occurs-in (one 1 0x40 0 12) [] [] refl,
-            (
-              occurs-in (one 1 0 1 12) [] [] refl,
-              (
-                occurs-in (one 1 0 0 0) [] [] refl,
-                (
-                  occurs-in (0 ∷ none) [] [] refl,
-                  (
-                    occurs-in none [] [] refl,
-                    (
-                      occurs-in none (replicate 10 0) [] refl,
-                      (
-                        occurs-in none (command 3 0 0) [] refl,
-                        (
-                          occurs-in none (command 0 0 1) [] refl,
-                          (
-                            occurs-in (one 1 2 0 12) [] [] refl,
-                            tt,
-                          ),
-                        ),
-                      ),
-                    ),
-                  ),
-                ),
-              ),
-            ),
-          ),
-        ),
-      ),
-    ),
-  ),
-)
+unfolding each flat keep field spell _if_else_ pickZero _orElse_ firstOf placed opcodeOf rtOf sfnOf allocationOf commandFault profileBytes bytes feature0 all wants selected currentProfile header dataLength full sent layout.featureCount layout.profileCount layout.number layout.flags layout.bodyLength layout.offset layout.profilesPart profiles.profileNumber profiles.profileCurrent profiles.profileLast profiles.listed profiles.profilesOf profiles.lists profiles.recordRule profiles.recordFault profiles.recordsFault numberBefore endBefore flagsRule flags.flagsGiving entryRule entryFault counted verdict desc meaning unless refusing making makes answered command captureFault ownRule flagsFaults sheetRule completeFault text.statedLength text.statedProfile text.headerRule text.headRule text.numberAt text.flagsAt text.lengthAt text.descAt text.headFault text.walk text.walked text.readFault text.wholes imageAnswered
+each-given = (occurs-in none (command 0 0 0) [] refl, (occurs-in [] [] [] refl, (occurs-in (0 ∷ 0 ∷ 0 ∷ 64 ∷ replicate 256 0) [] [] refl, (occurs-in (0 ∷ 0 ∷ 0 ∷ 1 ∷ 0 ∷ 0 ∷ 0 ∷ 0 ∷ []) [] [] refl, (occurs-in (one 0 0 0 12) [] [] refl, (occurs-in (one 1 0x40 0 12) [] [] refl, (occurs-in (one 1 0 1 12) [] [] refl, (occurs-in (one 1 0 0 0) [] [] refl, (occurs-in (0 ∷ none) [] [] refl, (occurs-in none [] [] refl, (occurs-in none (replicate 10 0) [] refl, (occurs-in none (command 3 0 0) [] refl, (occurs-in none (command 0 0 1) [] refl, (occurs-with [] [] [] refl, (occurs-with (image 0 []) [] [] refl, (occurs-with (image 4 (head 0 0 [])) [] [] refl, (occurs-with (image 8 (head 0 1 [])) [] [] refl, (occurs-with (image 12 (head 0 0 (head 0 0 []))) [] [] refl, (occurs-with (image 8 (head 0 4 [])) [] [] refl, (occurs-with (image 8 []) [] [] refl, (occurs-with (image 4 []) [] [] refl, (occurs-in (one 1 2 0 12) [] [] refl, tt))))))))))))))))))))))
 
 -- So the maker takes no other number than a command gives.
 pub taken-occurs : (n : ℕ) → Taken n → Occurs n

@@ -13,6 +13,8 @@ use Rattle.responder.proofs.size as size
 use Rattle.responder.proofs.send_sized as send-sized
 use Rattle.responder.proofs.respond_accepted as respond-accepted
 use Rattle.responder.proofs.respond as respond
+use Rattle.rom.proofs.respond_accepted as rom-respond-accepted
+use Rattle.rom.proofs.respond as rom-respond
 use Rattle.reading.proofs.scan as scan
 use Rattle.reading.proofs.read as read
 use Rattle.reading.proofs.held as held
@@ -33,6 +35,7 @@ use Rattle.sense.specs.Sense.{heard}
 use Rattle.sense.proofs.make as sense-make
 use Rattle.sense.proofs.read as sense-read
 use Rattle.demands.proofs.Sheets.{Checks, checks}
+use Rattle.demands.proofs.Images.{Images, images, ImagesOnce, images-once}
 use Rattle.demands.proofs.Sending.{Answers, demand2, Trusts, trusts, Serves, serves, Sizes, sizes, ServesSized, serves-sized}
 use Rattle.demands.proofs.Readings.{Reads, reads, Scans, scans}
 use Rattle.demands.proofs.Listings.{Lists, lists}
@@ -125,6 +128,16 @@ capture-check-tied x = promises (x .𝓤) (λ o. by (Captures _) (captures _))
 
 pub import-tied : Promised import.ended (λ M. import.clauses) (λ M. import.spec) (λ x o. Imports (x .args .0 .now) (x .args .1 .0 .now) (outcome (o .0) (o .1 .1 .0)))
 import-tied x = promises (x .𝓤) (λ o. by (Imports _ _) (imports _ _))
+
+-- ---- rom
+
+pub rom-respond-accepted-tied : Promised rom-respond-accepted.ended (λ M. rom-respond-accepted.clauses) (λ M. rom-respond-accepted.spec)
+    (λ x o. ImagesOnce (x .args .0 .now) (x .args .1 .0 .now) (x .args .1 .1 .0 .now) (outcome (o .0) (o .1 .1 .1 .0)))
+rom-respond-accepted-tied x = promises (x .𝓤) (λ o. by (ImagesOnce _ _ _) (images-once _ _ _))
+
+pub rom-respond-tied : Promised rom-respond.ended (λ M. rom-respond.clauses) (λ M. rom-respond.spec)
+    (λ x o. Images (x .args .0 .now) (x .args .1 .0 .now) (x .args .1 .1 .0 .now) (outcome (o .0) (o .1 .1 .1 .0)))
+rom-respond-tied x = promises (x .𝓤) (λ o. by (Images _ _ _) (images _ _ _))
 
 -- ---- sense
 

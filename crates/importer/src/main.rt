@@ -7,9 +7,6 @@ ghost use Rattle.lent.specs.Maker.{outcome, refusing, making};
 ghost use Rattle.capture.specs.Capture.{captureFault};
 ghost use Rattle.import.specs.Import.{sheetFrom};
 use lent::Made;
-use libc::STDERR_FILENO;
-use refusal::Refusal;
-use text::Feature;
 use text::Header;
 
 // One byte more than a response may have: an input that fills it is refused, not shortened.
@@ -26,27 +23,6 @@ fn sheet_of(s: &[u8], sheet: &mut [u8; LONGEST]) -> Made
     import::import(s, sheet)
 }
 
-// ---- words
-
-// The feature number of an entry that the sheet would have, counted from 1: its descriptor stands as many places behind feature 0's.
-fn feature_of(response: &[u8], entry: u16) -> Feature {
-    let mut at = Header::LENGTH;
-    let mut i = 0;
-    while i < entry {
-        at = reading::next_at(response, at);
-        i += 1;
-    }
-    reading::number_at(response, at)
-}
-
-// A refusal, with the profile or the entry that it names.
-fn say_refused(refusal: Refusal, response: &[u8]) {
-    streams::mark_fault();
-    let profiles = reading::body_at(response, Header::LENGTH).len() / 4;
-    let feature = feature_of(response, refusal.place);
-    words::say_refused(STDERR_FILENO, refusal, profiles as u64, feature.0);
-}
-
 // ---- the program
 
 fn import_from(s: &[u8]) {
@@ -54,7 +30,7 @@ fn import_from(s: &[u8]) {
     let imported = sheet_of(s, &mut sheet);
     let refusal = imported.refusal;
     if refusal.number != 0 {
-        say_refused(refusal, s);
+        told::say_capture_refused(refusal, s);
         return;
     }
     let count = imported.count;

@@ -36,7 +36,8 @@ givenAs n k = record { 0 = n; 1 = k }
 abbrev pub noSense : Line
 noSense = givenAs 0 Nothing
 
--- every number that a command gives: none; the sheet's; the command's; a response buffer that is too short; the sheet's for Persistent
+-- every number that a command gives: none; the sheet's; the command's; a response buffer that is too short; those of an image that is no complete response of
+-- ours; the sheet's and the image's for Persistent
 unfoldable pub given : List Line
 given =
     givenAs 0 Nothing ∷
@@ -52,6 +53,14 @@ given =
     givenAs 10 Operation ∷
     givenAs 11 Field ∷
     givenAs 12 Trouble ∷
+    givenAs 14 Trouble ∷
+    givenAs 15 Trouble ∷
+    givenAs 16 Trouble ∷
+    givenAs 17 Trouble ∷
+    givenAs 18 Trouble ∷
+    givenAs 20 Trouble ∷
+    givenAs 29 Trouble ∷
+    givenAs 41 Trouble ∷
     givenAs 44 Trouble ∷ []
 
 -- the kind of a number; 54: no command gives it

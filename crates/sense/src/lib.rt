@@ -36,7 +36,7 @@ const FIELD: Kind = Kind::Field;
 const TROUBLE: Kind = Kind::Trouble;
 
 // Each number that a command gives.
-const GIVEN: [Line; 14] = [
+const GIVEN: [Line; 22] = [
     Line(0, NOTHING),
     Line(1, TROUBLE),
     Line(2, TROUBLE),
@@ -50,6 +50,14 @@ const GIVEN: [Line; 14] = [
     Line(10, OPERATION),
     Line(11, FIELD),
     Line(12, TROUBLE),
+    Line(14, TROUBLE),
+    Line(15, TROUBLE),
+    Line(16, TROUBLE),
+    Line(17, TROUBLE),
+    Line(18, TROUBLE),
+    Line(20, TROUBLE),
+    Line(29, TROUBLE),
+    Line(41, TROUBLE),
     Line(44, TROUBLE),
 ];
 

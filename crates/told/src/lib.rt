@@ -1,4 +1,4 @@
-// What the programs tell of a sweep and of a sheet: a line a round, the totals, the collected descriptors as one response, the line of a sheet that is refused.
+// What the programs tell of a sweep, of a sheet and of a capture: a line a round, the totals, the collected descriptors as one response, the line that a refusal names.
 use libc::STDERR_FILENO;
 use libc::STDOUT_FILENO;
 use refusal::Refusal;
@@ -76,4 +76,23 @@ pub fn say_sheet_too_long() {
         STDERR_FILENO,
         b"the sheet has over 1,048,576 bytes, more than are taken here\n",
     );
+}
+
+// The feature number of an entry that the sheet would have, counted from 1: its descriptor stands as many places behind feature 0's.
+fn feature_of(response: &[u8], entry: u16) -> Feature {
+    let mut at = Header::LENGTH;
+    let mut i = 0;
+    while i < entry {
+        at = reading::next_at(response, at);
+        i += 1;
+    }
+    reading::number_at(response, at)
+}
+
+// A refusal of a capture, with the profile or the entry that it names.
+pub fn say_capture_refused(refusal: Refusal, response: &[u8]) {
+    streams::mark_fault();
+    let profiles = reading::body_at(response, Header::LENGTH).len() / 4;
+    let feature = feature_of(response, refusal.place);
+    words::say_refused(STDERR_FILENO, refusal, profiles as u64, feature.0);
 }

@@ -8,6 +8,16 @@ use crate::refusal::Refusal;
 
 /// Makes the sheet whose full response was captured; gives its length, or why the capture is refused.
 pub fn import(response: &[u8], sheet: &mut [u8]) -> Result<usize, Refusal> {
+    let (count, profiles, features) = accept(response)?;
+    // An entry has four bytes more than the descriptor's header; the sheet's header has the list's four.
+    let length = response.len() - HEADER_BYTES + 4 * count;
+    write(sheet.get_mut(..length).ok_or(SHEET_BUFFER_SHORT)?, count, profiles, features);
+    Ok(length)
+}
+
+/// Judges a captured response; gives the count of the features behind feature 0, the list of profiles, and these features.
+#[inline]
+pub(super) fn accept(response: &[u8]) -> Result<(usize, &[u8], &[u8]), Refusal> {
     let mut flags_legal = true;
     let reading = read_complete(response, |header, _| flags_legal &= flags_are_legal(header.flags()))?;
     let (list, behind) = Header::split(&response[HEADER_BYTES..]).ok_or(CAPTURE_BAD)?;
@@ -22,11 +32,7 @@ pub fn import(response: &[u8], sheet: &mut [u8]) -> Result<usize, Refusal> {
     if !flags_legal {
         check_flags(features)?;
     }
-    let count = reading.count - 1;
-    // An entry has four bytes more than the descriptor's header; the sheet's header has the list's four.
-    let length = response.len() - HEADER_BYTES + 4 * count;
-    write(sheet.get_mut(..length).ok_or(SHEET_BUFFER_SHORT)?, count, profiles, features);
-    Ok(length)
+    Ok((reading.count - 1, profiles, features))
 }
 
 /// Refuses the first of the descriptors behind feature 0 whose flags are not legal: walked only where there is one.

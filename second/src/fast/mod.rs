@@ -9,5 +9,6 @@ pub mod checks;
 pub mod command;
 pub mod import;
 pub mod reading;
+pub mod rom;
 pub mod sheet;
 mod wire;

@@ -6,7 +6,7 @@ use super::cross::make_sheet;
 use super::{ask, command, response, told, Numbers, E, E_FULL, FILL};
 use crate::sheet::{build, ListedProfile, Sheet};
 use crate::wire::{Descriptor, Feature, Profile};
-use crate::{bench, checks, command as plain_command, fast, import, reading, sheet};
+use crate::{bench, checks, command as plain_command, fast, import, reading, rom, sheet};
 
 /// The numbers that a function answered with; a test sees that none is left out.
 #[derive(Default)]
@@ -85,6 +85,21 @@ fn same_import(seen: &mut Seen, capture: &[u8], room: usize) {
     let answer = import::import(capture, &mut plain);
     seen.same(told(answer).0, answer, fast::import::import(capture, &mut fast));
     assert!(plain == fast);
+}
+
+/// Both checks of an image and both answers from it and, where it is accepted, those without the check.
+fn same_image(seen: &mut Seen, image: &[u8], command: &[u8], room: usize) {
+    let checked = rom::check(image);
+    assert_eq!(checked, fast::rom::check(image));
+    let (mut plain, mut fast) = (vec![FILL; room], vec![FILL; room]);
+    let answer = rom::respond(image, command, &mut plain);
+    seen.same(told(answer).0, answer, fast::rom::respond(image, command, &mut fast));
+    assert!(plain == fast);
+    if checked.is_ok() {
+        let mut fast = vec![FILL; room];
+        assert_eq!(answer, fast::rom::respond_checked(image, command, &mut fast).map_err(Into::into));
+        assert!(plain == fast);
+    }
 }
 
 /// Changes up to three bytes, and sometimes the length.
@@ -224,6 +239,30 @@ fn sheets_and_commands() {
 }
 
 #[test]
+fn images() {
+    let mut numbers = Numbers(0x5EED_0000_0000_0004);
+    let mut seen = Seen::default();
+    for _ in 0..12_000 {
+        let most = [4, 24][numbers.below(2) as usize];
+        let mut image = ask(&make_sheet(&mut numbers, most), 0, 0, 65_535).1;
+        if numbers.below(2) == 0 {
+            damage(&mut numbers, &mut image);
+        }
+        for _ in 0..4 {
+            let (rt, sfn) = (numbers.below(3) as u8, numbers.below(70) as u16);
+            let allocation = [numbers.below(300) as u16, 65_535][numbers.below(2) as usize];
+            let mut command = command(rt, [0, sfn][numbers.below(2) as usize], allocation).to_vec();
+            if numbers.below(4) == 0 {
+                damage(&mut numbers, &mut command);
+            }
+            let room = [numbers.below(300) as usize, 8_000][numbers.below(2) as usize];
+            same_image(&mut seen, &image, &command, room);
+        }
+    }
+    seen.are((14..=18).chain([0, 3, 5, 20, 29, 41, 44]).chain(9..=12));
+}
+
+#[test]
 fn flags() {
     // Where the flags of E's features stand in the sheet and in its full response.
     let in_sheet = [6, 14, 22, 30];
@@ -326,6 +365,13 @@ fn long_ones() {
         same_descriptors(&mut seen, &received);
         same_profiles(&mut seen, &received);
         same_import(&mut seen, &received, 140_000);
+        for rt in 0..3 {
+            for sfn in [0, count / 2, 65_535] {
+                for allocation in [11, 1_000, 65_535] {
+                    same_image(&mut seen, &received, &command(rt, sfn, allocation), 65_534);
+                }
+            }
+        }
     }
     for rt in 0..2 {
         same_sweep(&mut seen, &in_a_row(65_535, 0), rt, 20, [65_534, 262_152, 65_536]);

@@ -6,6 +6,7 @@ mod fewest;
 mod import;
 mod places;
 mod refusals;
+mod rom;
 mod sense;
 mod sheets;
 mod worked;

@@ -1,8 +1,9 @@
 //! Sense data: the four strings, the numbers that have one, and what is read.
 
-use super::{command, E, FILL};
+use super::{command, E, E_FULL, FILL};
 use crate::command::respond;
 use crate::numbers::*;
+use crate::rom;
 use crate::sense::{make, read, Kind};
 
 const NOTHING: [u8; 18] = [0x70, 0, 0, 0, 0, 0, 0, 0x0A, 0, 0, 0, 0, 0, 0, 0, 0, 0, 0];
@@ -15,7 +16,7 @@ const KINDS: [(Kind, [u8; 18], &[u8]); 4] = [
     (Kind::Nothing, NOTHING, &[0]),
     (Kind::Operation, OPERATION, &[9, 10]),
     (Kind::Field, FIELD, &[11]),
-    (Kind::Trouble, TROUBLE, &[1, 2, 3, 4, 5, 6, 7, 8, 12, 44]),
+    (Kind::Trouble, TROUBLE, &[1, 2, 3, 4, 5, 6, 7, 8, 12, 14, 15, 16, 17, 18, 20, 29, 41, 44]),
 ];
 
 /// The number with which making is refused; sees that the buffer is unchanged.
@@ -69,6 +70,32 @@ fn a_refused_command_has_sense() {
     assert_eq!(Kind::of(number(&E, &command(3, 0, 64), 64)), Some(Kind::Field));
     assert_eq!(Kind::of(number(&E, &good, 43)), Some(Kind::Trouble));
     assert_eq!(Kind::of(number(&E[..51], &good, 64)), Some(Kind::Trouble));
+}
+
+#[test]
+fn a_refused_image_has_sense() {
+    let number =
+        |image: &[u8], command: &[u8], room: usize| match rom::respond(image, command, &mut vec![FILL; room])
+        {
+            Ok(_) => ACCEPTED,
+            Err(refusal) => refusal.number,
+        };
+    let good = command(0, 0, 64);
+    assert_eq!(Kind::of(number(&E_FULL, &good, 64)), Some(Kind::Nothing));
+    assert_eq!(Kind::of(number(&E_FULL, &good[..9], 64)), Some(Kind::Operation));
+    assert_eq!(Kind::of(number(&E_FULL, &command(3, 0, 64), 64)), Some(Kind::Field));
+    assert_eq!(Kind::of(number(&E_FULL, &good, 43)), Some(Kind::Trouble));
+    for cut in 0..44 {
+        assert_eq!(Kind::of(number(&E_FULL[..cut], &good, 64)), Some(Kind::Trouble));
+    }
+    for at in 0..44 {
+        for value in 0..=255 {
+            let mut image = E_FULL;
+            image[at] = value;
+            let kind = if number(&image, &good, 64) == ACCEPTED { Kind::Nothing } else { Kind::Trouble };
+            assert_eq!(Kind::of(number(&image, &good, 64)), Some(kind));
+        }
+    }
 }
 
 #[test]

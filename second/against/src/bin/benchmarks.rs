@@ -14,6 +14,7 @@ use second::fast::checks::{check_descriptors, check_profile};
 use second::fast::command::{respond, respond_checked};
 use second::fast::import::import;
 use second::fast::reading::read;
+use second::fast::rom;
 use second::fast::sheet::check;
 use second::wire::{Feature, Profile};
 
@@ -40,6 +41,7 @@ fn main() {
     println!("{}", head(run.effort));
     commands(&run);
     commands_from_the_last(&run);
+    images(&run);
     checks_of_sheets(&run);
     readings(&run);
     sweeps(&run);
@@ -151,6 +153,86 @@ fn commands_from_the_last(run: &Run) {
             time_accepted(run, &name, &sheet, command(rt, 65_535, 65_535), None);
         }
     }
+}
+
+/// The same commands to a sheet and to its image, both accepted before; then to an image that is checked, and its check.
+fn images(run: &Run) {
+    let long = sheet_of(&profiles(2, 1), &in_a_row(250, 252));
+    let (small, empty) = (small_bodies(), no_bodies());
+    // RT 0 from 0, RT 0 from the middle on, the current ones, and the one in the middle.
+    let sheets: [(&str, &[u8], u16, Option<usize>); 4] = [
+        ("sheet E", &E, 0x0003, None),
+        ("4,000 features of 4 bytes", &small, 2_000, None),
+        ("250 features of 252 bytes", &long, 125, Some(252)),
+        ("16,380 features without bodies", &empty, 8_190, None),
+    ];
+    for (name, sheet, middle, pieces) in sheets {
+        let image = sent(sheet, 0, 0, 65_535);
+        for (rt, sfn, asked) in [
+            (0, 0, "RT 0"),
+            (0, middle, "RT 0 from the middle"),
+            (1, 0, "RT 1"),
+            (2, middle, "RT 2, the middle one"),
+        ] {
+            let (name, command) = (format!("{name}, {asked}"), command(rt, sfn, 65_535));
+            let pieces = pieces.filter(|_| rt < 2);
+            time_accepted(run, &format!("command to {name}"), sheet, command, pieces);
+            time_image(run, &format!("command to the image of {name}"), &image, command, pieces);
+        }
+        time_checked_image(
+            run,
+            &format!("command to the image of {name}, RT 0"),
+            &image,
+            command(0, 0, 65_535),
+        );
+        run.time(Case {
+            name: format!("check of the image of {name}"),
+            input: &image,
+            room: 0,
+            bytes: image.len(),
+            pieces: None,
+            proved: Box::new(|image, _| {
+                let mut numbers = [0];
+                usize::from(raw::check_image(image, &mut numbers)) + numbers[0] as usize
+            }),
+            plain: Box::new(|image, _| {
+                let (number, place) = told(&rom::check(image));
+                usize::from(number) + place
+            }),
+        });
+    }
+}
+
+/// Times a command to an image that was accepted before.
+fn time_image(run: &Run, name: &str, image: &[u8], command: [u8; 10], pieces: Option<usize>) {
+    run.time(Case {
+        name: format!("{name}, image accepted before"),
+        input: image,
+        room: MOST,
+        bytes: rom::respond(image, &command, &mut vec![0; MOST]).unwrap_or(0),
+        pieces,
+        proved: Box::new(|image, out| {
+            let mut numbers = [0];
+            usize::from(raw::respond_image_accepted(image, &command, out, &mut numbers)) + numbers[0] as usize
+        }),
+        plain: Box::new(|image, out| rom::respond_checked(image, &command, out).unwrap_or(0)),
+    });
+}
+
+/// Times a command to an image that is checked.
+fn time_checked_image(run: &Run, name: &str, image: &[u8], command: [u8; 10]) {
+    run.time(Case {
+        name: format!("{name}, image checked"),
+        input: image,
+        room: MOST,
+        bytes: rom::respond(image, &command, &mut vec![0; MOST]).unwrap_or(0),
+        pieces: None,
+        proved: Box::new(|image, out| {
+            let mut numbers = [0; 2];
+            usize::from(raw::respond_image(image, &command, out, &mut numbers)) + numbers[0] as usize
+        }),
+        plain: Box::new(|image, out| rom::respond(image, &command, out).unwrap_or(0)),
+    });
 }
 
 /// Checks of sheets, which read the contents and the profiles.

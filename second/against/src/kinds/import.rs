@@ -1,9 +1,9 @@
 //! gcf_import.
 
-use super::READING;
+use super::{images, READING};
 use crate::lent::{Given, Memory};
 use crate::made::captures::{
-    capture_of, example, good_import, import_faults, long_bodies, no_bodies, put_current, random_capture,
+    capture_of, example, full_sheets, good_import, import_faults, put_current, random_capture,
     short_captures, spoil,
 };
 use crate::made::damage::damage;
@@ -138,12 +138,14 @@ fn round_trip(run: &mut Run, sheet: &[u8]) {
     come_back(run, &response);
 }
 
-/// A capture that is accepted comes back from its sheet, which the proved check accepts.
+/// A capture that is accepted comes back from its sheet, which the proved check accepts, and as an image it answers as that
+/// sheet does.
 fn come_back(run: &mut Run, capture: &[u8]) {
     let sheet = proved_sheet(capture);
     let holds =
         raw::check_sheet(&sheet, &mut []) == 0 && proved_response(&sheet, capture.len() + 1) == capture;
     run.holds(holds, "a capture does not come back", &[Input::Bytes("capture", &Given::new(capture))]);
+    images::side_by_side(run, capture, &sheet);
 }
 
 /// Compares, and sees that a capture comes back if it is accepted.
@@ -248,13 +250,6 @@ fn each_flags(run: &mut Run) {
         let told = compare_roomy(run, &capture, 2);
         run.expect_told(told, (if flags == 3 { 0 } else { 41 }, 0));
     }
-}
-
-/// Sheets whose responses have 65,532 bytes.
-fn full_sheets() -> [Vec<u8>; 3] {
-    let mut mixed = in_a_row(255, 252);
-    mixed.push((0xFFFF, 1, body(232)));
-    [long_bodies(), no_bodies(), sheet_of(&profiles(1, 1), &mixed)]
 }
 
 /// Responses of 65,528 to 65,536 bytes, whole and cut, with their last flags spoilt, and with each room.

@@ -11,8 +11,8 @@ fn answers() -> Vec<u64> {
     vec![0, 54, 55]
 }
 
-/// The numbers that a command gives.
-const GIVEN: [u8; 14] = [0, 1, 2, 3, 4, 5, 6, 7, 8, 9, 10, 11, 12, 44];
+/// The numbers that a command gives, to a sheet or to an image.
+const GIVEN: [u8; 22] = [0, 1, 2, 3, 4, 5, 6, 7, 8, 9, 10, 11, 12, 14, 15, 16, 17, 18, 20, 29, 41, 44];
 
 /// Compares one making.
 fn compare(run: &mut Run, number: u8, room: usize, numbers: usize) -> u64 {

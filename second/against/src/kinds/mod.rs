@@ -3,10 +3,12 @@
 
 mod bench;
 mod check_descriptors;
+mod check_image;
 mod check_profile;
 mod check_sheet;
 mod commands;
 mod held;
+mod images;
 mod import;
 mod list;
 mod make_sense;
@@ -15,6 +17,8 @@ mod read;
 mod read_sense;
 mod respond;
 mod respond_accepted;
+mod respond_image;
+mod respond_image_accepted;
 mod sweep_start;
 mod sweep_take;
 
@@ -28,6 +32,9 @@ pub const KINDS: &[Kind] = &[
     check_sheet::KIND,
     respond::KIND,
     respond_accepted::KIND,
+    check_image::KIND,
+    respond_image::KIND,
+    respond_image_accepted::KIND,
     read::KIND,
     held::KIND,
     list::KIND,
@@ -89,3 +96,6 @@ const SHEET: [u64; 10] = [0, 1, 2, 3, 4, 5, 44, 6, 7, 8];
 
 /// The answers of a reading with RT 0.
 const READING: [u64; 7] = [0, 14, 15, 16, 17, 18, 20];
+
+/// The answers of an image's check: a reading's, 29, 41, and of the sheet's 3, 5 and 44.
+const IMAGE: [u64; 12] = [0, 14, 15, 16, 17, 18, 20, 29, 41, 3, 5, 44];

@@ -2,7 +2,7 @@
 
 use super::faults::{fault, fault_at, Fault, FLAG_FAULTS};
 use super::responses::{places, response_of, sent};
-use super::sheets::{body, in_a_row, profiles, random_parts, sheet_of, short_sheets, E};
+use super::sheets::{body, in_a_row, profiles, random_parts, sheet_of, short_sheets, starts_near, E};
 use super::{put16, put32, Part};
 use crate::random::Random;
 use crate::run::Told;
@@ -27,6 +27,19 @@ pub fn put_current(bytes: &mut [u8]) {
 /// Captures short enough to spoil at every bit.
 pub fn short_captures() -> Vec<Vec<u8>> {
     short_sheets().iter().map(|sheet| sent(sheet, 0, 0, 65_535)).collect()
+}
+
+/// Starting feature numbers that matter to a capture.
+pub fn starts_of(capture: &[u8], most: usize) -> Vec<u16> {
+    let numbers: Vec<u16> = descriptors_in(capture).iter().map(|&at| be16(capture, at)).collect();
+    starts_near(&numbers, most)
+}
+
+/// Sheets whose responses have 65,532 bytes.
+pub fn full_sheets() -> [Vec<u8>; 3] {
+    let mut mixed = in_a_row(255, 252);
+    mixed.push((0xFFFF, 1, body(232)));
+    [long_bodies(), no_bodies(), sheet_of(&profiles(1, 1), &mixed)]
 }
 
 /// E's response.

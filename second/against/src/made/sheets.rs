@@ -96,7 +96,11 @@ pub fn numbers_in(sheet: &[u8]) -> Vec<u16> {
 
 /// Starting feature numbers that matter to a sheet: the ends, and some of its numbers with their neighbours.
 pub fn starts_for(sheet: &[u8], most: usize) -> Vec<u16> {
-    let numbers = numbers_in(sheet);
+    starts_near(&numbers_in(sheet), most)
+}
+
+/// The ends, and some of these numbers with their neighbours.
+pub fn starts_near(numbers: &[u16], most: usize) -> Vec<u16> {
     let step = numbers.len() / most.max(1) + 1;
     let mut starts = vec![0, 1, 0xFFFF];
     for number in numbers.iter().step_by(step).chain(numbers.last()) {

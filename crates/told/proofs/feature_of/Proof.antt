@@ -1,8 +1,8 @@
--- `importer::feature_of` is safe and ends: the walk goes one descriptor on for each entry. Assumes nothing.
+-- `told::feature_of` is safe and ends: the walk goes one descriptor on for each entry. Assumes nothing.
 use borrow.Author.Needs.{needs}
 use Prim.Native.Nat.{_≤_, _-_}
-use Rattle.importer.proofs.feature_of.Statement.{statement}
-use Rattle.importer.proofs.feature_of.Tie as tie
+use Rattle.told.proofs.feature_of.Statement.{statement}
+use Rattle.told.proofs.feature_of.Tie as tie
 
 abbrev Inv-loop : tie.InvT-loop
 Inv-loop response entry at₀ i₀ at i = i ≤ entry

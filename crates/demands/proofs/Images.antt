@@ -1,0 +1,138 @@
+-- The ROM way: "For RT 0, 1 and 2, any SFN and any allocation length, it must send what the sheet engine sends for the imported sheet", and "all of import's
+-- [refusals] but 42, in import's order, then 9 to 12". `imageAnswered` is the contract of `rom::respond`, `answered` that of `responder::respond`, `imported` that of
+-- `import::import`. Assumes nothing.
+use mathlib.Core.Path.{_≡_, refl, sym, ap, _∙_}
+use mathlib.Core.Bool.{Bool, true, false}
+use mathlib.Core.List.{List}
+use Prim.Native.Nat.{ℕ, zero, suc}
+use native.Mathlib.Omega.{arith}
+use lib.Dec.{ltb}
+use lib.ListN.{length, take}
+use base.Logic.{ent, id⊢, via}
+use contract.Monad.{conj, conj-mono, fact}
+use contract.Lifetimes.{Lfts}
+use denote.Triple.Entry.{Args}
+use Rattle.base.specs.Lists.{Bytes}
+use Rattle.base.proofs.Decided.{Call, Outcome, allowed}
+use Rattle.base.proofs.Promise.{beside, both}
+use Rattle.refusal.specs.declared.Refusal.{Refusal}
+use Rattle.refusal.specs.First.{refuse, accept, _if_else_}
+use Rattle.refusal.proofs.First.{orElse-none, unless-none, unless-fault}
+use Rattle.lent.specs.Maker as maker
+use Rattle.lent.proofs.Maker.{makes-fault, makes-number}
+use Rattle.text.specs.Command.{commandFault, rtOf, sfnOf, allocationOf}
+use Rattle.text.specs.Drive.{Drive}
+use Rattle.text.specs.Response.{sent}
+use Rattle.sheet.specs.Check.{verdict}
+use Rattle.responder.specs.Answer.{commanded, answered}
+use Rattle.responder.proofs.Trusting as responder
+use Rattle.responder.proofs.respond as respond
+use Rattle.reading.specs.Places.{descs}
+use Rattle.capture.specs.Capture.{captured, captureFault}
+use Rattle.capture.specs.Lines.{LocatedAmong}
+use Rattle.capture.proofs.Lines.{capture-located}
+use Rattle.import.specs.Import.{sheetFrom, imported}
+use Rattle.import.proofs.Answers.{imported-zero}
+use Rattle.import.proofs.import as import
+use Rattle.rom.specs.Rom.{imageAnswered}
+use Rattle.rom.specs.Image.{imageCommanded}
+use Rattle.rom.proofs.Accepted as rom
+use Rattle.rom.proofs.respond as rom-respond
+use Rattle.demands.proofs.Importing.{imported-accepted, imported-means, stored}
+
+-- ---- one call
+
+-- Of the number and place r of an image i: import's, but for 42; with the place of the profile or entry at fault.
+pub record ChecksImage (i : List ℕ) (r : Refusal) : Type 0 where
+  pub exact : r ≡ captureFault i
+  pub located : LocatedAmong (descs i) r
+
+pub checks-image : (i : List ℕ) → ChecksImage i (captureFault i)
+checks-image i = record { exact = refl; located = capture-located i }
+
+-- Of an outcome o of the image i, the command c and the buffer d: where import accepts the image, the sheet engine's answer from the imported sheet, refusal, count
+-- and buffer; where it does not, import's number and place, and nothing changed.
+pub record Images (i c d : List ℕ) (o : maker.Outcome) : Type 0 where
+  pub exact : o ≡ imageAnswered i c d
+  pub same : Bytes i → captureFault i .number ≡ 0 → o ≡ answered (sheetFrom i) c d
+  pub refuses : (captureFault i .number ≡ 0 → ⊥) → o ≡ maker.refusing d (captureFault i)
+
+module _ (i c d : List ℕ) where
+  -- what both engines come to: 9 to 11, 12, or the bytes of the drive that the image describes
+  abbrev of-drive : Drive → maker.Outcome
+  of-drive m = maker.makes (commandFault c) 12 (sent (rtOf c) (sfnOf c) (allocationOf c) m) d
+
+  from-sheet : Bytes i → captureFault i .number ≡ 0 → answered (sheetFrom i) c d ≡ of-drive (captured (descs i))
+  unfolding commanded
+  from-sheet b e =
+      responder.answered-after (sheetFrom i) c d
+      ∙ unless-none (verdict (sheetFrom i)) (maker.refusing d) (commanded (sheetFrom i) c d) (imported-accepted i b e)
+      ∙ ap of-drive (imported-means i b e)
+
+  pub images : Images i c d (imageAnswered i c d)
+  images = record {
+    exact = refl;
+    same = λ b e. rom.answered-after i c d ∙ unless-none (captureFault i) (maker.refusing d) (of-drive (captured (descs i))) e ∙ sym (from-sheet b e);
+    refuses = λ h. rom.answered-after i c d ∙ unless-fault (captureFault i) (maker.refusing d) (of-drive (captured (descs i))) h;
+  }
+
+  -- From an image that was checked once.
+  pub record ImagesOnce (o : maker.Outcome) : Type 0 where
+    pub exact : o ≡ imageCommanded i c d
+    pub same : Bytes i → captureFault i .number ≡ 0 → o ≡ answered (sheetFrom i) c d
+
+  pub images-once : ImagesOnce (imageCommanded i c d)
+  images-once = record { exact = refl; same = λ b e. rom.image-accepted i b e c d ∙ sym (from-sheet b e) }
+
+-- ---- three calls: `import` with a capture, `respond` with the sheet that it left, `rom::respond` with the capture as its image
+
+-- where import answers 0 the two engines leave the same; where it refuses anything but the buffer, the ROM engine refuses it by that number and place
+pub record Agrees (imports : Refusal) (sheet image : maker.Outcome) : Type 0 where
+  pub same : imports .number ≡ 0 → image ≡ sheet
+  pub refused : (imports .number ≡ 0 → ⊥) → (imports .number ≡ 42 → ⊥) → image .made .refusal ≡ imports
+
+agree : (i d c e : List ℕ) → Bytes i → (o : maker.Outcome) → o ≡ imported i d → (s : List ℕ) → s ≡ take (o .made .count) (o .buffer)
+    → Agrees (o .made .refusal) (answered s c e) (imageAnswered i c e)
+unfolding imported maker.refusing _if_else_
+agree i d c e b o q s there = record {
+  same = λ z.
+      let w : imported i d .made .refusal .number ≡ 0 = sym (ap (λ (x : maker.Outcome). x .made .refusal .number) q) ∙ z in
+      let x : s ≡ sheetFrom i = there ∙ ap (λ (y : maker.Outcome). take (y .made .count) (y .buffer)) q ∙ stored i d b w .sheet in
+      rw x (images i c e .same b (imported-zero i d w .0));
+  refused = λ h k. go (captureFault i .number) refl h k;
+}
+  where
+    go : (n : ℕ) → captureFault i .number ≡ n → (o .made .refusal .number ≡ 0 → ⊥) → (o .made .refusal .number ≡ 42 → ⊥) → imageAnswered i c e .made .refusal ≡ o .made .refusal
+    go zero z h k = absurd (only (ltb (length d) (length (sheetFrom i))) (ap (λ (x : maker.Outcome). x .made .refusal .number) q ∙ makes-number (captureFault i) 42 (sheetFrom i) d ∙ ap (λ (r : Refusal). r .number) (orElse-none (captureFault i) _ z)))
+      where
+        only : (x : Bool) → o .made .refusal .number ≡ (refuse 42 if x else accept) .number → ⊥
+        only true p = k p
+        only false p = h p
+    go (suc n) z h k =
+        let f : captureFault i .number ≡ 0 → ⊥ = λ y. omega arith in
+        ap (λ (x : maker.Outcome). x .made .refusal) (images i c e .refuses f)
+        ∙ sym (ap (λ (x : maker.Outcome). x .made .refusal) (q ∙ makes-fault (captureFault i) 42 (sheetFrom i) d f))
+
+pair : {φ ψ : Type 0} → φ → ψ → φ × ψ
+pair f g = (f, g)
+
+module _ (x : Call import.ended (λ M. import.clauses)) (κs : Lfts (respond.ended .signature .lifetimes)) (args : Args (respond.ended .signature) κs)
+    (κs₂ : Lfts (rom-respond.ended .signature .lifetimes)) (args₂ : Args (rom-respond.ended .signature) κs₂) where
+  abbrev by-sheet : Call respond.ended (λ M. respond.clauses)
+  by-sheet = beside x κs args tt
+
+  abbrev by-image : Call rom-respond.ended (λ M. rom-respond.clauses)
+  by-image = beside x κs₂ args₂ tt
+
+  pub rom-end-to-end : (o : Outcome import.ended (λ M. import.clauses) x) (p : Outcome respond.ended (λ M. respond.clauses) by-sheet)
+      (r : Outcome rom-respond.ended (λ M. rom-respond.clauses) by-image)
+      → ent (x .𝓤) (conj (x .𝓤) (allowed import.ended (λ M. import.clauses) x o)
+      (conj (x .𝓤) (allowed respond.ended (λ M. respond.clauses) by-sheet p) (allowed rom-respond.ended (λ M. rom-respond.clauses) by-image r))) (fact (x .𝓤) (
+      Bytes (x .args .0 .now) → args₂ .0 .now ≡ x .args .0 .now → args .0 .now ≡ take (o .0 .count) (o .1 .1 .0)
+      → args₂ .1 .0 .now ≡ args .1 .0 .now → args₂ .1 .1 .0 .now ≡ args .1 .1 .0 .now
+      → Agrees (o .0 .refusal) (maker.outcome (p .0) (p .1 .1 .1 .0)) (maker.outcome (r .0) (r .1 .1 .1 .0))))
+  rom-end-to-end o p r =
+      via (x .𝓤) _ (conj-mono (x .𝓤) (id⊢ (x .𝓤) _) (both (x .𝓤) pair))
+      (both (x .𝓤) (λ q fg b is-image there is-command is-buffer.
+      let a = agree (x .args .0 .now) (x .args .1 .0 .now) (args .1 .0 .now) (args .1 .1 .0 .now) b (maker.outcome (o .0) (o .1 .1 .0)) q (args .0 .now) there in
+      rw (fg .0, rw (is-image, is-command, is-buffer) at (fg .1)) a))

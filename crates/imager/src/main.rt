@@ -1,0 +1,37 @@
+// Reads an image, a complete response to RT 0 from 0, from standard input and writes what a box that holds it answers to a command to standard output. A refusal is
+// a line on standard error, and nothing is written then. Argument: the command's bytes, two hexadecimal digits each; with none it is RT 0 from 0, allocation length 65,535.
+use text::Header;
+
+// One byte more than an image may have: an input that fills it is refused, not shortened.
+const ROOM: usize = Header::RETURN_LIMIT + 1;
+
+fn answer_command(image: &[u8], command: &[u8]) {
+    let mut response = [0u8; Header::RETURN_LIMIT];
+    let reply = rom::respond(image, command, &mut response);
+    let refusal = reply.refusal;
+    if refusal.number != 0 {
+        told::say_capture_refused(refusal, image);
+        return;
+    }
+    streams::say(fields::part(&response, 0, reply.count));
+}
+
+fn answer(image: &[u8]) {
+    if !streams::given(1) {
+        answer_command(image, b"\x46\0\0\0\0\0\0\xFF\xFF\0");
+        return;
+    }
+    let mut command = [0u8; 64];
+    let count = streams::arg_bytes(1, &mut command);
+    answer_command(image, &command[..count]);
+}
+
+fn main() {
+    let mut input = [0u8; ROOM];
+    let got = streams::read(&mut input);
+    let count = got.count;
+    if !got.failed {
+        answer(&input[..count]);
+    }
+    streams::mark_end();
+}

@@ -1,0 +1,3 @@
+pub mod Rom
+pub mod Image
+pub mod inner

@@ -1,0 +1,110 @@
+//! gcf_check_image.
+
+use super::IMAGE;
+use crate::lent::{Given, Memory};
+use crate::made::captures::{
+    example, full_sheets, good_import, import_faults, random_capture, short_captures, spoil,
+};
+use crate::made::damage::damage;
+use crate::made::faults::{each_faulty_response, each_pair};
+use crate::made::responses::{each_short, long_responses, random_response, sent};
+use crate::random::Random;
+use crate::run::{told, Input, Kind, Run, Told};
+use gcf::raw;
+
+pub const KIND: Kind = Kind { name: "gcf_check_image", answers: || IMAGE.to_vec(), fixed, random };
+
+/// Compares one check, and sees that the proved import refuses alike, with room enough.
+fn compare(run: &mut Run, image: &[u8], numbers: usize) -> Told {
+    let image = Given::new(image);
+    let told = run.compare_told(
+        &[Input::Bytes("image", &image)],
+        Memory::numbers(numbers),
+        |memory| raw::check_image(image.proved(), memory.numbers.part()),
+        |memory| {
+            let told = told(&second::rom::check(image.plain()));
+            memory.give(&[told.1 as u64]);
+            told
+        },
+    );
+    let (mut sheet, mut place) = (vec![0; 2 * image.proved().len().min(65_535) + 8], [0; 2]);
+    let number = raw::import(image.proved(), &mut sheet, &mut place);
+    let holds = (number, place[1] as usize) == told;
+    run.holds(holds, "import refuses otherwise", &[Input::Bytes("image", &image)]);
+    told
+}
+
+fn fixed(run: &mut Run) {
+    let good = good_import();
+    for numbers in 0..4 {
+        let told = compare(run, &good.capture, numbers);
+        run.expect_told(told, (0, 0));
+    }
+    let mut faults = import_faults();
+    faults.retain(|fault| fault.told.0 != 42);
+    each_pair(&good, &faults, &mut |import, wanted| {
+        for numbers in [1, 0, 3] {
+            let told = compare(run, &import.capture, numbers);
+            run.expect_told(told, wanted);
+        }
+    });
+    let mut numbers = 0;
+    let mut see = |image: &[u8]| {
+        numbers = (numbers + 1) % 3;
+        compare(run, image, numbers);
+    };
+    each_faulty_response(&mut see);
+    each_short(&mut see);
+    long_responses().iter().for_each(|image| see(image));
+    full_sheets().iter().for_each(|sheet| see(&sent(sheet, 0, 0, 65_535)));
+    for image in short_captures() {
+        for cut in 0..=image.len() {
+            see(&image[..cut]);
+        }
+        each_bit(&image, &mut see);
+    }
+    each_two_bits(&mut see);
+}
+
+/// An image with each bit flipped.
+fn each_bit(image: &[u8], see: &mut dyn FnMut(&[u8])) {
+    let mut bytes = image.to_vec();
+    for bit in 0..8 * bytes.len() {
+        bytes[bit / 8] ^= 1 << (bit % 8);
+        see(&bytes);
+        bytes[bit / 8] ^= 1 << (bit % 8);
+    }
+}
+
+/// E's image with each two bits flipped.
+fn each_two_bits(see: &mut dyn FnMut(&[u8])) {
+    let mut bytes = example();
+    for one in 0..8 * bytes.len() {
+        bytes[one / 8] ^= 1 << (one % 8);
+        for two in 0..one {
+            bytes[two / 8] ^= 1 << (two % 8);
+            see(&bytes);
+            bytes[two / 8] ^= 1 << (two % 8);
+        }
+        bytes[one / 8] ^= 1 << (one % 8);
+    }
+}
+
+fn random(run: &mut Run, random: &mut Random) {
+    let most = if random.once_in(100) { 16_380 } else { random.one_of(&[0, 3, 12, 12, 40, 300]) };
+    let image = random_capture(random, most);
+    let told = compare(run, &image, random.below(3));
+    run.expect_told(told, (0, 0));
+    for _ in 0..6 {
+        let mut bytes = image.clone();
+        if random.once_in(3) {
+            damage(random, &mut bytes);
+        } else {
+            for _ in 0..=random.below(3) {
+                spoil(random, &mut bytes);
+            }
+        }
+        compare(run, &bytes, random.below(3));
+    }
+    compare(run, &random_response(random, 0).bytes, random.below(3));
+}
