@@ -1,0 +1,17 @@
+-- `viewer::say_bytes` is safe and ends: a byte at a time. Assumes nothing.
+use borrow.Author.Needs.{needs}
+use Prim.Native.Nat.{_≤_, _-_}
+use lib.ListN.{length}
+use Rattle.viewer.proofs.say_bytes.Statement.{statement}
+use Rattle.viewer.proofs.say_bytes.Tie as tie
+
+abbrev Inv-loop : tie.InvT-loop
+Inv-loop body between i₀ i = i ≤ length body
+
+abbrev μ-loop : tie.MeasureT-loop
+μ-loop body between i₀ i = length body - i
+
+pub say-bytes-spec : {M : Type 1} → statement M
+say-bytes-spec =
+    tie.close
+    (tie.spec Inv-loop μ-loop (λ c. search needs) (λ c κs. search needs) (λ c. search needs) (λ c κs. search needs) (λ c. search needs) (λ c. search needs) (λ c. search needs) (λ c. search needs))

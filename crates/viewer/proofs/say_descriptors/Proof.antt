@@ -1,0 +1,16 @@
+-- `viewer::say_descriptors` is safe and ends: a descriptor at a time. Assumes nothing.
+use borrow.Author.Needs.{needs}
+use Prim.Native.Nat.{_≤_, _-_}
+use Rattle.viewer.proofs.say_descriptors.Statement.{statement}
+use Rattle.viewer.proofs.say_descriptors.Tie as tie
+
+abbrev Inv-loop : tie.InvT-loop
+Inv-loop json s count at₀ i₀ at i = i ≤ count
+
+abbrev μ-loop : tie.MeasureT-loop
+μ-loop json s count at₀ i₀ at i = count - i
+
+pub say-descriptors-spec : {M : Type 1} → statement M
+say-descriptors-spec =
+    tie.close
+    (tie.spec Inv-loop μ-loop (λ c. search needs) (λ c κs. search needs) (λ c κs. search needs) (λ c κs. search needs) (λ c. search needs) (λ c. search needs) (λ c. search needs) (λ c. search needs))
