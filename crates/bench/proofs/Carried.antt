@@ -1,4 +1,5 @@
--- What the loop over the rounds carries along: how many bytes are left to be sent, and how many of the response buffer can be dirty. Assumes nothing.
+-- What the loop over the rounds carries along: the first entry that is left, how many bytes are left to be sent, and how many of the response buffer can
+-- be dirty. Assumes nothing.
 use mathlib.Core.Path.{_≡_, refl, sym, ap, _∙_}
 use mathlib.Core.Bool.{true, false}
 use mathlib.Core.List.{List, [], _∷_, _++_}
@@ -12,10 +13,16 @@ use Rattle.text.specs.Response.{bytes, selected}
 use Rattle.text.specs.Reading.{statedProfile, Walked, lastNumber}
 use Rattle.text.proofs.Sizes.{length-full}
 use Rattle.text.proofs.Own.{walked-sent}
-use Rattle.text.proofs.Packing.{flat-parts}
+use Rattle.text.proofs.Packing.{whole-rest, flat-parts}
+use Rattle.text.proofs.Selection.{selected-asc}
+use Rattle.text.proofs.Next.{last-from}
+use Rattle.layout.specs.Layout.{featureCount}
 use Rattle.sheet.specs.Check.{Accepted}
 use Rattle.sheet.specs.Meaning.{meaning}
-use Rattle.responder.specs.inner.Index.{takenSize}
+use Rattle.sheet.specs.inner.Search.{nextFrom}
+use Rattle.sheet.proofs.Accepted as accepted
+use Rattle.sheet.proofs.Passing.{next-first}
+use Rattle.responder.specs.inner.Index.{takenFrom, takenSize}
 use Rattle.responder.proofs.Full.{found-length}
 use Rattle.sweep.specs.declared.Sweep.{Sweep}
 use Rattle.sweep.specs.Sweep.{cut, wholesOf, advanced, Turn, taking}
@@ -67,6 +74,15 @@ clean-cleared {n} {d} c q =
 pub taken-wanted : (s : List ℕ) (b : Bytes s) (ok : Accepted s) (w : Sweep) → wantedSize (meaning s) w ≡ takenSize s (w .rt) (w .next .0)
 taken-wanted s b ok w = omega (arith, length-full (w .rt) (w .next .0) (meaning s), found-length s (w .rt) (w .next .0) b ok)
 
+-- ---- the first entry that is left
+
+-- on from that of an earlier start
+pub first-left : (s : List ℕ) (b : Bytes s) (ok : Accepted s) {start next n from r : ℕ} → n ≡ featureCount s → from ≡ takenFrom s start → start ≤ next → r ≡ nextFrom s n next from → r ≡ takenFrom s next
+unfolding takenFrom
+first-left s b ok q e h p = next-first (accepted.facts s b ok) e h (rw (← q) p)
+
+-- ---- from round to round
+
 -- what goes along beside where a sweep stands
 pub record Carried (m : Drive) (w : State) (left dirty : ℕ) : Type 0 where
   pub size : w .sweep .ended ≡ false → left ≡ wantedSize m (w .sweep)
@@ -103,6 +119,15 @@ module _ {m : Drive} (good : Sound m) (w : State) (f : roundFault m w .number �
 
   pub round-within : rounded m w .sweep .collected - w .sweep .collected ≤ wantedSize m (w .sweep)
   round-within = omega (arith, gains, flat-parts (room a) (selected rt next m))
+
+  -- no start is lower than the one before
+  pub round-forward : rounded m w .sweep .ended ≡ false → w .sweep .next .0 ≤ rounded m w .sweep .next .0
+  unfolding advanced
+  round-forward e =
+      let c : cut (reply m (w .sweep)) ≡ true = not-false (cut (reply m (w .sweep))) (sym (ap (λ (v : Sweep). v .ended) moves) ∙ e) in
+      let h : 0 < length (fits m rt a next) = rw found at (facts .some c) in
+      let n : rounded m w .sweep .next .0 ≡ later m rt a next = rw (moves, c, advanced) in
+      omega (arith, n, last-from next (fits m rt a next) (left m rt a next) h (rw (whole-rest (room a) (selected rt next m)) (selected-asc good rt next)))
 
   -- and the rest is left for the next start
   pub round-leaves : rounded m w .sweep .ended ≡ false → wantedSize m (w .sweep) - (rounded m w .sweep .collected - w .sweep .collected) ≡ wantedSize m (rounded m w .sweep)

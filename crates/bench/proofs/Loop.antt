@@ -1,5 +1,5 @@
 -- What the functions inside the bench sweep need: the refusal before any round, a round, the loop over the rounds, the outcome. Assumes nothing.
-use mathlib.Core.Path.{_≡_, refl, sym, ap, _∙_}
+use mathlib.Core.Path.{_≡_, refl, sym, ap, ap₂, _∙_}
 use mathlib.Core.Bool.{true, false, not}
 use mathlib.Core.List.{List, [], _∷_}
 use Prim.Native.Nat.{ℕ, _+_, _-_, _≤_, _<_}
@@ -20,7 +20,7 @@ use Rattle.sheet.specs.Meaning.{meaning}
 use Rattle.lent.specs.declared.Made.{Made}
 use Rattle.lent.specs.Maker as maker
 use Rattle.responder.specs.Answer as box
-use Rattle.responder.specs.inner.Index.{takenSize}
+use Rattle.responder.specs.inner.Index.{takenFrom, takenSize}
 use Rattle.responder.specs.Sized.{sized}
 use Rattle.responder.proofs.Trusting.{trusting-accepted}
 use Rattle.responder.proofs.Sized.{sized-trusting}
@@ -33,7 +33,7 @@ use Rattle.bench.specs.Bench.{Buffers, buffers, State, state, Ending, en
 use Rattle.bench.specs.inner.Loop.{runFrom, SameLengths, Rounded, Ran}
 use Rattle.bench.proofs.Asked.{sent-most, take-filled, asked}
 use Rattle.bench.proofs.Run.{length-filled, round-full, round-room}
-use Rattle.bench.proofs.Carried.{clean-filled, Carried, round-gains, round-within, round-leaves}
+use Rattle.bench.proofs.Carried.{clean-filled, Carried, round-gains, round-within, round-forward, round-leaves}
 use Rattle.bench.proofs.Turns.{onwards, onwards-ended, onwards-fault, onwards-round, round-commands, rounded-few}
 
 -- ---- before any round
@@ -55,14 +55,14 @@ module _ (s : List ℕ) (rt a n : ℕ) (e : firstFault s rt a n .number ≡ 0) w
 -- ---- a round
 
 -- the box of a sheet that is accepted is asked into a buffer with room for a response
-module _ (s : List ℕ) (b : Bytes s) (ok : Accepted s) (rt f a : ℕ) (d : List ℕ) {size : ℕ} {blank : List ℕ} {r : Made} {e : List ℕ} (room : most a ≤ length d) (clear : blank ≡ replicate (length d) 0)
-    (told : size ≡ takenSize s rt f) (q : maker.outcome r e ≡ sized s rt f a size blank) where
+module _ (s : List ℕ) (b : Bytes s) (ok : Accepted s) (rt f a : ℕ) (d : List ℕ) {from size : ℕ} {blank : List ℕ} {r : Made} {e : List ℕ} (room : most a ≤ length d) (clear : blank ≡ replicate (length d) 0)
+    (found : from ≡ takenFrom s f) (told : size ≡ takenSize s rt f) (q : maker.outcome r e ≡ sized s rt f a from size blank) where
   abbrev due : List ℕ
   due = sent rt f a (meaning s)
 
   answers : maker.outcome r e ≡ maker.outcome (maker.written (length due)) (filled due d)
   unfolding zeros
-  answers = q ∙ ap (λ (k : ℕ). sized s rt f a k blank) told ∙ sized-trusting s rt f a blank ∙ trusting-accepted s b ok rt f a blank ∙ ap (box.requested s rt f a) clear ∙ asked s rt f a d room
+  answers = q ∙ ap₂ (λ (i k : ℕ). sized s rt f a i k blank) found told ∙ sized-trusting s rt f a blank ∙ trusting-accepted s b ok rt f a blank ∙ ap (box.requested s rt f a) clear ∙ asked s rt f a d room
 
   pub asked-count : r .count ≡ length due
   asked-count = ap (λ (o : maker.Outcome). o .made .count) answers
@@ -92,21 +92,22 @@ round-short {m} {w} {bs} h = record {
 }
 
 -- the start is noted, the box is asked, the record takes the bytes sent
-module _ (s : List ℕ) (w : Sweep) (bs : Buffers) {blank e out noted : List ℕ} {r : Made} {n size : ℕ} {t : Step} where
+module _ (s : List ℕ) (w : Sweep) (bs : Buffers) {blank e out noted : List ℕ} {r : Made} {n from size : ℕ} {t : Step} where
   pub round-asked : Bytes s → Accepted s → most (w .allocation) ≤ length (bs .response) → w .commands < length (bs .starts) → Wrote (bs .starts) (w .commands) (w .next .0 ∷ []) n noted
-      → blank ≡ replicate (length (bs .response)) 0 → size ≡ takenSize s (w .rt) (w .next .0) → maker.outcome r e ≡ sized s (w .rt) (w .next .0) (w .allocation) size blank
+      → blank ≡ replicate (length (bs .response)) 0 → from ≡ takenFrom s (w .next .0) → size ≡ takenSize s (w .rt) (w .next .0)
+      → maker.outcome r e ≡ sized s (w .rt) (w .next .0) (w .allocation) from size blank
       → turn t out ≡ stepped w (take (r .count) e) (bs .collected) → length out ≡ length (bs .collected)
       → Rounded (meaning s) (state w bs) (t .refusal) (state (t .sweep) (buffers e out noted))
   unfolding rounded
-  round-asked b ok room h wrote clear told q took l =
-      let part : take (r .count) e ≡ reply (meaning s) w = asked-part s b ok (w .rt) (w .next .0) (w .allocation) (bs .response) room clear told q in
+  round-asked b ok room h wrote clear found told q took l =
+      let part : take (r .count) e ≡ reply (meaning s) w = asked-part s b ok (w .rt) (w .next .0) (w .allocation) (bs .response) room clear found told q in
       let did : turn t out ≡ turnAt (meaning s) (state w bs) = took ∙ ap (λ (x : List ℕ). stepped w x (bs .collected)) part in
-      let fills : e ≡ filled (reply (meaning s) w) (bs .response) = asked-filled s b ok (w .rt) (w .next .0) (w .allocation) (bs .response) room clear told q in
+      let fills : e ≡ filled (reply (meaning s) w) (bs .response) = asked-filled s b ok (w .rt) (w .next .0) (w .allocation) (bs .response) room clear found told q in
       let notes : noted ≡ set (bs .starts) (w .commands) (w .next .0) = wrote .holds in
       record {
         fault = ap (λ (x : Turn). x .step .refusal) did ∙ sym (round-room (meaning s) (state w bs) h);
         stands = λ _. ap (λ (x : Turn). state (x .step .sweep) (buffers e (x .buffer) noted)) did ∙ rw (fills, notes);
-        kept = record { response = asked-length s b ok (w .rt) (w .next .0) (w .allocation) (bs .response) room clear told q; collected = l; starts = kept wrote };
+        kept = record { response = asked-length s b ok (w .rt) (w .next .0) (w .allocation) (bs .response) room clear found told q; collected = l; starts = kept wrote };
       }
 
 -- ---- the loop over the rounds
@@ -176,6 +177,10 @@ module _ {m : Drive} {was w v : State} {r : Refusal} (at : Standing m was w) (te
     standing-less =
         let k : v .sweep .commands ≡ w .sweep .commands + 1 = ap (λ (x : State). x .sweep .commands) (did .stands e) ∙ round-commands m w fine in
         omega (arith, standing-again .few)
+
+    -- no start is lower than the one before
+    pub along-forward : Sound m → v .sweep .ended ≡ false → w .sweep .next .0 ≤ v .sweep .next .0
+    along-forward good = rw (did .stands e) (round-forward good w fine)
 
     -- what goes along
     module _ (good : Sound m) (room : most (was .sweep .allocation) ≤ length (was .buffers .response)) {left dirty : ℕ} (along : Carried m w left dirty) where

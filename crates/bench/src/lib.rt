@@ -5,6 +5,7 @@ ghost use lib.ListN.{length};
 ghost use Rattle.sheet.specs.Check.{Accepted};
 ghost use Rattle.text.specs.Response.{most};
 ghost use Rattle.sheet.specs.Meaning.{meaning};
+ghost use Rattle.responder.specs.inner.Index.{takenFrom};
 ghost use Rattle.bench.specs.Bench.{buffers, state, ending, failing, firstFault, benched};
 ghost use Rattle.bench.specs.inner.Loop.{wantedSize, Clean, Rounded, Ran};
 use refusal::Refusal;
@@ -38,17 +39,18 @@ fn first_fault(s: &[u8], rt: u8, a: u16, space: usize) -> Refusal
 }
 
 // One round against a sheet that is accepted: the start is noted, the box is asked, the driver takes just the bytes sent.
-// Asks: an accepted sheet and a response buffer of C bytes or more, which the sheet's numbers and 12 have shown before; the bytes that are left, and how many of the buffer can be dirty, which the rounds before leave.
+// Asks: an accepted sheet and a response buffer of C bytes or more, which the sheet's numbers and 12 have shown before; the entry where the request starts, the bytes that are left, and how many of the buffer can be dirty, which the rounds before leave.
 fn one_round(
     s: &[u8],
     w: Sweep,
+    from: u16,
     left: usize,
     dirty: usize,
     response: &mut [u8],
     collected: &mut [u8],
     starts: &mut [u16],
 ) -> Step
-    requires { ⌜ Accepted (now s) × (most (w .allocation) ≤ length (now response)) × (left ≡ wantedSize (meaning (now s)) w) × Clean dirty (now response) ⌝ }
+    requires { ⌜ Accepted (now s) × (most (w .allocation) ≤ length (now response)) × (left ≡ wantedSize (meaning (now s)) w) × Clean dirty (now response) × (from ≡ takenFrom (now s) (w .next .0)) ⌝ }
     ensures { λ r. ⌜ Rounded (meaning (now (s .entry))) (state w (buffers (now (response .entry)) (now (collected .entry)) (now (starts .entry))))
         (r .refusal) (state (r .sweep) (buffers (now (response .exit)) (now (collected .exit)) (now (starts .exit)))) ⌝ }
 {
@@ -62,13 +64,13 @@ fn one_round(
     let next = w.next;
     lent::note(starts, at, next.0);
     lent::clear(&mut response[..dirty]);
-    let reply = responder::send_sized(s, w.rt, next, w.allocation, left, response);
+    let reply = responder::send_sized(s, w.rt, next, w.allocation, from, left, response);
     let count = reply.count;
     w.take(&response[..count], collected)
 }
 
-// Round after round, until the sweep has ended or a round is refused. What is left of the size, and how many bytes of the response buffer can be
-// dirty, go along, so that a round costs what it sends.
+// Round after round, until the sweep has ended or a round is refused. The first entry that is left, what is left of the size, and how many bytes of the
+// response buffer can be dirty go along, so that a round costs what it sends: all rounds together pass each entry once.
 // Asks: an accepted sheet, a response buffer of C bytes or more and a sweep that has just started; the sheet's numbers, 12 and the start come before.
 fn all_rounds(
     s: &[u8],
@@ -83,10 +85,12 @@ fn all_rounds(
 {
     let most = text::most(w.allocation);
     let mut sweep = w;
+    let n = layout::feature_count(s);
+    let mut from = sheet::first_from(s, n, w.next);
     let mut left = responder::size(s, w.rt, w.next);
     let mut dirty = response.len();
     while !sweep.ended {
-        let step = one_round(s, sweep, left, dirty, response, collected, starts);
+        let step = one_round(s, sweep, from, left, dirty, response, collected, starts);
         let fault = step.refusal;
         if fault.number != 0 {
             return step;
@@ -94,6 +98,7 @@ fn all_rounds(
         let next = step.sweep;
         left -= next.collected - sweep.collected;
         dirty = most;
+        from = sheet::next_from(s, n, next.next, from);
         sweep = next;
     }
     Step {

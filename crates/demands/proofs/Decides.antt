@@ -48,6 +48,7 @@ use Rattle.layout.proofs.profiles_part as profiles-part
 use Rattle.sheet.proofs.end_before as end-before
 use Rattle.sheet.proofs.flags_rule as flags-rule
 use Rattle.sheet.proofs.first_from as first-from
+use Rattle.sheet.proofs.next_from as next-from
 use Rattle.sheet.proofs.check as check
 use Rattle.responder.proofs.send as send
 use Rattle.responder.proofs.size as size
@@ -232,6 +233,9 @@ end-before-decided x = decides (x .𝓤) (λ o o′ p q. (joined p q, refl))
 pub first-from-decided : Decided first-from.ended (λ M. first-from.clauses) (λ M. first-from.spec)
 first-from-decided x = decides (x .𝓤) (λ o o′ p q. (joined p q, refl))
 
+pub next-from-decided : Decided next-from.ended (λ M. next-from.clauses) (λ M. next-from.spec)
+next-from-decided x = decides (x .𝓤) (λ o o′ p q. (joined p q, refl))
+
 pub check-decided : Decided check.ended (λ M. check.clauses) (λ M. check.spec)
 check-decided = sheet-decides.check-decided
 
@@ -244,7 +248,7 @@ pub size-decided : Decided size.ended (λ M. size.clauses) (λ M. size.spec)
 size-decided x = decides (x .𝓤) (λ o o′ p q. (joined p q, refl))
 
 pub send-sized-decided : Decided send-sized.ended (λ M. send-sized.clauses) (λ M. send-sized.spec)
-send-sized-decided x = decides (x .𝓤) (λ o o′ p q. (ap (λ (z : Outcome). z .made) (joined p q), refl & refl & refl & refl & refl & ap (λ (z : Outcome). z .buffer) (joined p q) & refl))
+send-sized-decided x = decides (x .𝓤) (λ o o′ p q. (ap (λ (z : Outcome). z .made) (joined p q), refl & refl & refl & refl & refl & refl & ap (λ (z : Outcome). z .buffer) (joined p q) & refl))
 
 pub respond-accepted-decided : Decided respond-accepted.ended (λ M. respond-accepted.clauses) (λ M. respond-accepted.spec)
 respond-accepted-decided x = decides (x .𝓤) (λ o o′ p q. (ap (λ (z : Outcome). z .made) (joined p q), refl & refl & ap (λ (z : Outcome). z .buffer) (joined p q) & refl))

@@ -18,7 +18,7 @@ use Rattle.reading.specs.Places.{nextAt}
 use Rattle.reading.specs.Completed.{completed}
 use Rattle.layout.specs.Layout as layout
 use Rattle.sheet.specs.Check.{flagsRule, endBefore}
-use Rattle.sheet.specs.inner.Search.{firstFrom}
+use Rattle.sheet.specs.inner.Search.{firstFrom, nextFrom}
 use Rattle.fields.proofs.byte as byte
 use Rattle.fields.proofs.get2 as get2
 use Rattle.fields.proofs.get3 as get3
@@ -58,6 +58,7 @@ use Rattle.layout.proofs.profiles_part as profiles-part
 use Rattle.sheet.proofs.end_before as end-before
 use Rattle.sheet.proofs.flags_rule as flags-rule
 use Rattle.sheet.proofs.first_from as first-from
+use Rattle.sheet.proofs.next_from as next-from
 use Rattle.reading.proofs.number_at as number-at
 use Rattle.reading.proofs.flags_at as reading-flags-at
 use Rattle.reading.proofs.length_at as reading-length-at
@@ -198,6 +199,10 @@ end-before-tied x = promises (x .𝓤) (λ o e. e)
 
 pub first-from-tied : Promised first-from.ended (λ M. first-from.clauses) (λ M. first-from.spec) (λ x o. o .0 ≡ firstFrom (x .args .0 .now) (x .args .1 .0) (x .args .1 .1 .0 .0))
 first-from-tied x = promises (x .𝓤) (λ o e. e)
+
+pub next-from-tied : Promised next-from.ended (λ M. next-from.clauses) (λ M. next-from.spec)
+    (λ x o. o .0 ≡ nextFrom (x .args .0 .now) (x .args .1 .0) (x .args .1 .1 .0 .0) (x .args .1 .1 .1 .0))
+next-from-tied x = promises (x .𝓤) (λ o e. e)
 
 -- ---- reading
 

@@ -1,6 +1,6 @@
 -- Demand 2, first half: "For each accepted sheet and command the bytes sent are exactly those the T10 text defines, cut at the allocation
 -- length or 65,534." Assumes nothing.
-use mathlib.Core.Path.{_≡_, refl, sym, ap, _∙_}
+use mathlib.Core.Path.{_≡_, refl, sym, ap, ap₂, _∙_}
 use mathlib.Core.Logic.{_⊎_}
 use mathlib.Core.List.{List, []}
 use Prim.Native.Nat.{ℕ, _-_, _^_, _≤_, _<_, min}
@@ -18,13 +18,17 @@ use Rattle.lent.proofs.Maker.{makes-made, makes-short, makes-fault}
 use Rattle.text.proofs.Sizes.{length-full, dataLength-full, dataLength-low}
 use Rattle.text.proofs.Profiles.{Off, FirstOn, current-cases}
 use Rattle.text.proofs.Sent.{sent-prefix, length-sent, sent-dataLength, sent-field, sent-profile, sent-none, sent-65532, sent-65536}
+use Rattle.layout.specs.Layout.{featureCount}
 use Rattle.sheet.specs.Check.{verdict, Accepted}
 use Rattle.sheet.specs.Meaning.{meaning}
+use Rattle.sheet.proofs.Accepted.{facts}
 use Rattle.sheet.proofs.Meaning.{meaning-fine}
+use Rattle.sheet.proofs.Bisection.{First, first-from}
+use Rattle.sheet.proofs.Passing.{first-once}
 use Rattle.responder.specs.Answer.{due, requested, commanded, answered}
 use Rattle.responder.specs.Trusting.{trusting, trustingCommand}
 use Rattle.responder.specs.Sized.{sized}
-use Rattle.responder.specs.inner.Index.{takenSize}
+use Rattle.responder.specs.inner.Index.{takenFrom, takenSize}
 use Rattle.responder.proofs.Full.{found-length}
 use Rattle.responder.proofs.Sized.{sized-trusting}
 use Rattle.responder.proofs.Trusting.{trusting-accepted, trusting-commanded, answered-after}
@@ -93,17 +97,18 @@ sizes s rt sfn = record {
   wanted = λ b ok. omega (arith, length-full rt sfn (meaning s), found-length s rt sfn b ok);
 }
 
--- Told that number, the same is sent.
-pub record ServesSized (s : List ℕ) (rt sfn a n : ℕ) (d : List ℕ) (o : Outcome) : Type 0 where
-  pub exact : o ≡ sized s rt sfn a n d
-  pub sends : Bytes s → Accepted s → n ≡ length (flat bytes (selected rt sfn (meaning s))) → Sends (sent rt sfn a (meaning s)) d o
+-- Told at which entry the wanted ones start, and that number, the same is sent.
+pub record ServesSized (s : List ℕ) (rt sfn a from n : ℕ) (d : List ℕ) (o : Outcome) : Type 0 where
+  pub exact : o ≡ sized s rt sfn a from n d
+  pub sends : Bytes s → Accepted s → First s (featureCount s) sfn from → n ≡ length (flat bytes (selected rt sfn (meaning s))) → Sends (sent rt sfn a (meaning s)) d o
 
-pub serves-sized : (s : List ℕ) (rt sfn a n : ℕ) (d : List ℕ) → ServesSized s rt sfn a n d (sized s rt sfn a n d)
-serves-sized s rt sfn a n d = record {
+pub serves-sized : (s : List ℕ) (rt sfn a from n : ℕ) (d : List ℕ) → ServesSized s rt sfn a from n d (sized s rt sfn a from n d)
+unfolding takenFrom
+serves-sized s rt sfn a from n d = record {
   exact = refl;
-  sends = λ b ok e.
+  sends = λ b ok first e.
       by (Sends (sent rt sfn a (meaning s)) d) (serves s rt sfn a d .sends b ok)
-      (ap (λ (k : ℕ). sized s rt sfn a k d) (e ∙ sym (sizes s rt sfn .wanted b ok)) ∙ sized-trusting s rt sfn a d);
+      (ap₂ (λ (i k : ℕ). sized s rt sfn a i k d) (first-once (facts s b ok) first (first-from s (featureCount s) sfn)) (e ∙ sym (sizes s rt sfn .wanted b ok)) ∙ sized-trusting s rt sfn a d);
 }
 
 -- ---- beside it

@@ -61,9 +61,9 @@ pub size-tied : Promised size.ended (λ M. size.clauses) (λ M. size.spec) (λ x
 size-tied x = promises (x .𝓤) (λ o. by (Sizes _ _ _) (sizes _ _ _))
 
 pub send-sized-tied : Promised send-sized.ended (λ M. send-sized.clauses) (λ M. send-sized.spec)
-    (λ x o. ServesSized (x .args .0 .now) (x .args .1 .0) (x .args .1 .1 .0 .0) (x .args .1 .1 .1 .0) (x .args .1 .1 .1 .1 .0) (x .args .1 .1 .1 .1 .1 .0 .now)
-    (outcome (o .0) (o .1 .1 .1 .1 .1 .1 .0)))
-send-sized-tied x = promises (x .𝓤) (λ o. by (ServesSized _ _ _ _ _ _) (serves-sized _ _ _ _ _ _))
+    (λ x o. ServesSized (x .args .0 .now) (x .args .1 .0) (x .args .1 .1 .0 .0) (x .args .1 .1 .1 .0) (x .args .1 .1 .1 .1 .0) (x .args .1 .1 .1 .1 .1 .0) (x .args .1 .1 .1 .1 .1 .1 .0 .now)
+    (outcome (o .0) (o .1 .1 .1 .1 .1 .1 .1 .0)))
+send-sized-tied x = promises (x .𝓤) (λ o. by (ServesSized _ _ _ _ _ _ _) (serves-sized _ _ _ _ _ _ _))
 
 pub respond-accepted-tied : Promised respond-accepted.ended (λ M. respond-accepted.clauses) (λ M. respond-accepted.spec)
     (λ x o. Trusts (x .args .0 .now) (x .args .1 .0 .now) (x .args .1 .1 .0 .now) (outcome (o .0) (o .1 .1 .1 .0)))

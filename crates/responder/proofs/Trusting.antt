@@ -17,7 +17,7 @@ use Rattle.text.proofs.Sent.{length-sent}
 use Rattle.sheet.specs.Check.{verdict, Accepted}
 use Rattle.sheet.specs.Meaning.{meaning}
 use Rattle.responder.specs.Answer.{due, requested, commanded, answered}
-use Rattle.responder.specs.inner.Index.{takenSize, planOf, fullBytes, limit}
+use Rattle.responder.specs.inner.Index.{takenFrom, takenSize, planOf, fullBytes, limit}
 use Rattle.responder.specs.Sized.{sized}
 use Rattle.responder.specs.Trusting.{trusting, trustingCommand}
 use Rattle.responder.proofs.Full.{found-length, found-full}
@@ -34,7 +34,7 @@ module _ (s : List ℕ) (b : Bytes s) (ok : Accepted s) where
   unfolding limit
   limit-sent rt sfn a = sym (length-sent rt sfn a (meaning s) ∙ ap (min (most a)) (found-length s rt sfn b ok))
 
-  found-sent : (rt sfn a : ℕ) → take (limit a (takenSize s rt sfn)) (fullBytes s rt sfn (planOf s rt sfn (takenSize s rt sfn))) ≡ sent rt sfn a (meaning s)
+  found-sent : (rt sfn a : ℕ) → take (limit a (takenSize s rt sfn)) (fullBytes s rt sfn (planOf s rt sfn (takenFrom s sfn) (takenSize s rt sfn))) ≡ sent rt sfn a (meaning s)
   unfolding sent
   found-sent rt sfn a = ap₂ take (limit-sent rt sfn a) (found-full s rt sfn b ok) ∙ sym (take-prefix (most a) (full rt sfn (meaning s)))
 

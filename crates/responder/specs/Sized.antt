@@ -1,5 +1,6 @@
--- What a box answers that does not check its sheet and is told how many bytes stand behind the header, with no look at the entries to add them up:
--- defined for any number. Told the request's own, it is the answer of `Trusting`. Assumes nothing: these are definitions.
+-- What a box answers that does not check its sheet and is told at which entry the wanted ones start and how many bytes stand behind the header, with no
+-- search and no look at the entries to add them up: defined for any numbers. Told the request's own, it is the answer of `Trusting`. Assumes nothing: these
+-- are definitions.
 use mathlib.Core.List.{List}
 use Prim.Native.Nat.{ℕ}
 use lib.Dec.{ltb}
@@ -9,6 +10,6 @@ use Rattle.lent.specs.Maker.{Outcome, refusing, making}
 use Rattle.responder.specs.inner.Index.{planOf, fullBytes, limit}
 
 -- the answer to a request: 12 where the buffer is shorter than what is due, else what is due, or all there is where that is less
-unfoldable pub sized : (s : List ℕ) (rt sfn a size : ℕ) (d : List ℕ) → Outcome
-sized s rt sfn a size d =
-    unless (refuse 12 if ltb (length d) (limit a size) else accept) (refusing d) (making (take (limit a size) (fullBytes s rt sfn (planOf s rt sfn size))) d)
+unfoldable pub sized : (s : List ℕ) (rt sfn a from size : ℕ) (d : List ℕ) → Outcome
+sized s rt sfn a from size d =
+    unless (refuse 12 if ltb (length d) (limit a size) else accept) (refusing d) (making (take (limit a size) (fullBytes s rt sfn (planOf s rt sfn from size))) d)

@@ -11,7 +11,7 @@ ghost use Rattle.responder.specs.Answer.{answered};
 ghost use Rattle.responder.specs.Trusting.{trusting, trustingCommand};
 ghost use Rattle.responder.specs.Sized.{sized};
 ghost use Rattle.responder.specs.inner.Fitted.{Fitted};
-ghost use Rattle.responder.specs.inner.Index.{wantedEnd, skips, descOf, descBytes, piece, pieces, pieceSize, piecesSize, span, entriesSize, zeroBytes, zeroPart, zeroSize, takenSize, planOf, fullBytes, limit};
+ghost use Rattle.responder.specs.inner.Index.{wantedEnd, skips, descOf, descBytes, piece, pieces, pieceSize, piecesSize, span, entriesSize, zeroBytes, zeroPart, zeroSize, takenFrom, takenSize, planOf, fullBytes, limit};
 use lent::Made;
 use text::Command;
 use text::Feature;
@@ -114,12 +114,11 @@ struct Plan {
     size: usize,
 }
 
-// The entries that a request takes, with so many bytes behind the header.
-fn taken(s: &[u8], rt: u8, sfn: Feature, size: usize) -> Plan
-    ensures { λ r. ⌜ r ≡ planOf (now (s .entry)) rt (sfn .0) size ⌝ }
+// The entries that a request takes where those that it wants start at from, with so many bytes behind the header.
+fn taken(s: &[u8], rt: u8, sfn: Feature, from: u16, size: usize) -> Plan
+    ensures { λ r. ⌜ r ≡ planOf (now (s .entry)) rt (sfn .0) from size ⌝ }
 {
     let n = layout::feature_count(s);
-    let from = sheet::first_from(s, n, sfn);
     let to = wanted_end(s, rt, n, sfn, from);
     Plan {
         from: from,
@@ -128,11 +127,13 @@ fn taken(s: &[u8], rt: u8, sfn: Feature, size: usize) -> Plan
     }
 }
 
-// The same with as many as there are.
+// The same from where they do start, with as many as there are.
 fn planned(s: &[u8], rt: u8, sfn: Feature) -> Plan
-    ensures { λ r. ⌜ r ≡ planOf (now (s .entry)) rt (sfn .0) (takenSize (now (s .entry)) rt (sfn .0)) ⌝ }
+    ensures { λ r. ⌜ r ≡ planOf (now (s .entry)) rt (sfn .0) (takenFrom (now (s .entry)) (sfn .0)) (takenSize (now (s .entry)) rt (sfn .0)) ⌝ }
 {
-    let part = taken(s, rt, sfn, 0);
+    let n = layout::feature_count(s);
+    let from = sheet::first_from(s, n, sfn);
+    let part = taken(s, rt, sfn, from, 0);
     let zero = zero_size(s, sfn);
     let rest = entries_size(s, rt, part.from, part.to);
     Plan {
@@ -350,15 +351,23 @@ pub fn size(s: &[u8], rt: u8, sfn: Feature) -> usize
     found.size
 }
 
-// Answers a request with no look at the entries to add up what `size` gives: told that, what `send` answers.
-pub fn send_sized(s: &[u8], rt: u8, sfn: Feature, a: u16, size: usize, out: &mut [u8]) -> Made
-    ensures { λ r. ⌜ outcome r (now (out .exit)) ≡ sized (now (s .entry)) rt (sfn .0) a size (now (out .entry)) ⌝ }
+// Answers a request with no search for the first entry and no look at the entries to add up what `size` gives: told both, what `send` answers.
+pub fn send_sized(
+    s: &[u8],
+    rt: u8,
+    sfn: Feature,
+    a: u16,
+    from: u16,
+    size: usize,
+    out: &mut [u8],
+) -> Made
+    ensures { λ r. ⌜ outcome r (now (out .exit)) ≡ sized (now (s .entry)) rt (sfn .0) a from size (now (out .entry)) ⌝ }
 {
     let cut = due(a, size);
     if out.len() < cut {
         return Made::refused(refusal::BUFFER_SHORT);
     }
-    let told = taken(s, rt, sfn, size);
+    let told = taken(s, rt, sfn, from, size);
     let count = put_full(&mut out[..cut], s, rt, sfn, told);
     Made::written(count)
 }

@@ -7,5 +7,6 @@ pub mod Fine
 pub mod Longest
 pub mod Build
 pub mod Bisection
+pub mod Passing
 pub mod Lines
 pub mod Decides

@@ -5,7 +5,7 @@ ghost use lib.ListN.{length};
 ghost use Rattle.layout.specs.Layout.{entryAt, profileCount};
 ghost use Rattle.refusal.specs.First.{firstOf};
 ghost use Rattle.sheet.specs.Check.{endBefore, flagsRule, entryRule, entryFault, counted, verdict};
-ghost use Rattle.sheet.specs.inner.Search.{half, firstFrom};
+ghost use Rattle.sheet.specs.inner.Search.{half, firstFrom, nextFrom};
 use refusal::Refusal;
 use text::Feature;
 use text::Flags;
@@ -164,4 +164,19 @@ pub fn first_from(s: &[u8], n: u16, sfn: Feature) -> u16
         high = half.high;
     }
     low
+}
+
+// From an entry on, the first of n numbered sfn or more: one by one, for a walk that goes on from where it has got to.
+pub fn next_from(s: &[u8], n: u16, sfn: Feature, from: u16) -> u16
+    ensures { λ r. ⌜ r ≡ nextFrom (now (s .entry)) n (sfn .0) from ⌝ }
+{
+    let mut i = from;
+    while i < n {
+        let feature = layout::feature_at(s, i);
+        if sfn.0 <= feature.0 {
+            return i;
+        }
+        i += 1;
+    }
+    i
 }

@@ -73,9 +73,9 @@ takenTo s rt sfn = wantedEnd rt s (featureCount s) sfn (takenFrom s sfn)
 unfoldable pub takenSize : (s : List ℕ) (rt sfn : ℕ) → ℕ
 takenSize s rt sfn = zeroSize s sfn + entriesSize rt s (takenFrom s sfn) (takenTo s rt sfn)
 
--- these entries, with so many bytes
-unfoldable pub planOf : (s : List ℕ) (rt sfn size : ℕ) → Plan
-planOf s rt sfn size = record { from = takenFrom s sfn; to = takenTo s rt sfn; size = size }
+-- the entries that are taken where those wanted start at one, with so many bytes
+unfoldable pub planOf : (s : List ℕ) (rt sfn from size : ℕ) → Plan
+planOf s rt sfn from size = record { from = from; to = wantedEnd rt s (featureCount s) sfn from; size = size }
 
 -- the whole response that a plan takes; Data Length keeps its four bytes
 unfoldable pub fullBytes : (s : List ℕ) (rt sfn : ℕ) (p : Plan) → List ℕ

@@ -21,3 +21,12 @@ closing (suc k) s sfn low high = elim (ltb low high) [ true ↦ closing k s sfn 
 -- by bisection, the first of n entries with a number of sfn or more, n if there is none
 unfoldable pub firstFrom : (s : List ℕ) (n sfn : ℕ) → ℕ
 firstFrom s n sfn = closing n s sfn 0 n
+
+-- one by one, from entry i on, the first with a number of sfn or more, k at most passed
+unfoldable pub passing : (k : ℕ) (s : List ℕ) (sfn i : ℕ) → ℕ
+passing zero s sfn i = i
+passing (suc k) s sfn i = elim (ltb (number s i) sfn) [ true ↦ passing k s sfn (i + 1) | false ↦ i ]
+
+-- so the first of n entries, from one on
+unfoldable pub nextFrom : (s : List ℕ) (n sfn from : ℕ) → ℕ
+nextFrom s n sfn from = passing (n - from) s sfn from
