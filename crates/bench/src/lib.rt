@@ -70,7 +70,7 @@ fn one_round(
 }
 
 // Round after round, until the sweep has ended or a round is refused. The first entry that is left, what is left of the size, and how many bytes of the
-// response buffer can be dirty go along, so that a round costs what it sends: all rounds together pass each entry once.
+// response buffer can be dirty go along, so that a round costs what it sends.
 // Asks: an accepted sheet, a response buffer of C bytes or more and a sweep that has just started; the sheet's numbers, 12 and the start come before.
 fn all_rounds(
     s: &[u8],

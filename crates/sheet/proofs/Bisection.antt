@@ -46,26 +46,30 @@ pub first-of-all : (s : List ℕ) (n sfn : ℕ) → sfn ≡ 0 → 0 ≡ firstFro
 unfolding firstFrom
 first-of-all s n sfn e = rw e (sym (closing-zero n s 0 n))
 
+-- the whole range
+pub first-closed : (s : List ℕ) (n sfn : ℕ) → closing (n - 0) s sfn 0 n ≡ firstFrom s n sfn
+unfolding firstFrom
+first-closed s n sfn = ap (λ (k : ℕ). closing k s sfn 0 n) {x = n - 0} {y = n} (omega arith)
+
 -- ---- the loop: what is left of the search, with turns enough for the range
 
-pub record Turning (s : List ℕ) (n sfn low high : ℕ) : Type 0 where
+pub record Turning (s : List ℕ) (sfn from to low high : ℕ) : Type 0 where
   pub turns : ℕ
   pub enough : high - low ≤ turns
-  pub left : firstFrom s n sfn ≡ closing turns s sfn low high
+  pub left : closing (to - from) s sfn from to ≡ closing turns s sfn low high
 
-pub turning-start : (s : List ℕ) (n sfn : ℕ) → Turning s n sfn 0 n
-unfolding firstFrom
-turning-start s n sfn = record { turns = n; enough = omega arith; left = refl }
+pub turning-start : (s : List ℕ) (sfn from to : ℕ) → Turning s sfn from to from to
+turning-start s sfn from to = record { turns = to - from; enough = omega arith; left = refl }
 
-pub turning-more : {s : List ℕ} {n sfn low high : ℕ} {r : Range} → Turning s n sfn low high → low < high → r ≡ half s sfn low high → Turning s n sfn (r .low) (r .high)
-turning-more {s} {n} {sfn} {low} {high} t l e = rw e (go (t .turns) (t .enough) (t .left))
+pub turning-more : {s : List ℕ} {sfn from to low high : ℕ} {r : Range} → Turning s sfn from to low high → low < high → r ≡ half s sfn low high → Turning s sfn from to (r .low) (r .high)
+turning-more {s} {sfn} {from} {to} {low} {high} t l e = rw e (go (t .turns) (t .enough) (t .left))
   where
-    go : (k : ℕ) → high - low ≤ k → firstFrom s n sfn ≡ closing k s sfn low high → Turning s n sfn (half s sfn low high .low) (half s sfn low high .high)
+    go : (k : ℕ) → high - low ≤ k → closing (to - from) s sfn from to ≡ closing k s sfn low high → Turning s sfn from to (half s sfn low high .low) (half s sfn low high .high)
     go zero m q = absurd (omega arith)
     go (suc k) m q = record { turns = k; enough = omega (arith, half-smaller s sfn low high l); left = q ∙ closing-more s sfn low high k l }
 
-pub turning-end : {s : List ℕ} {n sfn low high : ℕ} → Turning s n sfn low high → high ≤ low → low ≡ firstFrom s n sfn
-turning-end {s} {n} {sfn} {low} {high} t l = sym (t .left ∙ closing-done s sfn low high (t .turns) l)
+pub turning-end : {s : List ℕ} {sfn from to low high : ℕ} → Turning s sfn from to low high → high ≤ low → low ≡ closing (to - from) s sfn from to
+turning-end {s} {sfn} {from} {to} {low} {high} t l = sym (t .left ∙ closing-done s sfn low high (t .turns) l)
 
 -- ---- where it ends
 
@@ -103,6 +107,10 @@ module _ (s : List ℕ) (n sfn : ℕ) where
         (closing-first k (half s sfn low high .low) (half s sfn low high .high) (omega (arith, half-smaller s sfn low high l)) (ends-more low high e l))
     | no l ↦ rw (closing-done s sfn low high (suc k) (omega arith)) (ends-first low high e (omega arith))
   ]
+
+  -- from an entry on, where the one before it is below sfn
+  pub closed-first : (i : ℕ) → i ≤ n → (0 < i → number s (i - 1) < sfn) → First s n sfn (closing (n - i) s sfn i n)
+  closed-first i l before = closing-first (n - i) i n (omega arith) record { ordered = l; within = omega arith; before = before; behind = λ h. absurd (omega arith) }
 
   pub first-from : First s n sfn (firstFrom s n sfn)
   unfolding firstFrom

@@ -1,11 +1,11 @@
 // The check of a drive sheet, and the search for an entry.
 ghost use mathlib.Core.Path.{_≡_};
-ghost use Prim.Native.Nat.{_≤_, _<_};
+ghost use Prim.Native.Nat.{_-_, _≤_, _<_};
 ghost use lib.ListN.{length};
 ghost use Rattle.layout.specs.Layout.{entryAt, profileCount};
 ghost use Rattle.refusal.specs.First.{firstOf};
 ghost use Rattle.sheet.specs.Check.{endBefore, flagsRule, entryRule, entryFault, counted, verdict};
-ghost use Rattle.sheet.specs.inner.Search.{half, firstFrom, nextFrom};
+ghost use Rattle.sheet.specs.inner.Search.{half, closing, firstFrom, nextFrom};
 use refusal::Refusal;
 use text::Feature;
 use text::Flags;
@@ -148,16 +148,12 @@ fn halved(s: &[u8], sfn: Feature, low: u16, high: u16) -> Range
     }
 }
 
-// The first of n entries numbered sfn or more, n if there is none: by bisection, so that an accepted sheet's entries are not walked.
-pub fn first_from(s: &[u8], n: u16, sfn: Feature) -> u16
-    ensures { λ r. ⌜ r ≡ firstFrom (now (s .entry)) n (sfn .0) ⌝ }
+// The first entry of a range numbered sfn or more, the range's end if there is none: by bisection, so that an accepted sheet's entries are not walked.
+fn closed(s: &[u8], sfn: Feature, from: u16, to: u16) -> u16
+    ensures { λ r. ⌜ r ≡ closing (to - from) (now (s .entry)) (sfn .0) from to ⌝ }
 {
-    // no number is below 0
-    if sfn.0 == 0 {
-        return 0;
-    }
-    let mut low: u16 = 0;
-    let mut high = n;
+    let mut low = from;
+    let mut high = to;
     while low < high {
         let half = halved(s, sfn, low, high);
         low = half.low;
@@ -166,17 +162,33 @@ pub fn first_from(s: &[u8], n: u16, sfn: Feature) -> u16
     low
 }
 
-// From an entry on, the first of n numbered sfn or more: one by one, for a walk that goes on from where it has got to.
+// The first of n entries numbered sfn or more, n if there is none.
+pub fn first_from(s: &[u8], n: u16, sfn: Feature) -> u16
+    ensures { λ r. ⌜ r ≡ firstFrom (now (s .entry)) n (sfn .0) ⌝ }
+{
+    // no number is below 0
+    if sfn.0 == 0 {
+        return 0;
+    }
+    closed(s, sfn, 0, n)
+}
+
+// The same on from an entry, for who goes on from where it has got to: the next eight one by one, and bisection behind them.
 pub fn next_from(s: &[u8], n: u16, sfn: Feature, from: u16) -> u16
     ensures { λ r. ⌜ r ≡ nextFrom (now (s .entry)) n (sfn .0) from ⌝ }
 {
     let mut i = from;
-    while i < n {
+    let mut left: u8 = 8;
+    while left > 0 {
+        if n <= i {
+            return i;
+        }
         let feature = layout::feature_at(s, i);
         if sfn.0 <= feature.0 {
             return i;
         }
         i += 1;
+        left -= 1;
     }
-    i
+    closed(s, sfn, i, n)
 }

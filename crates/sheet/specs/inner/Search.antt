@@ -1,5 +1,5 @@
 -- The search for an entry of a sheet by its number. Assumes nothing: these are definitions.
-use mathlib.Core.Bool.{true, false}
+use mathlib.Core.Bool.{true, false, _&&_}
 use mathlib.Core.List.{List}
 use Prim.Native.Nat.{ℕ, zero, suc, _+_, _-_, _/_}
 use lib.Dec.{ltb}
@@ -22,11 +22,11 @@ closing (suc k) s sfn low high = elim (ltb low high) [ true ↦ closing k s sfn 
 unfoldable pub firstFrom : (s : List ℕ) (n sfn : ℕ) → ℕ
 firstFrom s n sfn = closing n s sfn 0 n
 
--- one by one, from entry i on, the first with a number of sfn or more, k at most passed
-unfoldable pub passing : (k : ℕ) (s : List ℕ) (sfn i : ℕ) → ℕ
-passing zero s sfn i = i
-passing (suc k) s sfn i = elim (ltb (number s i) sfn) [ true ↦ passing k s sfn (i + 1) | false ↦ i ]
+-- on from entry i, the first of n entries with a number of sfn or more: k one by one, and by bisection behind them
+unfoldable pub passing : (k : ℕ) (s : List ℕ) (n sfn i : ℕ) → ℕ
+passing zero s n sfn i = closing (n - i) s sfn i n
+passing (suc k) s n sfn i = elim (ltb i n && ltb (number s i) sfn) [ true ↦ passing k s n sfn (i + 1) | false ↦ i ]
 
--- so the first of n entries, from one on
+-- so with eight
 unfoldable pub nextFrom : (s : List ℕ) (n sfn from : ℕ) → ℕ
-nextFrom s n sfn from = passing (n - from) s sfn from
+nextFrom s n sfn from = passing 8 s n sfn from

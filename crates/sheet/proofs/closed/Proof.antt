@@ -1,0 +1,28 @@
+-- `sheet::closed` meets its contract: the loop carries what is left of the search.
+use borrow.Author.Needs.{needs}
+use Prim.Native.Nat.{_-_}
+use Rattle.sheet.proofs.Bisection.{half-smaller, Turning, turning-start, turning-more, turning-end}
+use Rattle.sheet.proofs.closed.Statement.{statement}
+use Rattle.sheet.proofs.closed.Tie as tie
+
+abbrev Inv-loop : tie.InvT-loop
+Inv-loop s sfn from to low₀ high₀ low high = Turning s (sfn .0) from to low high
+
+abbrev μ-loop : tie.MeasureT-loop
+μ-loop s sfn from to low₀ high₀ low high = high - low
+
+loop-holds : tie.Need-loop-holds Inv-loop μ-loop
+loop-holds c = search turning-start
+
+loop-less : tie.Need-loop-less Inv-loop μ-loop
+loop-less c = rw (c .halved .ensures) (half-smaller _ _ _ _ (c .before .loop-test .taken))
+
+loop-again : tie.Need-loop-again Inv-loop μ-loop
+loop-again c = turning-more (c .before .before .loop .inv) (c .before .loop-test .taken) (c .halved .ensures)
+
+returns : tie.Need-returns Inv-loop μ-loop
+returns c = turning-end (c .before .loop .inv) (c .loop-test .left)
+
+pub closed-spec : {M : Type 1} → statement M
+closed-spec =
+    tie.close (tie.spec Inv-loop μ-loop loop-holds (λ c κs. search needs) loop-less loop-again returns)
