@@ -1,26 +1,32 @@
 -- Two runs of stores beside each other in one buffer: the contents and the bodies. Assumes nothing.
-use mathlib.Core.Path.{_≡_, refl, sym, ap, _∙_}
-use mathlib.Core.List.{List, [], _∷_, _++_}
-use Prim.Native.Nat.{ℕ, suc, _+_, _*_, _/_, _≤_, _<_}
+use mathlib.Core.Path.{_≡_, refl, sym, ap, subst, _∙_}
+use mathlib.Core.List.{List, [], _∷_, _++_, append-assoc}
+use Prim.Native.Nat.{ℕ, suc, _+_, _-_, _*_, _/_, _≤_, _<_}
 use native.Mathlib.Omega.{arith}
-use lib.ListN.{length, set, length-append}
-use lib.Seq.{sets, set-comm, length-sets}
-use Rattle.base.specs.Lists.{flat}
+use lib.ListN.{length, take, drop, set, length-append}
+use lib.Seq.{sets, set-comm, length-sets, take-at, take-take}
+use Rattle.base.specs.Lists.{flat, Bytes}
+use Rattle.fields.specs.Field.{spell}
 use Rattle.fields.proofs.Laws.{length-spell}
 use Rattle.lent.specs.Wrote.{Wrote}
 use Rattle.lent.proofs.Sets.{sets-append}
 use Rattle.lent.proofs.Laws.{then, kept}
 use Rattle.text.specs.Drive.{Desc}
-use Rattle.text.specs.Reading.{descAt}
+use Rattle.text.specs.Response.{bytes}
+use Rattle.text.specs.Reading.{lengthAt, descAt}
+use Rattle.text.proofs.Again.{bytes-descAt}
+use Rattle.text.proofs.Received.{Stand, length-descAt}
+use Rattle.text.proofs.Sizes.{length-bytes}
 use Rattle.reading.specs.Places.{nextAt}
 use Rattle.reading.specs.inner.Between.{from}
+use Rattle.reading.proofs.At.{next-inside}
 use Rattle.reading.proofs.Places.{from-step, from-end}
-use Rattle.layout.specs.Layout.{countsBytes, profilesBehind}
+use Rattle.layout.specs.Layout.{countsBytes, entryBytes, profilesBehind}
 use Rattle.sheet.specs.Meaning.{contents}
 use Rattle.sheet.specs.Meaning as sheet
 use Rattle.sheet.proofs.Pieces.{length-entry, length-contents}
 use Rattle.capture.specs.inner.Behind.{behind}
-use Rattle.import.specs.inner.Pieces.{bodies, HasSpace, Filled, sheetBytes, Whole}
+use Rattle.import.specs.inner.Pieces.{bodies, Standing, HasSpace, Filled, sheetBytes, Whole}
 
 -- ---- stores that do not meet
 
@@ -51,6 +57,40 @@ contents-step : (at : ℕ) (d : Desc) (ds : List Desc) → contents at (d ∷ ds
 unfolding contents
 contents-step at d ds = refl
 
+-- ---- a descriptor that is whole
+
+pub body-length : (s : List ℕ) (at : ℕ) → at + 4 + lengthAt s at ≤ length s → length (descAt s at .body) ≡ lengthAt s at
+body-length s at h = omega (arith, length-descAt s at h, length-bytes (descAt s at))
+
+-- its entry starts with its header bytes
+pub entry-head : (s : List ℕ) (at offset : ℕ) → Bytes s → at + 4 + lengthAt s at ≤ length s → sheet.entry offset (descAt s at) ≡ take (at + 4 - at) (drop at s) ++ spell 4 offset
+unfolding bytes entryBytes
+entry-head s at offset bs h =
+    let x : Desc = descAt s at in
+    let n : at + 4 - at ≡ 4 = omega arith in
+    let head : List ℕ = spell 2 (x .number) ++ (x .flags ∷ length (x .body) ∷ []) in
+    let l : length head ≡ 4 = length-append (spell 2 (x .number)) (x .flags ∷ length (x .body) ∷ []) ∙ rw (length-spell 2 (x .number)) in
+    let e : head ≡ take 4 (drop at s) =
+    sym (take-at head (x .body) 4 l) ∙ ap (take 4) (bytes-descAt s at bs h) ∙ take-take 4 (4 + lengthAt s at) (drop at s) (omega arith) in
+    ap (λ (k : List ℕ). k ++ spell 4 offset) (append-assoc (spell 2 (x .number)) (x .flags ∷ []) (length (x .body) ∷ []) ∙ e)
+    ∙ ap (λ (k : ℕ). take k (drop at s) ++ spell 4 offset) (sym n)
+
+-- its body is what stands behind them
+pub body-part : (s : List ℕ) (at len : ℕ) → len ≡ lengthAt s at → descAt s at .body ≡ take (at + 4 + len - (at + 4)) (drop (at + 4) s)
+unfolding descAt
+body-part s at len e =
+    let n : lengthAt s at ≡ at + 4 + len - (at + 4) = omega arith in
+    ap (λ (k : ℕ). take k (drop (at + 4) s)) n
+
+pub body-none : (s : List ℕ) (at len : ℕ) → len ≡ lengthAt s at → len ≡ 0 → descAt s at .body ≡ []
+unfolding descAt
+body-none s at len e z = ap (λ (k : ℕ). take k (drop (at + 4) s)) (sym e ∙ z)
+
+-- the descriptors of a walk
+pub all-standing : (s : List ℕ) (at : ℕ) (ds : List Desc) → Stand s at ds → Standing s at ds
+all-standing s at [] h = tt
+all-standing s at (d ∷ ds) h = (h .1, all-standing s (at + 4 + lengthAt s at) ds (h .2))
+
 -- ---- the loop: what the buffer holds in the end, told by what it holds now
 
 pub record Passed (s : List ℕ) (r : ℕ) (f : List ℕ) (entry next place : ℕ) (d : List ℕ) : Type 0 where
@@ -69,16 +109,37 @@ module _ {s : List ℕ} {entry next place : ℕ} {d : List ℕ} where
       (sym (p .filled .next ∙ rw e (omega arith)), sym (p .filled .holds ∙ rw e))
 
 module _ {s : List ℕ} {r : ℕ} {f : List ℕ} {entry next place : ℕ} {d : List ℕ} (p : Passed s r f entry next place d) (h : place < length s) where
-  pub passed-more : {entry′ next′ place′ : ℕ} {d′ d″ b : List ℕ}
-      → Wrote d entry (sheet.entry next (descAt s place)) entry′ d′ → b ≡ descAt s place .body → Wrote d′ next b next′ d″ → place′ ≡ nextAt s place
+  there : from s place ≡ descAt s place ∷ from s (nextAt s place)
+  there = from-step s place h
+
+  -- what a turn asks for: a whole descriptor, and room for its entry and its body
+  pub here-whole : place + 4 + lengthAt s place ≤ length s
+  here-whole = (rw there at (p .fits .whole)) .0
+
+  here-sizes : (entry + 8 ≤ next) × (next + lengthAt s place ≤ length d)
+  unfolding flat
+  here-sizes =
+      let ds : List Desc = from s (nextAt s place) in
+      let l : length (bodies (descAt s place ∷ ds)) ≡ length (descAt s place .body) + length (bodies ds) = length-append (descAt s place .body) (bodies ds) in
+      let apart : entry + 8 * suc (length ds) ≤ next = rw there at (p .fits .apart) in
+      let room : next + length (bodies (descAt s place ∷ ds)) ≤ length d = rw there at (p .fits .room) in
+      (omega arith, omega (arith, body-length s place here-whole))
+
+  pub here-entry : entry + 8 ≤ length d
+  here-entry = omega (arith, here-sizes)
+
+  pub here-body : {entry′ : ℕ} {d′ xs : List ℕ} → Wrote d entry xs entry′ d′ → next + lengthAt s place ≤ length d′
+  here-body v = omega (arith, here-sizes, kept v)
+
+  pub passed-more : {entry′ next′ place′ : ℕ} {d′ d″ : List ℕ}
+      → Wrote d entry (sheet.entry next (descAt s place)) entry′ d′ → Wrote d′ next (descAt s place .body) next′ d″ → place′ ≡ place + 4 + lengthAt s place
       → Passed s r f entry′ next′ place′ d″
   unfolding flat
-  passed-more {entry′} {next′} {place′} {d′} {d″} {b} v q w n =
+  passed-more {entry′} {next′} {place′} {d′} {d″} v w n =
       let x : Desc = descAt s place in
       let ds : List Desc = from s place′ in
-      let e : from s place ≡ x ∷ ds = from-step s place h ∙ ap (λ (k : ℕ). x ∷ from s k) (sym n) in
+      let e : from s place ≡ x ∷ ds = there ∙ ap (λ (k : ℕ). x ∷ from s k) (sym (n ∙ next-inside s place (lengthAt s place) h refl)) in
       let m : length (sheet.entry next x) ≡ 8 = length-entry next x in
-      let lb : length b ≡ length (x .body) = ap length q in
       let lc : length (contents (next + length (x .body)) ds) ≡ 8 * length ds = length-contents (next + length (x .body)) ds in
       let l : length (bodies (x ∷ ds)) ≡ length (x .body) + length (bodies ds) = length-append (x .body) (bodies ds) in
       let apart : entry + 8 * suc (length ds) ≤ next = rw e at (p .fits .apart) in
@@ -89,7 +150,7 @@ module _ {s : List ℕ} {r : ℕ} {f : List ℕ} {entry next place : ℕ} {d : L
       let a : entry′ ≡ entry + length (sheet.entry next x) = omega (arith, v .next) in
       let c : next′ ≡ next + length (x .body) = omega (arith, w .next, kept v) in
       record {
-        fits = record { apart = omega arith; room = omega arith; low = omega arith };
+        fits = record { whole = subst (λ (k : ℕ). Standing s k ds) (sym n) ((rw e at (p .fits .whole)) .1); apart = omega arith; room = omega arith; low = omega arith };
         filled = record {
           next = omega arith;
           holds =
@@ -97,7 +158,7 @@ module _ {s : List ℕ} {r : ℕ} {f : List ℕ} {entry next place : ℕ} {d : L
               ∙ ap (λ (l : List Desc). sets (sets d entry (contents next l)) next (bodies l)) e
               ∙ ap (λ (l : List ℕ). sets (sets d entry l) next (bodies (x ∷ ds))) (contents-step next x ds)
               ∙ two-runs d (sheet.entry next x) (contents (next + length (x .body)) ds) (x .body) (bodies ds) entry next (omega arith)
-              ∙ rw (w .holds, v .holds, q, a, c);
+              ∙ rw (w .holds, v .holds, a, c);
         };
       }
 
@@ -125,6 +186,7 @@ module _ {s : List ℕ} {n : ℕ} {d : List ℕ} (w : Whole s n d) where
 
     pub whole-fits : {first : ℕ} → first ≡ nextAt s 8 → HasSpace s entries body first d₂
     whole-fits {first} f = record {
+      whole = rw f (w .whole);
       apart = rw f (omega (arith, entries-at, body-at, w .count));
       room = rw f (omega (arith, body-at, sizes, w .room, kept v₁, kept v₂));
       low = rw f (omega (arith, body-at, sizes, w .low));

@@ -1,6 +1,6 @@
 -- The sheet of an accepted capture by the places of its descriptors, and the answer of an import. Assumes nothing.
-use mathlib.Core.Path.{_≡_, sym, ap, _∙_}
-use mathlib.Core.List.{List}
+use mathlib.Core.Path.{_≡_, refl, sym, ap, subst, _∙_}
+use mathlib.Core.List.{List, _∷_}
 use Prim.Native.Nat.{ℕ, _+_, _-_, _*_, _/_, _%_, _≤_, _<_}
 use native.Mathlib.Nat.{div-add-mod}
 use native.Mathlib.Omega.{arith}
@@ -10,7 +10,10 @@ use Rattle.lent.specs.Wrote.{Wrote}
 use Rattle.refusal.specs.declared.Refusal.{Refusal}
 use Rattle.refusal.specs.First.{refuse}
 use Rattle.text.specs.Drive.{Desc, Good, profileBytes}
-use Rattle.text.specs.Reading.{descAt}
+use Rattle.text.specs.Reading.{lengthAt, descAt}
+use Rattle.text.proofs.Received.{Stand, wholes-stand}
+use Rattle.reading.specs.Places.{nextAt}
+use Rattle.reading.proofs.At.{next-is}
 use Rattle.layout.specs.Layout.{profilesBehind}
 use Rattle.profiles.specs.Profiles.{profilesOf}
 use Rattle.profiles.proofs.Kept.{fault-kept, length-profilesOf}
@@ -25,9 +28,9 @@ use Rattle.import.specs.Import.{sheetFrom, imported}
 use Rattle.lent.specs.declared.Made.{Made}
 use Rattle.lent.specs.Maker.{outcome, refused, written, refusing}
 use Rattle.lent.proofs.Maker.{written-making}
-use Rattle.import.specs.inner.Pieces.{sheetBytes, Whole}
+use Rattle.import.specs.inner.Pieces.{Standing, sheetBytes, Whole}
 use Rattle.import.proofs.Answers.{imported-fault, imported-short, imported-written}
-use Rattle.import.proofs.Beside.{length-sheetBytes}
+use Rattle.import.proofs.Beside.{all-standing, length-sheetBytes}
 
 -- a sheet whose profile list is b
 sheet-parts : (b : List ℕ) (ds : List Desc) → length b % 4 ≡ 0 → flat profileBytes (profilesOf b) ≡ b
@@ -45,6 +48,13 @@ module _ (s : List ℕ) (k : captureFault s .number ≡ 0) (bs : Bytes s) where
       let g : Good (descAt s 8) = all-good bs c .0 in
       rw (c .found)
       (sheet-parts (descAt s 8 .body) (behind s) (g .four) (profiles-back (descAt s 8 .body) (g .bytes) (g .four) (fault-kept (descAt s 8 .body) (c .profiles))))
+
+  -- the descriptors behind the first are whole
+  behind-whole : Standing s (nextAt s 8) (behind s)
+  behind-whole =
+      let c = describes s k in
+      let t : Stand s 8 (descAt s 8 ∷ behind s) = rw (c .found) at (wholes-stand 65534 0 0 s) in
+      subst (λ (at : ℕ). Standing s at (behind s)) (sym (next-is s 8 (nextAt s 8) (length-first s k) refl)) (all-standing s (8 + 4 + lengthAt s 8) (behind s) (t .2))
 
   length-sheet : length (sheetFrom s) ≡ length s - 8 + 4 * length (behind s)
   length-sheet = omega (arith, ap length sheet-is, length-sheetBytes (descAt s 8 .body) (behind s), sizes s k)
@@ -82,6 +92,7 @@ module _ (s : List ℕ) (c : Capture) (e : c ≡ captureOf s) where
         pub import-room : Whole s (c .features) d
         import-room = record {
           some = length-first s none;
+          whole = behind-whole s none bs;
           count = count;
           room = omega (arith, needed, ap length (sheet-is s none bs));
           low = omega (arith, ap length (sheet-is s none bs), length-sheet s none bs, sizes s none, captured-short s none);

@@ -1,8 +1,10 @@
 // A captured response to RT 0 from 0 becomes a drive sheet.
 ghost use mathlib.Core.Path.{_≡_};
+ghost use Prim.Native.Nat.{_+_, _≤_};
+ghost use lib.ListN.{length};
 ghost use Rattle.lent.specs.Wrote.{Wrote};
 ghost use Rattle.text.specs.Response.{headerLength};
-ghost use Rattle.text.specs.Reading.{descAt};
+ghost use Rattle.text.specs.Reading.{lengthAt, descAt};
 ghost use Rattle.sheet.specs.Meaning.{entry};
 ghost use Rattle.capture.specs.inner.Behind.{behind};
 ghost use Rattle.import.specs.Import.{imported};
@@ -11,18 +13,45 @@ ghost use Rattle.import.specs.inner.Pieces.{HasSpace, Filled, sheetBytes
 use lent::Made;
 use text::Header;
 
-// The entry of the descriptor at a place.
-fn put_entry(sheet: &mut [u8], at: usize, s: &[u8], place: usize, offset: u32) -> usize
-    ensures { λ r. ⌜ Wrote (now (sheet .entry)) at (entry offset (descAt (now (s .entry)) place)) r (now (sheet .exit)) ⌝ }
+// ---- a descriptor that the response has whole
+
+// Additional Length.
+// Asks: a descriptor that the response has whole; the check has read it.
+fn length_in(s: &[u8], place: usize) -> usize
+    requires { ⌜ place + 4 + lengthAt (now s) place ≤ length (now s) ⌝ }
+    ensures { λ r. ⌜ r ≡ lengthAt (now (s .entry)) place ⌝ }
 {
-    let body = reading::body_at(s, place);
-    let number = reading::number_at(s, place);
-    let flags = reading::flags_at(s, place);
-    layout::put_entry(sheet, at, number, flags, body.len() as u8, offset)
+    fields::inside(s, place + 3) as usize
 }
 
+// Its entry: the header bytes as they stand, and where its body will.
+// Asks: a descriptor that the response has whole, which the check has read, and room for the entry, which 42 has shown before.
+fn put_entry(sheet: &mut [u8], at: usize, s: &[u8], place: usize, offset: u32) -> usize
+    requires { ⌜ (place + 4 + lengthAt (now s) place ≤ length (now s)) × (at + 8 ≤ length (now sheet)) ⌝ }
+    ensures { λ r. ⌜ Wrote (now (sheet .entry)) at (entry offset (descAt (now (s .entry)) place)) r (now (sheet .exit)) ⌝ }
+{
+    let behind = place + 4;
+    layout::place_entry(sheet, at, &s[place..behind], offset)
+}
+
+// Its body. Many features have none.
+// Asks: a descriptor that the response has whole, its Additional Length, and room for the body, which 42 has shown before.
+fn put_body(sheet: &mut [u8], at: usize, s: &[u8], place: usize, len: usize) -> usize
+    requires { ⌜ (len ≡ lengthAt (now s) place) × (place + 4 + len ≤ length (now s)) × (at + len ≤ length (now sheet)) ⌝ }
+    ensures { λ r. ⌜ Wrote (now (sheet .entry)) at (descAt (now (s .entry)) place .body) r (now (sheet .exit)) ⌝ }
+{
+    if len == 0 {
+        return at;
+    }
+    let start = place + 4;
+    let end = start + len;
+    lent::place(sheet, at, &s[start..end])
+}
+
+// ---- the sheet
+
 // The entries of the descriptors from a place on, and their bodies: both in one pass.
-// Asks: room for entries and bodies, which 42 has shown before.
+// Asks: descriptors that the response has whole, which the check has read, and room for entries and bodies, which 42 has shown before.
 fn put_features(sheet: &mut [u8], entries: usize, body: usize, s: &[u8], first: usize) -> usize
     requires { ⌜ HasSpace (now s) entries body first (now sheet) ⌝ }
     ensures { λ r. ⌜ Filled (now (s .entry)) entries body first (now (sheet .entry)) r (now (sheet .exit)) ⌝ }
@@ -31,9 +60,10 @@ fn put_features(sheet: &mut [u8], entries: usize, body: usize, s: &[u8], first: 
     let mut next = body;
     let mut place = first;
     while place < s.len() {
+        let len = length_in(s, place);
         entry = put_entry(sheet, entry, s, place, next as u32);
-        next = lent::copy(sheet, next, reading::body_at(s, place));
-        place = reading::next_at(s, place);
+        next = put_body(sheet, next, s, place, len);
+        place += 4 + len;
     }
     next
 }

@@ -1,7 +1,9 @@
 // Where a drive sheet's fields stand, read and written: nothing above this crate knows the layout of an entry. A field behind the sheet's end reads as 0.
 ghost use mathlib.Core.Path.{_≡_};
+ghost use mathlib.Core.List.{_++_};
 ghost use Prim.Native.Nat.{_+_, _≤_};
 ghost use lib.ListN.{length};
+ghost use Rattle.fields.specs.Field.{spell};
 ghost use Rattle.fields.specs.Part.{PartOf};
 ghost use Rattle.lent.specs.Wrote.{Wrote};
 ghost use Rattle.layout.specs.Layout.{featureCount, profileCount, profilesBehind, entryAt, bodiesAt, profilesAt, number, flags, bodyLength, offset, countsBytes, entryBytes, profilesPart};
@@ -125,6 +127,31 @@ pub fn put_entry(
     let b = lent::put(out, a, flags.0);
     let c = lent::put(out, b, len);
     lent::put4(out, c, offset)
+}
+
+// Puts an offset where there is room for it, all four bytes at once.
+// Asks: room for four bytes; `place_entry` has room for an entry.
+fn place_offset(out: &mut [u8], at: usize, offset: u32) -> usize
+    requires { ⌜ at + 4 ≤ length (now out) ⌝ }
+    ensures { λ r. ⌜ Wrote (now (out .entry)) at (spell 4 offset) r (now (out .exit)) ⌝ }
+{
+    let word = [
+        (offset / 256 / 256 / 256 % 256) as u8,
+        (offset / 256 / 256 % 256) as u8,
+        (offset / 256 % 256) as u8,
+        (offset % 256) as u8,
+    ];
+    lent::place4(out, at, &word)
+}
+
+// Writes an entry that starts with four bytes as they stand: number, flags and body length, which is how a descriptor starts.
+// Asks: four bytes, and room for an entry; whoever writes has looked at the buffer's length.
+pub fn place_entry(out: &mut [u8], at: usize, head: &[u8], offset: u32) -> usize
+    requires { ⌜ (length (now head) ≡ 4) × (at + 8 ≤ length (now out)) ⌝ }
+    ensures { λ r. ⌜ Wrote (now (out .entry)) at (now (head .entry) ++ spell 4 offset) r (now (out .exit)) ⌝ }
+{
+    let behind = lent::place4(out, at, head);
+    place_offset(out, behind, offset)
 }
 
 // The profiles as they stand, which is as feature 0 sends them.

@@ -8,9 +8,8 @@ use lib.Seq.{sets}
 use Rattle.lent.proofs.Laws.{kept}
 use Rattle.sheet.specs.Meaning.{contents}
 use Rattle.reading.specs.inner.Between.{from}
-use Rattle.reading.proofs.Places.{from-less}
 use Rattle.import.specs.inner.Pieces.{bodies}
-use Rattle.import.proofs.Beside.{Passed, passed-start, passed-more, passed-end}
+use Rattle.import.proofs.Beside.{Passed, passed-start, here-whole, here-entry, here-body, passed-more, passed-end}
 use Rattle.import.proofs.put_features.Statement.{statement}
 use Rattle.import.proofs.put_features.Tie as tie
 
@@ -25,16 +24,33 @@ abbrev μ-loop : tie.MeasureT-loop
 loop-holds : tie.Need-loop-holds Inv-loop μ-loop
 loop-holds c = (passed-start (c .before .before .pre), refl)
 
-cast-put-entry : tie.Need-cast-put-entry Inv-loop μ-loop
-cast-put-entry c = omega (arith, c .before .before .loop .inv .0 .fits .low)
+length-in-requires : tie.Need-length-in-requires Inv-loop μ-loop
+length-in-requires c κs = here-whole (c .before .loop .inv .0) (c .loop-test .taken)
 
-loop-less : tie.Need-loop-less Inv-loop μ-loop
-loop-less c = search from-less
+cast-put-entry : tie.Need-cast-put-entry Inv-loop μ-loop
+cast-put-entry c = omega (arith, c .before .before .before .loop .inv .0 .fits .low)
+
+put-entry-requires : tie.Need-put-entry-requires Inv-loop μ-loop
+put-entry-requires c κs = (here-whole (c .before .before .before .loop .inv .0) (c .before .before .loop-test .taken), here-entry (c .before .before .before .loop .inv .0) (c .before .before .loop-test .taken))
+
+put-body-requires : tie.Need-put-body-requires Inv-loop μ-loop
+put-body-requires c κs =
+    let l = c .before .before .before .before .before .length-in .ensures in (
+      l,
+      omega (arith, l, here-whole (c .before .before .before .before .before .before .before .loop .inv .0) (c .before .before .before .before .before .before .loop-test .taken)),
+      omega (arith, l, here-body (c .before .before .before .before .before .before .before .loop .inv .0) (c .before .before .before .before .before .before .loop-test .taken) (c .before .before .before .put-entry .ensures)),
+    )
+
+add-place : tie.Need-add-place Inv-loop μ-loop
+add-place c = omega (arith, c .before .before .before .before .before .before .before .before .length-in .ensures, here-whole (c .before .before .before .before .before .before .before .before .before .before .loop .inv .0) (c .before .before .before .before .before .before .before .before .before .loop-test .taken))
+
+add-place-2 : tie.Need-add-place-2 Inv-loop μ-loop
+add-place-2 c = omega (arith, c .before .before .before .before .before .before .before .before .length-in .ensures, here-whole (c .before .before .before .before .before .before .before .before .before .before .loop .inv .0) (c .before .before .before .before .before .before .before .before .before .loop-test .taken))
 
 loop-again : tie.Need-loop-again Inv-loop μ-loop
 loop-again c = (
-  passed-more (c .before .before .before .before .before .before .before .before .before .before .before .loop .inv .0) (c .before .before .before .before .before .before .before .before .before .before .loop-test .taken) (c .before .before .before .before .before .before .before .before .put-entry .ensures) (c .before .before .before .before .body-at .ensures .holds) (c .before .before .before .copy .ensures) (c .next-at .ensures),
-  kept (c .before .before .before .copy .ensures) ∙ kept (c .before .before .before .before .before .before .before .before .put-entry .ensures) ∙ c .before .before .before .before .before .before .before .before .before .before .before .loop .inv .1,
+  passed-more (c .before .before .before .before .before .before .before .before .before .before .loop .inv .0) (c .before .before .before .before .before .before .before .before .before .loop-test .taken) (c .before .before .before .before .before .before .put-entry .ensures) (c .before .before .put-body .ensures) (omega (arith, c .before .before .before .before .before .before .before .before .length-in .ensures)),
+  kept (c .before .before .put-body .ensures) ∙ kept (c .before .before .before .before .before .before .put-entry .ensures) ∙ c .before .before .before .before .before .before .before .before .before .before .loop .inv .1,
 )
 
 same-length : tie.Need-same-length Inv-loop μ-loop
@@ -48,4 +64,4 @@ returns c =
 pub put-features-spec : {M : Type 1} → statement M
 put-features-spec =
     tie.close
-    (tie.spec Inv-loop μ-loop loop-holds cast-put-entry (λ c κs. search needs) (λ c κs. search needs) (λ c κs. search needs) (λ c κs. search needs) loop-less loop-again same-length returns)
+    (tie.spec Inv-loop μ-loop loop-holds length-in-requires cast-put-entry put-entry-requires put-body-requires add-place add-place-2 (λ c. search needs) loop-again same-length returns)

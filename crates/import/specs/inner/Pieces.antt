@@ -1,5 +1,5 @@
 -- The pieces that the inner functions speak of: a sheet's bytes as they are written. Assumes nothing: these are definitions.
-use mathlib.Core.List.{List, _++_}
+use mathlib.Core.List.{List, [], _∷_, _++_}
 use mathlib.Core.Path.{_≡_}
 use Prim.Native.Nat.{ℕ, _+_, _*_, _/_, _≤_, _<_}
 use lib.ListN.{length}
@@ -7,7 +7,8 @@ use lib.Seq.{sets}
 use Rattle.base.specs.Lists.{flat}
 use Rattle.text.specs.Drive.{Desc}
 use Rattle.text.specs.Response.{headerLength}
-use Rattle.text.specs.Reading.{descAt}
+use Rattle.text.specs.Reading.{lengthAt, descAt}
+use Rattle.reading.specs.Places.{nextAt}
 use Rattle.reading.specs.inner.Between.{from}
 use Rattle.layout.specs.Layout.{countsBytes, profilesBehind}
 use Rattle.sheet.specs.Meaning.{contents}
@@ -17,8 +18,15 @@ use Rattle.capture.specs.inner.Behind.{behind}
 abbrev pub bodies : List Desc → List ℕ
 bodies ds = flat (λ (d : Desc). d .body) ds
 
--- the buffer d has room for the entries of the descriptors from `first` on at `entries`, and for their bodies at `body`, which is behind all entries
+-- descriptors stand in s whole, as many as ds, one behind the other from a place on
+abbrev pub Standing : (s : List ℕ) (at : ℕ) → List Desc → Type 0
+Standing s at [] = Unit {0}
+Standing s at (d ∷ ds) = (at + 4 + lengthAt s at ≤ length s) × Standing s (at + 4 + lengthAt s at) ds
+
+-- the descriptors from `first` on are whole, and the buffer d has room for their entries at `entries`, and for their bodies at `body`, which is behind
+-- all entries
 pub record HasSpace (s : List ℕ) (entries body first : ℕ) (d : List ℕ) : Type 0 where
+  pub whole : Standing s first (from s first)
   pub apart : entries + 8 * length (from s first) ≤ body
   pub room : body + length (bodies (from s first)) ≤ length d
   pub low : body + length (bodies (from s first)) < 4294967296
@@ -36,9 +44,10 @@ sheetBytes b ds =
     ++ b
     ++ bodies ds
 
--- that of the descriptors of s, of which n stand behind the first, has room in the buffer d
+-- that of the descriptors of s, of which n stand whole behind the first, has room in the buffer d
 pub record Whole (s : List ℕ) (n : ℕ) (d : List ℕ) : Type 0 where
   pub some : headerLength < length s
+  pub whole : Standing s (nextAt s headerLength) (behind s)
   pub count : n ≡ length (behind s)
   pub room : length (sheetBytes (descAt s headerLength .body) (behind s)) ≤ length d
   pub low : length (sheetBytes (descAt s headerLength .body) (behind s)) < 4294967296
