@@ -16,6 +16,8 @@ use Rattle.text.proofs.Sizes.{length-bytes}
 use Rattle.text.proofs.Received.{reading-count}
 use Rattle.reading.specs.Places.{descs}
 use Rattle.reading.specs.Completed.{completed}
+use Rattle.reading.specs.declared.Judged.{Judged}
+use Rattle.reading.specs.Judged.{oddIn, judged}
 use Rattle.reading.proofs.Places.{from-step, wholes-end}
 use Rattle.reading.proofs.Completed.{descs-from, complete-read}
 use Rattle.capture.specs.declared.Capture.{Capture}
@@ -88,6 +90,11 @@ module _ (s : List ℕ) where
       go : (n : ℕ) → captureFault s .number ≡ n → captureOf s .refusal ≡ captureFault s
       go zero q = ap (λ (c : Capture). c .refusal) (captureOf-none q) ∙ sym (capture-accepts s q)
       go (suc n) q = ap (λ (c : Capture). c .refusal) (captureOf-fault (λ z. omega arith))
+
+-- what the reading says, as it was judged
+pub judged-parts : (s : List ℕ) (j : Judged) → j ≡ judged s → (j .reading ≡ completed s) × (j .odd ≡ oddIn (descs s))
+unfolding judged
+judged-parts s j e = (ap (λ (x : Judged). x .reading) e, ap (λ (x : Judged). x .odd) e)
 
 -- by the reading r and the refusal x at hand
 module _ (s : List ℕ) (r : Reading) (e : r ≡ completed s) (x : Refusal) (p : x ≡ captureFault s) where

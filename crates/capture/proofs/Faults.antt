@@ -1,8 +1,8 @@
 -- What is refused of a response, by the reading at hand and the places of its descriptors. Assumes nothing.
-use mathlib.Core.Path.{_≡_, sym, ap, _∙_}
+use mathlib.Core.Path.{_≡_, refl, sym, ap, _∙_}
 use mathlib.Core.Logic.{⊎-elim}
 use mathlib.Core.Bool.{not}
-use mathlib.Core.List.{List}
+use mathlib.Core.List.{List, [], _∷_}
 use Prim.Native.Nat.{ℕ, _+_, _*_, _≤_, _<_}
 use native.Mathlib.Omega.{arith}
 use lib.Dec.{eqb}
@@ -14,9 +14,11 @@ use Rattle.refusal.specs.First.{refuse, accept, _if_else_, _orElse_, placed}
 use Rattle.text.specs.Drive.{Desc}
 use Rattle.text.specs.Response.{currentProfile}
 use Rattle.text.specs.Reading.{statedProfile, numberAt, flagsAt, lengthAt, descAt}
-use Rattle.refusal.proofs.First.{orElse-none, orElse-fault}
+use Rattle.refusal.proofs.First.{orElse-none, orElse-fault, placed-number}
 use Rattle.base.proofs.Compare.{le-or-lt}
-use Rattle.reading.specs.Places.{nextAt}
+use Rattle.reading.specs.Places.{nextAt, descs}
+use Rattle.reading.specs.Judged.{oddFlags, oddIn}
+use Rattle.reading.proofs.Flagged.{odd-zero}
 use Rattle.reading.specs.inner.Between.{from}
 use Rattle.reading.proofs.At.{next-is}
 use Rattle.reading.proofs.Places.{from-step, from-end, left-here, left-next, left-end}
@@ -31,6 +33,15 @@ use Rattle.capture.specs.inner.Behind.{behind}
 
 number-is : {r a : Refusal} → r ≡ a → r .number ≡ a .number
 number-is e = ap (λ (x : Refusal). x .number) e
+
+-- flags of which none are odd
+flags-clean : (place : ℕ) (ds : List Desc) → oddIn ds ≡ 0 → flagsFaults place ds ≡ accept
+unfolding oddIn flagsFaults flagsRule
+flags-clean place [] e = refl
+flags-clean place (d ∷ ds) e =
+    let a : oddFlags (d .flags) ≡ 0 = omega (arith, e) in
+    let b : oddIn ds ≡ 0 = omega (arith, e) in
+    orElse-none _ _ (placed-number _ place ∙ odd-zero (d .flags) a) ∙ flags-clean (place + 1) ds b
 
 -- ---- 41, and the sheet's own numbers
 
@@ -59,6 +70,13 @@ module _ (s : List ℕ) where
 
       pub sheet-profiles : (r .number ≡ 0 → ⊥) → r ≡ sheetRule (from s 8)
       sheet-profiles k = profiles-are ∙ sym (sheet-some ∙ orElse-fault _ _ (λ z. k (number-is profiles-are ∙ z)))
+
+      -- no flags are odd: none is refused
+      pub sheet-clean : r .number ≡ 0 → (odd : ℕ) → odd ≡ oddIn (from s 8) → odd ≡ 0 → accept ≡ sheetRule (from s 8)
+      unfolding oddIn
+      sheet-clean k odd o z =
+          let n : oddFlags (descAt s 8 .flags) + oddIn (behind s) ≡ 0 = sym (ap oddIn (from-step s 8 h)) ∙ sym o ∙ z in
+          sym (sheet-some ∙ orElse-none _ _ (sym (number-is profiles-are) ∙ k) ∙ flags-clean 1 (behind s) (omega (arith, n)))
 
       pub sheet-flags : r .number ≡ 0 → (f : Refusal) (first : ℕ) → first ≡ nextAt s 8 → f ≡ flagsFaults 1 (from s first) → f ≡ sheetRule (from s 8)
       sheet-flags k f first n g =
@@ -124,6 +142,10 @@ module _ (s : List ℕ) (r : Reading) (e : r ≡ completed s) where
       -- and the response has at most 65,534 bytes
       pub own-most : length s ≤ 65534
       own-most = readFault-header 65534 0 0 s (complete-zero s (complete-none s r e k) .read) .most
+
+      -- how many descriptors have odd flags
+      pub own-odd : (odd : ℕ) → odd ≡ oddIn (descs s) → odd ≡ oddIn (from s 8)
+      own-odd odd o = o ∙ ap oddIn (descs-from s (complete-none s r e k))
 
       pub capture-sheet : x .number ≡ 0 → (y : Refusal) → y ≡ sheetRule (from s 8) → y ≡ captureFault s
       capture-sheet j y q = q ∙ sym (orElse-none _ _ (sym (number-is p) ∙ j)) ∙ rules

@@ -4,7 +4,9 @@ ghost use Prim.Native.Nat.{_≤_, _<_};
 ghost use lib.ListN.{length};
 ghost use Rattle.text.specs.Response.{headerLength, returnLimit};
 ghost use Rattle.reading.specs.inner.Between.{from};
+ghost use Rattle.reading.specs.Places.{descs};
 ghost use Rattle.reading.specs.Completed.{completed};
+ghost use Rattle.reading.specs.Judged.{oddIn};
 ghost use Rattle.capture.specs.Capture.{ownRule, flagsFaults, sheetRule, captureFault, captureOf};
 use refusal::Refusal;
 use text::Header;
@@ -65,23 +67,26 @@ fn flags_fault(s: &[u8], first: usize) -> Refusal
     refusal::ACCEPTED
 }
 
-// 3 at each profile, then 5 and 44.
-// Asks: a response with a descriptor, which 41 has shown before, and of at most 65,534 bytes, which 14 has.
-fn sheet_fault(s: &[u8]) -> Refusal
-    requires { ⌜ (headerLength < length (now s)) × (length (now s) ≤ returnLimit) ⌝ }
+// 3 at each profile, then 5 and 44. The flags are walked over only where some are odd.
+// Asks: a response with a descriptor, which 41 has shown before, and of at most 65,534 bytes, which 14 has, and how many have odd flags.
+fn sheet_fault(s: &[u8], odd: u32) -> Refusal
+    requires { ⌜ (headerLength < length (now s)) × (length (now s) ≤ returnLimit) × (odd ≡ oddIn (from (now s) headerLength)) ⌝ }
     ensures { λ r. ⌜ r ≡ sheetRule (from (now (s .entry)) headerLength) ⌝ }
 {
     let fault = profiles::fault(reading::body_at(s, Header::LENGTH));
     if fault.number != 0 {
         return fault;
     }
+    if odd == 0 {
+        return refusal::ACCEPTED;
+    }
     flags_fault(s, reading::next_at(s, Header::LENGTH))
 }
 
 // The first refusal of a response that was read.
-// Asks: the reading of this response.
-fn capture_fault(read: Reading, s: &[u8]) -> Refusal
-    requires { ⌜ read ≡ completed (now s) ⌝ }
+// Asks: the reading of this response, and how many descriptors have odd flags.
+fn capture_fault(read: Reading, odd: u32, s: &[u8]) -> Refusal
+    requires { ⌜ (read ≡ completed (now s)) × (odd ≡ oddIn (descs (now s))) ⌝ }
     ensures { λ r. ⌜ r ≡ captureFault (now (s .entry)) ⌝ }
 {
     let refused = read.refusal;
@@ -92,15 +97,16 @@ fn capture_fault(read: Reading, s: &[u8]) -> Refusal
     if own.number != 0 {
         return own;
     }
-    sheet_fault(s)
+    sheet_fault(s, odd)
 }
 
 // The check of a captured response to RT 0 from 0.
 pub fn check(s: &[u8]) -> Capture
     ensures { λ r. ⌜ r ≡ captureOf (now (s .entry)) ⌝ }
 {
-    let read = reading::complete(s);
-    let fault = capture_fault(read, s);
+    let judged = reading::judge(s);
+    let read = judged.reading;
+    let fault = capture_fault(read, judged.odd, s);
     if fault.number != 0 {
         return Capture {
             refusal: fault,

@@ -63,6 +63,7 @@ use Rattle.reading.proofs.body_at as body-at
 use Rattle.reading.proofs.scan as scan
 use Rattle.reading.proofs.read as read
 use Rattle.reading.proofs.complete as complete
+use Rattle.reading.proofs.judge as judge
 use Rattle.reading.proofs.held as held
 use Rattle.text.proofs.most as most
 use Rattle.listing.proofs.list as list
@@ -281,6 +282,9 @@ read-decided = reading-decides.read-decided
 
 pub complete-decided : Decided complete.ended (λ M. complete.clauses) (λ M. complete.spec)
 complete-decided x = decides (x .𝓤) (λ o o′ p q. (joined p q, refl))
+
+pub judge-decided : Decided judge.ended (λ M. judge.clauses) (λ M. judge.spec)
+judge-decided x = decides (x .𝓤) (λ o o′ p q. (joined p q, refl))
 
 pub held-decided : DecidedAs held.ended (λ M. held.clauses) (λ M. held.spec) (λ κs r. seen r)
 held-decided = reading-decides.held-decided

@@ -16,6 +16,7 @@ use Rattle.profiles.specs.Profiles.{profilesOf}
 use Rattle.text.specs.Reading.{numberAt, flagsAt, lengthAt, descAt}
 use Rattle.reading.specs.Places.{nextAt}
 use Rattle.reading.specs.Completed.{completed}
+use Rattle.reading.specs.Judged.{judged}
 use Rattle.layout.specs.Layout as layout
 use Rattle.sheet.specs.Check.{flagsRule, endBefore}
 use Rattle.sheet.specs.inner.Search.{firstFrom, nextFrom}
@@ -65,6 +66,7 @@ use Rattle.reading.proofs.length_at as reading-length-at
 use Rattle.reading.proofs.next_at as next-at
 use Rattle.reading.proofs.body_at as body-at
 use Rattle.reading.proofs.complete as complete
+use Rattle.reading.proofs.judge as judge
 
 -- ---- fields
 
@@ -223,3 +225,6 @@ body-at-tied x = promises (x .𝓤) (λ o e. e)
 
 pub complete-tied : Promised complete.ended (λ M. complete.clauses) (λ M. complete.spec) (λ x o. o .0 ≡ completed (x .args .0 .now))
 complete-tied x = promises (x .𝓤) (λ o e. e)
+
+pub judge-tied : Promised judge.ended (λ M. judge.clauses) (λ M. judge.spec) (λ x o. o .0 ≡ judged (x .args .0 .now))
+judge-tied x = promises (x .𝓤) (λ o e. e)

@@ -9,3 +9,4 @@ pub mod Rest
 pub mod Completed
 pub mod Decides
 pub mod Promised
+pub mod Flagged

@@ -1,5 +1,5 @@
 -- A scan is a refusal of the header or of the walk, or the walk's numbers. Assumes nothing.
-use mathlib.Core.Path.{_≡_, sym, _∙_}
+use mathlib.Core.Path.{_≡_, sym, ap, _∙_}
 use mathlib.Core.List.{List}
 use Prim.Native.Nat.{ℕ, _+_, _≤_}
 use native.Mathlib.Nat.{zero-add}
@@ -9,13 +9,16 @@ use Rattle.fields.specs.Field.{field}
 use Rattle.refusal.specs.declared.Refusal.{Refusal}
 use Rattle.refusal.specs.First.{accept}
 use Rattle.text.specs.declared.Feature.{Feature}
-use Rattle.text.specs.Reading.{statedLength, statedProfile, headerRule, walk, walked, readFault, taken, reading, lastNumber}
+use Rattle.text.specs.Reading.{statedLength, statedProfile, headerRule, walk, walked, readFault, taken, reading, wholes, lastNumber}
 use Rattle.refusal.proofs.First.{orElse-none, orElse-fault}
 use Rattle.text.proofs.Walk.{headerRule-zero, wholes-refused, wholes-accepted}
 use Rattle.text.proofs.Received.{reading-fault, reading-none}
 use Rattle.reading.specs.declared.Walk.{Walk}
 use Rattle.reading.specs.declared.Walk.the-variants.{Refused, Whole}
+use Rattle.reading.specs.declared.Scanned.{Scanned}
+use Rattle.reading.specs.declared.ScanJudged.{ScanJudged}
 use Rattle.reading.specs.Scan.{scanned}
+use Rattle.reading.specs.Judged.{oddIn}
 use Rattle.reading.specs.inner.Tally.{refusal, tally}
 use Rattle.reading.proofs.Tally.{last-start, tally-refused, tally-whole}
 
@@ -26,12 +29,22 @@ scan-room limit rt received stated r q k =
     let f = headerRule-zero limit rt received stated (rw (← q) k) in
     (f .eight, f .most)
 
+abbrev scannedAs : Scanned → ℕ → ScanJudged
+scannedAs a n = record { scan = a; odd = n }
+
+pub both-scanned : {a b : Scanned} {n m : ℕ} → a ≡ b → n ≡ m → scannedAs a n ≡ scannedAs b m
+both-scanned p q = λ i. record { scan = p i; odd = q i }
+
 module _ (limit rt sfn : ℕ) (s : List ℕ) where
   scanned-fault : (r : Refusal) → r ≡ readFault limit rt sfn s → (r .number ≡ 0 → ⊥) → refusal r ≡ scanned limit rt sfn s
   unfolding scanned refusal lastNumber
   scanned-fault r q k =
       let f : readFault limit rt sfn s .number ≡ 0 → ⊥ = rw (← q) k in
       rw (q, reading-fault limit rt sfn s f, wholes-refused limit rt sfn s f)
+
+  none-odd : (r : Refusal) → r ≡ readFault limit rt sfn s → (r .number ≡ 0 → ⊥) → 0 ≡ oddIn (wholes limit rt sfn s)
+  unfolding oddIn
+  none-odd r q k = sym (ap oddIn (wholes-refused limit rt sfn s (rw (← q) k)))
 
   -- what the code has at hand: the header judged, then the walk
   module _ (stated : ℕ) (r : Refusal) (t : stated ≡ field 4 s 0) (q : r ≡ headerRule limit rt (length s) stated) where
@@ -42,6 +55,10 @@ module _ (limit rt sfn : ℕ) (s : List ℕ) where
     pub scan-header : (r .number ≡ 0 → ⊥) → refusal r ≡ scanned limit rt sfn s
     unfolding readFault
     scan-header k = scanned-fault r (header-is ∙ sym (orElse-fault _ _ (rw (← header-is) k))) k
+
+    pub odd-header : (r .number ≡ 0 → ⊥) → 0 ≡ oddIn (wholes limit rt sfn s)
+    unfolding readFault
+    odd-header k = none-odd r (header-is ∙ sym (orElse-fault _ _ (rw (← header-is) k))) k
 
     module _ (k : r .number ≡ 0) (w : Walk) (v : w ≡ tally 0 8 0 (walk (length s) rt sfn (stated + 4) s sfn 8)) where
       walk-is : w ≡ tally 0 8 0 (walked rt sfn s)
@@ -73,3 +90,35 @@ module _ (limit rt sfn : ℕ) (s : List ℕ) where
           let f = tally-whole 0 8 0 (walked rt sfn s) count end last (sym h ∙ walk-is) in
           let g : readFault limit rt sfn s .number ≡ 0 = rw (← fault-is) (f .0) in
           rw (reading-none limit rt sfn s g, wholes-accepted limit rt sfn s g, f .1, f .2, f .3, last-start, m, t, zero-add)
+
+      -- how many have odd flags, where the walk found n
+      pub odd-walk : (f : Refusal) → w ≡ Refused f → 0 ≡ oddIn (wholes limit rt sfn s)
+      odd-walk f h = let g = tally-refused 0 8 0 (walked rt sfn s) f (sym h ∙ walk-is) in none-odd f (g .0 ∙ fault-is) (rw (g .0) (g .1))
+
+      pub odd-taken : (n : ℕ) → n ≡ oddIn (walk (length s) rt sfn (stated + 4) s sfn 8 .found) → (count end : ℕ) (last : Feature) → w ≡ Whole count end last
+          → n ≡ oddIn (wholes limit rt sfn s)
+      unfolding statedLength walked
+      odd-taken n o count end last h =
+          let f = tally-whole 0 8 0 (walked rt sfn s) count end last (sym h ∙ walk-is) in
+          let g : readFault limit rt sfn s .number ≡ 0 = rw (← fault-is) (f .0) in
+          let e : n ≡ oddIn (walked rt sfn s .found) = rw (← t) o in
+          e ∙ sym (ap oddIn (wholes-accepted limit rt sfn s g))
+
+      pub judged-taken : (n : ℕ) → n ≡ oddIn (walk (length s) rt sfn (stated + 4) s sfn 8 .found) → (count end : ℕ) (last : Feature) → w ≡ Whole count end last → (p : ℕ)
+          → p ≡ field 2 s 6
+          → record {
+            scan = record {
+              reading = record {
+                refusal = accept;
+                profile = record { 0 = p };
+                data_length = stated;
+                count = count;
+                end = end;
+                complete = eqb (length s) (stated + 4);
+              };
+              last = last;
+            };
+            odd = n;
+          }
+          ≡ scannedAs (scanned limit rt sfn s) (oddIn (wholes limit rt sfn s))
+      judged-taken n o count end last h p m = both-scanned (scan-taken count end last h p m) (odd-taken n o count end last h)

@@ -3,7 +3,7 @@ use mathlib.Core.Path.{_≡_, refl, sym, ap, _∙_}
 use mathlib.Core.Bool.{true≢false}
 use mathlib.Core.List.{List, [], _∷_, _++_}
 use Prim.Native.Nat.{ℕ, zero, suc, _+_, _-_, _*_, _≤_, _<_}
-use native.Mathlib.Nat.{add-zero}
+use native.Mathlib.Nat.{add-zero, zero-add, add-assoc}
 use native.Mathlib.Omega.{arith}
 use lib.ListN.{length, take, drop, getD, length-append, length-drop}
 use lib.Seq.{getD-drop, take-all}
@@ -22,6 +22,8 @@ use Rattle.reading.specs.declared.Head.{Head}
 use Rattle.reading.specs.declared.Head.the-variants as head
 use Rattle.reading.specs.declared.Walk.{Walk}
 use Rattle.reading.specs.declared.Walk.the-variants as walked
+use Rattle.reading.specs.declared.WalkJudged.{WalkJudged}
+use Rattle.reading.specs.Judged.{oddFlags, oddIn}
 use Rattle.reading.specs.inner.Tally.{headAt, lastFrom, tally}
 
 -- ---- the number of the last descriptor
@@ -108,6 +110,13 @@ module _ (rt sfn end : ℕ) (s : List ℕ) (lo at : ℕ) where
     unfolding headAt
     head-none k = rw (← number-is, ← length-is) (sym (unless-none _ head.Refused _ (rw (← fault-is) k)))
 
+-- what a descriptor that stands says
+head-facts : (rt sfn end : ℕ) (s : List ℕ) (lo at : ℕ) (h : Head) → h ≡ headAt rt sfn end s lo at → (number : Feature) (len : ℕ) → h ≡ head.Stands number len
+    → (headFault rt sfn end s lo at .number ≡ 0) × (number ≡ record { 0 = numberAt s at }) × (len ≡ lengthAt s at)
+unfolding headAt
+head-facts rt sfn end s lo at h q number len k =
+    by-cases (headFault rt sfn end s lo at) head.Refused _ _ (sym k ∙ q) (λ z f. (z, cc, cc)) (λ z f. absurd (true≢false cc))
+
 -- ---- the loop
 
 -- what is left of a walk at place at, behind count descriptors
@@ -143,8 +152,7 @@ module _ (w : Walk) (rt sfn end : ℕ) (s : List ℕ) (at lo count : ℕ) (last 
 
     module _ (number : Feature) (len : ℕ) (k : h ≡ head.Stands number len) where
       facts : (headFault rt sfn end s lo at .number ≡ 0) × (number ≡ record { 0 = numberAt s at }) × (len ≡ lengthAt s at)
-      unfolding headAt
-      facts = by-cases (headFault rt sfn end s lo at) head.Refused _ _ (sym k ∙ q) (λ z f. (z, cc, cc)) (λ z f. absurd (true≢false cc))
+      facts = head-facts rt sfn end s lo at h q number len k
 
       pub loop-cut : length s < at + 4 + len → walked.Whole count at last ≡ w
       loop-cut m = sym (one-more (stop accept) (walk-short _ rt sfn end s lo at l (facts .0) (rw (← facts .2) m)) ∙ tally-stop count at (last .0))
@@ -157,3 +165,52 @@ module _ (w : Walk) (rt sfn end : ℕ) (s : List ℕ) (at lo count : ℕ) (last 
           one-more _ (walk-step _ rt sfn end s lo at l (facts .0) g)
           ∙ tally-onward count at (last .0) (descAt s at) _
           ∙ rw (x, facts .2, facts .1)
+
+-- ---- how many descriptors have odd flags, on the same walk
+
+abbrev judgedAs : Walk → ℕ → WalkJudged
+judgedAs w n = record { walk = w; odd = n }
+
+pub both-judged : {w x : Walk} {n m : ℕ} → w ≡ x → n ≡ m → judgedAs w n ≡ judgedAs x m
+both-judged p q = λ i. record { walk = p i; odd = q i }
+
+pub odds-start : (end : ℕ) (s : List ℕ) → oddIn (walk (length s) 0 0 end s 0 8 .found) ≡ 0 + oddIn (walk (length s - 0) 0 0 end s 0 8 .found)
+odds-start end s = ap (λ (k : ℕ). oddIn (walk k 0 0 end s 0 8 .found)) {x = length s} {y = length s - 0} (omega arith) ∙ sym (zero-add _)
+
+-- all is the count of the whole walk: the end, a refusal, a cut descriptor, a further turn
+module _ (all end : ℕ) (s : List ℕ) (at lo count odds : ℕ) (e : all ≡ odds + oddIn (walk (length s - count) 0 0 end s lo at .found)) where
+  pub odds-end : length s < at + 4 → odds ≡ all
+  unfolding walk oddIn
+  odds-end h = sym (e ∙ ap (λ (n : ℕ). odds + n) (go (length s - count)) ∙ add-zero odds)
+    where
+      go : (k : ℕ) → oddIn (walk k 0 0 end s lo at .found) ≡ 0
+      go zero = refl
+      go (suc k) = ap (λ (w : Walked). oddIn (w .found)) (walk-few k 0 0 end s lo at h)
+
+  module _ (h : Head) (q : h ≡ headAt 0 0 end s lo at) (j : 4 * count + 8 ≤ at) (l : at + 4 ≤ length s) where
+    odds-one : (x : Walked) → walk (suc (length s - (count + 1))) 0 0 end s lo at ≡ x → all ≡ odds + oddIn (x .found)
+    odds-one x g =
+        e ∙ ap (λ (k : ℕ). odds + oddIn (walk k 0 0 end s lo at .found)) {x = length s - count} {y = suc (length s - (count + 1))} (omega arith)
+        ∙ ap (λ (w : Walked). odds + oddIn (w .found)) g
+
+    pub odds-fault : (r : Refusal) → h ≡ head.Refused r → odds ≡ all
+    unfolding headAt oddIn
+    odds-fault r k =
+        by-cases (headFault 0 0 end s lo at) head.Refused _ _ (sym k ∙ q) (λ z f. absurd (true≢false cc))
+        (λ z f. sym (odds-one _ (walk-bad _ 0 0 end s lo at l z) ∙ add-zero odds))
+
+    module _ (number : Feature) (len : ℕ) (k : h ≡ head.Stands number len) where
+      it : (headFault 0 0 end s lo at .number ≡ 0) × (number ≡ record { 0 = numberAt s at }) × (len ≡ lengthAt s at)
+      it = head-facts 0 0 end s lo at h q number len k
+
+      pub odds-cut : length s < at + 4 + len → odds ≡ all
+      unfolding oddIn
+      odds-cut m = sym (odds-one (stop accept) (walk-short _ 0 0 end s lo at l (it .0) (rw (← it .2) m)) ∙ add-zero odds)
+
+      pub odds-more : (flags one : ℕ) → flags ≡ getD s (at + 2) 0 → one ≡ oddFlags flags → at + 4 + len ≤ length s
+          → all ≡ odds + one + oddIn (walk (length s - (count + 1)) 0 0 end s (number .0 + 1) (at + 4 + len) .found)
+      unfolding descAt flagsAt oddIn
+      odds-more flags one f o m =
+          let g : at + 4 + lengthAt s at ≤ length s = rw (← it .2) m in
+          let x : one ≡ oddFlags (getD s (at + 2) 0) = o ∙ ap oddFlags f in
+          odds-one _ (walk-step _ 0 0 end s lo at l (it .0) g) ∙ sym (add-assoc odds _ _) ∙ rw (x, it .2, it .1)

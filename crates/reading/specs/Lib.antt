@@ -1,5 +1,6 @@
 pub mod Scan
 pub mod Places
 pub mod Completed
+pub mod Judged
 pub mod Held
 pub mod inner

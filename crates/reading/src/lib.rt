@@ -10,7 +10,8 @@ ghost use Rattle.text.specs.Response.{headerLength, returnLimit};
 ghost use Rattle.text.specs.Reading.{headerRule, headRule, numberAt, flagsAt, lengthAt, descAt, walk, reading};
 ghost use Rattle.reading.specs.Places.{nextAt};
 ghost use Rattle.reading.specs.Scan.{scanned};
-ghost use Rattle.reading.specs.inner.Tally.{refusal, headAt, tally};
+ghost use Rattle.reading.specs.Judged.{oddFlags, judged};
+ghost use Rattle.reading.specs.inner.Tally.{refusal, headAt, tally, walkJudged, scanJudged};
 ghost use Rattle.reading.specs.Completed.{completed};
 ghost use Rattle.reading.specs.Held.{HeldIn, HeldOf};
 use refusal::Refusal;
@@ -24,6 +25,12 @@ use text::Reading;
 pub struct Scanned {
     pub reading: Reading,
     pub last: Feature,
+}
+
+// The reading of a response to RT 0 from 0 that has to be complete, and how many of its whole descriptors have flags that a drive sheet may not have.
+pub struct Judged {
+    pub reading: Reading,
+    pub odd: u32,
 }
 
 // The header bytes of a descriptor, judged: a refusal, or its number and Additional Length.
@@ -40,6 +47,18 @@ enum Walk {
         end: usize,
         last: Feature,
     },
+}
+
+// A walk, and how many of the whole descriptors have such flags.
+struct WalkJudged {
+    walk: Walk,
+    odd: u32,
+}
+
+// A scan, and the same.
+struct ScanJudged {
+    scan: Scanned,
+    odd: u32,
 }
 
 // ---- a descriptor at a place; behind the end of s there is an empty one whose fields are 0
@@ -321,6 +340,141 @@ pub fn complete(s: &[u8]) -> Reading
         return cut.reading;
     }
     reading
+}
+
+// ---- the flags, on the same walk
+
+// 1 where a drive sheet may not have such flags, else 0.
+fn odd(flags: Flags) -> u32
+    ensures { λ r. ⌜ (r ≡ oddFlags (flags .0)) × (r ≤ 1) ⌝ }
+{
+    let fault = flags.fault(refusal::FLAGS_BAD, refusal::PERSISTENT_UNCURRENT);
+    if fault.number != 0 {
+        return 1;
+    }
+    0
+}
+
+// The walk over the descriptors of a response to RT 0 from 0 that ends at end.
+// Asks: as many bytes as 14 lets through, which has been shown before.
+fn walk_judging(end: usize, s: &[u8]) -> WalkJudged
+    requires { ⌜ (headerLength ≤ length (now s)) × (length (now s) ≤ returnLimit) ⌝ }
+    ensures { λ r. ⌜ r ≡ walkJudged (walk (length (now (s .entry))) 0 0 end (now (s .entry)) 0 headerLength) ⌝ }
+{
+    let lengths = &s[3..];
+    let mut at = Header::LENGTH;
+    let mut lo: u32 = 0;
+    let mut count: u32 = 0;
+    let mut last = Feature(0);
+    let mut odds: u32 = 0;
+    while at + 4 <= s.len() {
+        let one = odd(Flags(fields::inside(s, at + 2)));
+        match head_at(0, Feature(0), end, s, lengths, lo, at) {
+            Head::Refused(fault) => {
+                return WalkJudged {
+                    walk: Walk::Refused(fault),
+                    odd: odds,
+                };
+            }
+            Head::Stands { number, len } => {
+                let behind = at + 4 + len as usize;
+                if s.len() < behind {
+                    return WalkJudged {
+                        walk: Walk::Whole {
+                            count,
+                            end: at,
+                            last,
+                        },
+                        odd: odds,
+                    };
+                }
+                at = behind;
+                last = number;
+                lo = last.0 as u32 + 1;
+                count += 1;
+                odds += one;
+            }
+        }
+    }
+    WalkJudged {
+        walk: Walk::Whole {
+            count,
+            end: at,
+            last,
+        },
+        odd: odds,
+    }
+}
+
+// The scan of a response to RT 0 from 0.
+fn scan_judging(s: &[u8]) -> ScanJudged
+    ensures { λ r. ⌜ r ≡ scanJudged (now (s .entry)) ⌝ }
+{
+    let stated = fields::get4(s, 0);
+    let fault = header_rule(Header::RETURN_LIMIT, 0, s.len(), stated);
+    if fault.number != 0 {
+        let refused = refusing(fault);
+        return ScanJudged {
+            scan: refused,
+            odd: 0,
+        };
+    }
+    let full = stated as usize + 4;
+    let judged = walk_judging(full, s);
+    let walk = judged.walk;
+    match walk {
+        Walk::Refused(fault) => {
+            let refused = refusing(fault);
+            ScanJudged {
+                scan: refused,
+                odd: 0,
+            }
+        }
+        Walk::Whole { count, end, last } => ScanJudged {
+            scan: Scanned {
+                reading: Reading {
+                    refusal: refusal::ACCEPTED,
+                    profile: Profile(fields::get2(s, 6)),
+                    data_length: stated,
+                    count,
+                    end,
+                    complete: s.len() == full,
+                },
+                last,
+            },
+            odd: judged.odd,
+        },
+    }
+}
+
+// What `complete` gives, and how many of the whole descriptors have odd flags: a sheet's check of them need not walk again where none has.
+pub fn judge(s: &[u8]) -> Judged
+    ensures { λ r. ⌜ r ≡ judged (now (s .entry)) ⌝ }
+{
+    let judged = scan_judging(s);
+    let scan = judged.scan;
+    let reading = scan.reading;
+    let fault = reading.refusal;
+    if fault.number != 0 {
+        return Judged {
+            reading: reading,
+            odd: judged.odd,
+        };
+    }
+    let complete = reading.complete;
+    if !complete {
+        let fault = refusal::RESPONSE_CUT;
+        let cut = refusing(fault);
+        let refused = cut.reading;
+        return Judged {
+            reading: refused,
+            odd: judged.odd,
+        };
+    }
+    Judged {
+        reading: reading,
+        odd: judged.odd,
+    }
 }
 
 // ---- fresh or kept

@@ -1,5 +1,5 @@
--- `capture::sheet_fault` meets its contract: the profiles' refusal, or the flags'.
-use Rattle.capture.proofs.Faults.{sheet-profiles, sheet-flags, body-short}
+-- `capture::sheet_fault` meets its contract: the profiles' refusal, none where no flags are odd, or the flags'.
+use Rattle.capture.proofs.Faults.{sheet-profiles, sheet-clean, sheet-flags, body-short}
 use borrow.Author.Needs.{needs}
 use native.Mathlib.Omega.{arith}
 use Rattle.capture.proofs.sheet_fault.Statement.{statement}
@@ -14,9 +14,13 @@ returns c =
 
 returns-2 : tie.Need-returns-2
 returns-2 c =
-    sheet-flags (c .before .before .before .before .before .before .before .args .s .now) (c .before .before .before .before .before .before .before .pre .0) _ (c .before .before .before .before .before .body-at .ensures .holds) _ (c .before .before .before .before .fault .ensures) (c .before .before .if1 .left) _ _ (c .before .next-at .ensures) (c .flags-fault .ensures)
+    sheet-clean (c .before .before .before .before .before .before .args .s .now) (c .before .before .before .before .before .before .pre .0) _ (c .before .before .before .before .body-at .ensures .holds) _ (c .before .before .before .fault .ensures) (c .before .if1 .left) _ (c .before .before .before .before .before .before .pre .2) (c .if2 .taken)
+
+returns-3 : tie.Need-returns-3
+returns-3 c =
+    sheet-flags (c .before .before .before .before .before .before .before .before .args .s .now) (c .before .before .before .before .before .before .before .before .pre .0) _ (c .before .before .before .before .before .before .body-at .ensures .holds) _ (c .before .before .before .before .before .fault .ensures) (c .before .before .before .if1 .left) _ _ (c .before .next-at .ensures) (c .flags-fault .ensures)
 
 pub sheet-fault-spec : {M : Type 1} → statement M
 sheet-fault-spec =
     tie.close
-    (tie.spec (λ c κs. search needs) fault-requires returns (λ c κs. search needs) (λ c κs. search needs) returns-2)
+    (tie.spec (λ c κs. search needs) fault-requires returns returns-2 (λ c κs. search needs) (λ c κs. search needs) returns-3)

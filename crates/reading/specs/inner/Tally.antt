@@ -6,9 +6,14 @@ use Rattle.base.specs.Lists.{flat}
 use Rattle.refusal.specs.declared.Refusal.{Refusal}
 use Rattle.refusal.specs.First.{unless}
 use Rattle.text.specs.Drive.{Desc}
-use Rattle.text.specs.Response.{bytes}
 use Rattle.text.specs.Reading.{Walked, numberAt, lengthAt, headFault, nothingRead}
+use Rattle.text.specs.Response.{bytes, returnLimit}
 use Rattle.reading.specs.declared.Scanned.{Scanned}
+use Rattle.reading.specs.declared.WalkJudged.{WalkJudged}
+use Rattle.reading.specs.declared.ScanJudged.{ScanJudged}
+use Rattle.reading.specs.Places.{descs}
+use Rattle.reading.specs.Scan.{scanned}
+use Rattle.reading.specs.Judged.{oddIn}
 use Rattle.reading.specs.declared.Head.{Head}
 use Rattle.reading.specs.declared.Head.the-variants as head
 use Rattle.reading.specs.declared.Walk.{Walk}
@@ -33,3 +38,10 @@ unfoldable pub tally : (count place last : ℕ) → Walked → Walk
 tally count place last w =
     unless (w .fault) walked.Refused
     (walked.Whole (count + length (w .found)) (place + length (flat bytes (w .found))) (record { 0 = lastFrom last (w .found) }))
+
+-- a whole walk in numbers, and how many of its descriptors have odd flags; the same of a scan
+abbrev pub walkJudged : Walked → WalkJudged
+walkJudged w = record { walk = tally 0 8 0 w; odd = oddIn (w .found) }
+
+abbrev pub scanJudged : List ℕ → ScanJudged
+scanJudged s = record { scan = scanned returnLimit 0 0 s; odd = oddIn (descs s) }

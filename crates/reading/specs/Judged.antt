@@ -1,0 +1,22 @@
+-- A response to RT 0 from 0 that has to be complete, and how many of its whole descriptors a drive sheet may not have for their flags. Assumes nothing: these are definitions.
+use mathlib.Core.List.{List, [], _∷_}
+use Prim.Native.Nat.{ℕ, zero, suc, _+_}
+use Rattle.refusal.specs.First.{refuse}
+use Rattle.text.specs.Drive.{Desc}
+use Rattle.text.specs.Flags.{flagsGiving}
+use Rattle.reading.specs.declared.Judged.{Judged}
+use Rattle.reading.specs.Places.{descs}
+use Rattle.reading.specs.Completed.{completed}
+
+-- 1 where a sheet refuses such flags, by 5 or 44; else 0
+unfoldable pub oddFlags : ℕ → ℕ
+oddFlags f = elim (flagsGiving (refuse 5) (refuse 44) f .number) [ zero ↦ 0 | suc k ↦ 1 ]
+
+-- how many of ds have such flags
+unfoldable pub oddIn : List Desc → ℕ
+oddIn [] = 0
+oddIn (d ∷ ds) = oddFlags (d .flags) + oddIn ds
+
+-- the reading, and how many they are: none where it is refused by another number than 29
+unfoldable pub judged : List ℕ → Judged
+judged s = record { reading = completed s; odd = oddIn (descs s) }
