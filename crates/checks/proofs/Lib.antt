@@ -7,6 +7,7 @@ pub mod Findings
 pub mod Judgements
 pub mod Faultless
 pub mod Other
+pub mod Words
 pub mod Reserved
 pub mod Lowest
 pub mod Resumed

@@ -11,6 +11,7 @@ use lib.ListN.{getD}
 use borrow.Author.Tests.{eq-eqb}
 use Rattle.base.specs.Lists.{All, Bytes}
 use Rattle.base.proofs.Lists.{all-getD}
+use Rattle.fields.specs.Field.{spell}
 use Rattle.refusal.specs.declared.Refusal.{Refusal}
 use Rattle.refusal.specs.First.{refuse, accept}
 use Rattle.refusal.proofs.First.{orElse-accepts, if-accepts, first-accepts}
@@ -18,7 +19,7 @@ use Rattle.text.specs.Drive.{Desc}
 use Rattle.text.proofs.FlagsRule.{flags-good}
 use Rattle.checks.specs.declared.legal.Row.{Row}
 use Rattle.base.specs.Pick.{pick}
-use Rattle.checks.specs.Legal.{legal, other, rowOf}
+use Rattle.checks.specs.Legal.{legal, other, maskBytes, rowOf}
 use Rattle.checks.specs.Rules.{flagsFault, maskAt, bodyFault, profilesFault, descFault}
 use Rattle.checks.specs.Faultless.{Faultless}
 use Rattle.base.proofs.Pick.{pick-here, pick-past}
@@ -66,10 +67,10 @@ no-cue f e h = omega (arith, subst (λ (n : ℕ). rowOf n .0 .0 ≡ 0xFFFF) h e)
 
 -- any bits may be 1
 any-bits : (b k n : ℕ) → b < 256 → bitAnd b (maskAt (other .1) (other .2) n k) ≡ b
-unfolding maskAt other
+unfolding maskAt other maskBytes spell
 any-bits b k n l =
     ap (bitAnd b)
-    (all-getD (λ m. m ≡ 255) (other .2) 0 (refl, (refl, (refl, (refl, (refl, (refl, (refl, (refl, (refl, (refl, (refl, (refl, tt)))))))))))) (k % 12) (mod-lt k (omega arith)))
+    (all-getD (λ m. m ≡ 255) (maskBytes (other .2)) 0 (refl, (refl, (refl, (refl, (refl, (refl, (refl, (refl, (refl, (refl, (refl, (refl, tt)))))))))))) (k % 12) (mod-lt k (omega arith)))
     ∙ and-mask b 8 ∙ mod-eq-of-lt l
 
 module _ (removable : Bool) (f flags : ℕ) (body : List ℕ) where

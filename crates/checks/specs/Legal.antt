@@ -1,11 +1,13 @@
 -- The paper's table of lengths and body bits. Assumes nothing: these are definitions.
 use mathlib.Core.Bool.{Bool, true, false}
-use mathlib.Core.List.{List, [], _∷_}
-use Prim.Native.Nat.{ℕ, suc, _+_, _-_, _^_}
+use mathlib.Core.List.{List, [], _∷_, _++_}
+use Prim.Native.Nat.{ℕ, suc, _+_, _-_, _*_, _^_}
 use lib.Dec.{eqb}
 use Rattle.checks.specs.declared.legal.Length.{Length}
 use Rattle.checks.specs.declared.legal.Length.the-variants.{Any, Exactly, Counted}
+use Rattle.checks.specs.declared.legal.Masks.{Masks}
 use Rattle.checks.specs.declared.legal.Row.{Row}
+use Rattle.fields.specs.Field.{spell}
 use Rattle.base.specs.Pick.{pick}
 
 -- bit k of a byte; bits h to l; all and none
@@ -21,15 +23,23 @@ anyBits = bits 7 0
 abbrev pub noBits : ℕ
 noBits = 0
 
--- the masks of twelve bytes by place; of a body of four bytes; of a list of four-byte records
-abbrev pub twelve : (a b c d e f g h i j k l : ℕ) → List ℕ
-twelve a b c d e f g h i j k l = a ∷ b ∷ c ∷ d ∷ e ∷ f ∷ g ∷ h ∷ i ∷ j ∷ k ∷ l ∷ []
+-- four bytes as a word, the first in its highest bits
+abbrev pub word : (a b c d : ℕ) → ℕ
+word a b c d = ((a * 256 + b) * 256 + c) * 256 + d
 
-abbrev pub four : (a b c d : ℕ) → List ℕ
+-- the masks of twelve bytes by place; of a body of four bytes; of a list of four-byte records
+abbrev pub twelve : (a b c d e f g h i j k l : ℕ) → Masks
+twelve a b c d e f g h i j k l = record { 0 = word a b c d; 1 = word e f g h; 2 = word i j k l }
+
+abbrev pub four : (a b c d : ℕ) → Masks
 four a b c d = twelve a b c d noBits noBits noBits noBits noBits noBits noBits noBits
 
-abbrev pub fours : (a b c d : ℕ) → List ℕ
+abbrev pub fours : (a b c d : ℕ) → Masks
 fours a b c d = twelve a b c d a b c d a b c d
+
+-- the twelve bytes again
+unfoldable pub maskBytes : Masks → List ℕ
+maskBytes m = spell 4 (m .0) ++ spell 4 (m .1) ++ spell 4 (m .2)
 
 abbrev pub free : Bool
 free = false
@@ -37,7 +47,7 @@ free = false
 abbrev pub barred : Bool
 barred = true
 
-abbrev pub row : ℕ → Length → List ℕ → Bool → Row
+abbrev pub row : ℕ → Length → Masks → Bool → Row
 row f l m b = record { 0 = record { 0 = f }; 1 = l; 2 = m; 3 = b }
 
 -- feature, length, the bits that may be 1 in bytes 4 to 15 (and so in each twelve bytes of a longer body; of Counted only in the first four), and

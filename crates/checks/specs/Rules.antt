@@ -12,8 +12,9 @@ use Rattle.text.specs.Flags.{newer, persistent, current, flagsGiving}
 use Rattle.text.specs.Drive.{Desc}
 use Rattle.checks.specs.declared.legal.Length.{Length}
 use Rattle.checks.specs.declared.legal.Length.the-variants.{Any, Exactly, Counted}
+use Rattle.checks.specs.declared.legal.Masks.{Masks}
 use Rattle.checks.specs.declared.legal.Row.{Row}
-use Rattle.checks.specs.Legal.{anyBits, noBits, rowOf}
+use Rattle.checks.specs.Legal.{anyBits, noBits, maskBytes, rowOf}
 
 -- byte k of a descriptor with this body, counted from the descriptor's start: byte 4 is the body's first
 abbrev pub byteOf : List ℕ → ℕ → ℕ
@@ -55,10 +56,10 @@ rowRule row removable number flags n len =
     accept
 
 -- the bits of body byte k that may be 1; n is byte 7
-unfoldable pub maskAt : Length → (masks : List ℕ) (n k : ℕ) → ℕ
-maskAt Any masks n k = getD masks (k % 12) noBits
-maskAt (Exactly l) masks n k = getD masks (k % 12) noBits
-maskAt Counted masks n k = elim (ltb k 4) [ true ↦ getD masks k noBits | false ↦ elim (ltb k (4 + n)) [ true ↦ anyBits | false ↦ noBits ] ]
+unfoldable pub maskAt : Length → (masks : Masks) (n k : ℕ) → ℕ
+maskAt Any masks n k = getD (maskBytes masks) (k % 12) noBits
+maskAt (Exactly l) masks n k = getD (maskBytes masks) (k % 12) noBits
+maskAt Counted masks n k = elim (ltb k 4) [ true ↦ getD (maskBytes masks) k noBits | false ↦ elim (ltb k (4 + n)) [ true ↦ anyBits | false ↦ noBits ] ]
 
 -- 36: a reserved body bit or pad byte not 0
 unfoldable pub reservedRule : (byte mask : ℕ) → Refusal

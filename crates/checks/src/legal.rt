@@ -10,9 +10,13 @@ pub enum Length {
     Counted,
 }
 
-// A row: the feature, its length, the bits that may be 1 in each byte of its body by place, over again every twelve bytes (of Counted only in the
-// first four), and whether it may not be Persistent where feature 0003h is reported.
-pub struct Row(pub Feature, pub Length, pub [u8; 12], pub bool);
+// The bits that may be 1 in twelve bytes of a body, four bytes to a word, the first in its highest bits.
+pub struct Masks(pub u32, pub u32, pub u32);
+
+// A row: the feature, its length, the bits that may be 1 in its body by place, over again every twelve bytes (of Counted only in the first four), and
+// whether it may not be Persistent where feature 0003h is reported. All of it is numbers, so that the compiler makes a jump of the walk over the table and
+// lays no table out.
+pub struct Row(pub Feature, pub Length, pub Masks, pub bool);
 
 // The features that the table names; a row keeps one line.
 const LIST: Feature = Feature(0x0000);
@@ -50,38 +54,42 @@ const TWELVE: Length = Length::Exactly(12);
 
 const COUNTED: Length = Length::Counted;
 
-// Every bit may be 1.
-const F: u8 = 0xFF;
+// Every bit of four bytes may be 1.
+const ALL: u32 = 0xFFFFFFFF;
+
+// A profile's number, and its bit CurrentP.
+const PROFILE: u32 = 0xFFFF0100;
 
 const LEGAL: [Row; 11] = [
-    Row(LIST, ANY, [F, F, 1, 0, F, F, 1, 0, F, F, 1, 0], false),
-    Row(CORE, FOUR, [F, F, F, F, 0, 0, 0, 0, 0, 0, 0, 0], false),
-    Row(MORPH, FOUR, [1, 0, 0, 0, 0, 0, 0, 0, 0, 0, 0, 0], false),
-    Row(MEDIUM, FOUR, [0xED, 0, 0, 0, 0, 0, 0, 0, 0, 0, 0, 0], false),
-    Row(DVD, NONE, [0, 0, 0, 0, 0, 0, 0, 0, 0, 0, 0, 0], true),
-    Row(RANDOM, TWELVE, [F, F, F, F, F, F, F, F, F, F, 1, 0], true),
-    Row(STREAM, COUNTED, [0, 0, 0, F, 0, 0, 0, 0, 0, 0, 0, 0], true),
-    Row(OVER, FOUR, [F, F, F, F, 0, 0, 0, 0, 0, 0, 0, 0], true),
-    Row(TRACK, FOUR, [7, 0, 0, 0, 0, 0, 0, 0, 0, 0, 0, 0], true),
-    Row(MASTER, FOUR, [0x3F, F, F, F, 0, 0, 0, 0, 0, 0, 0, 0], true),
-    Row(DVD_R, FOUR, [4, 0, 0, 0, 0, 0, 0, 0, 0, 0, 0, 0], true),
+    Row(LIST, ANY, Masks(PROFILE, PROFILE, PROFILE), false),
+    Row(CORE, FOUR, Masks(ALL, 0, 0), false),
+    Row(MORPH, FOUR, Masks(0x01000000, 0, 0), false),
+    Row(MEDIUM, FOUR, Masks(0xED000000, 0, 0), false),
+    Row(DVD, NONE, Masks(0, 0, 0), true),
+    Row(RANDOM, TWELVE, Masks(ALL, ALL, 0xFFFF0100), true),
+    Row(STREAM, COUNTED, Masks(0x000000FF, 0, 0), true),
+    Row(OVER, FOUR, Masks(ALL, 0, 0), true),
+    Row(TRACK, FOUR, Masks(0x07000000, 0, 0), true),
+    Row(MASTER, FOUR, Masks(0x3FFFFFFF, 0, 0), true),
+    Row(DVD_R, FOUR, Masks(0x04000000, 0, 0), true),
 ];
 
 // The highest feature that the table names: most features of a drive are above it and need no look at the table.
 const LAST_LISTED: Feature = DVD_R;
 
 // A feature that the table does not name.
-const UNLISTED: Row = Row(OTHER, ANY, [F, F, F, F, F, F, F, F, F, F, F, F], false);
+const UNLISTED: Row = Row(OTHER, ANY, Masks(ALL, ALL, ALL), false);
 
-// The row of a feature, looked for in the table, which is laid out once and not at each look.
+// The row of a feature, looked for in the table.
 fn listed(f: Feature) -> Row
     ensures { λ r. ⌜ r ≡ rowOf (f .0) ⌝ }
 {
     let table = LEGAL;
     let mut i = 0;
     while i < table.len() {
-        if table[i].0.0 == f.0 {
-            return table[i];
+        let row = table[i];
+        if row.0.0 == f.0 {
+            return row;
         }
         i += 1;
     }

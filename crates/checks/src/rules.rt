@@ -1,19 +1,20 @@
 // The rules for one descriptor, and the first descriptor that breaks one.
 ghost use mathlib.Core.Path.{_≡_};
 ghost use mathlib.Core.Bool.{_||_};
-ghost use Prim.Native.Nat.{_+_, _/_, _%_, _<_};
+ghost use Prim.Native.Nat.{_+_, _/_, _≤_, _<_};
 ghost use lib.ListN.{length, getD};
 ghost use Rattle.fields.specs.Field.{field};
 ghost use Rattle.refusal.specs.First.{firstOf};
 ghost use Rattle.text.specs.Reading.{descAt};
-ghost use Rattle.checks.specs.Rules.{flagsFault, tooShort, tooLong, wrongLength, flagsShort, flagsBarred, rowRule, maskAt, reservedRule, reservedAt, cueRule, profileAt, profilesFault, bodyFault, descFault};
+ghost use Rattle.checks.specs.Rules.{flagsFault, tooShort, tooLong, wrongLength, flagsShort, flagsBarred, rowRule, reservedRule, reservedAt, cueRule, profileAt, profilesFault, bodyFault, descFault};
 ghost use Rattle.reading.specs.Places.{descs};
 ghost use Rattle.reading.specs.Completed.{completeFault};
 ghost use Rattle.checks.specs.Check.{firstFinding};
-ghost use Rattle.checks.specs.inner.Periodic.{periodicAt};
+ghost use Rattle.checks.specs.inner.Periodic.{wordsRule, wordsAt, periodicAt, padAt, countedFault};
 use super::Finding;
 use super::legal;
 use super::legal::Length;
+use super::legal::Masks;
 use super::legal::Row;
 use refusal::Refusal;
 use text::Feature;
@@ -115,32 +116,37 @@ fn row_rule(row: Row, removable: bool, f: Feature, flags: Flags, n: u8, len: usi
     refusal::ACCEPTED
 }
 
-// The bits of body byte k that may be 1; n is byte 7.
-fn mask_at(row: Row, n: u8, k: usize) -> u8
-    ensures { λ r. ⌜ r ≡ maskAt (row .1) (row .2) n k ⌝ }
+// 36: a bit that may not be 1, in four bytes.
+fn reserved_rule(word: u32, mask: u32) -> Refusal
+    ensures { λ r. ⌜ r ≡ reservedRule word mask ⌝ }
 {
-    let length = row.1;
-    match length {
-        Length::Any => row.2[k % 12],
-        Length::Exactly(_) => row.2[k % 12],
-        Length::Counted => {
-            if k < 4 {
-                return row.2[k];
-            }
-            if k < 4 + n as usize {
-                return 0xFF;
-            }
-            0
-        }
+    let kept = word & mask;
+    if kept != word {
+        return refusal::BITS_RESERVED;
     }
+    refusal::ACCEPTED
 }
 
-// 36: a bit that may not be 1.
-fn reserved_rule(byte: u8, mask: u8) -> Refusal
-    ensures { λ r. ⌜ r ≡ reservedRule byte mask ⌝ }
+// 36 in twelve bytes.
+fn words_fault(masks: Masks, a: u32, b: u32, c: u32) -> Refusal
+    ensures { λ r. ⌜ r ≡ wordsRule masks a b c ⌝ }
 {
-    let kept = byte & mask;
-    if kept != byte {
+    let fault = reserved_rule(a, masks.0);
+    if fault.number != 0 {
+        return fault;
+    }
+    let fault = reserved_rule(b, masks.1);
+    if fault.number != 0 {
+        return fault;
+    }
+    reserved_rule(c, masks.2)
+}
+
+// 36: a pad byte that is not 0.
+fn pad_rule(byte: u8) -> Refusal
+    ensures { λ r. ⌜ r ≡ reservedRule byte 0 ⌝ }
+{
+    if byte != 0 {
         return refusal::BITS_RESERVED;
     }
     refusal::ACCEPTED
@@ -148,50 +154,76 @@ fn reserved_rule(byte: u8, mask: u8) -> Refusal
 
 // ---- the rules, over a body
 
-// The place behind a place, of twelve.
-// Asks: one of the twelve.
-fn behind(j: usize) -> usize
-    requires { ⌜ j < 12 ⌝ }
-    ensures { λ r. ⌜ r ≡ (j + 1) % 12 ⌝ }
+// 36 in the twelve bytes at a place.
+// Asks: a body that has them; the walk over it has looked.
+fn twelve_fault(masks: Masks, body: &[u8], k: usize) -> Refusal
+    requires { ⌜ k + 12 ≤ length (now body) ⌝ }
+    ensures { λ r. ⌜ r ≡ wordsAt masks (now (body .entry)) k ⌝ }
 {
-    if j == 11 {
-        return 0;
-    }
-    j + 1
+    let a = fields::inside4(body, k);
+    let b = fields::inside4(body, k + 4);
+    let c = fields::inside4(body, k + 8);
+    words_fault(masks, a, b, c)
 }
 
-// 36 anywhere in a body whose bits the row's bytes tell over and over. The place among them goes along, so that no byte costs a division.
-fn periodic_fault(masks: [u8; 12], body: &[u8]) -> Refusal
+// 36 in the bytes from a place on, twelve of them or fewer: what lies behind the end reads as 0, and breaks no rule. Most bodies have four bytes or none.
+// Asks: a place in the body or at its end; the walk over it ends there.
+fn last_fault(masks: Masks, body: &[u8], k: usize) -> Refusal
+    requires { ⌜ k ≤ length (now body) ⌝ }
+    ensures { λ r. ⌜ r ≡ wordsAt masks (now (body .entry)) k ⌝ }
+{
+    if body.len() <= k {
+        return refusal::ACCEPTED;
+    }
+    if body.len() <= k + 4 {
+        return reserved_rule(fields::get4(body, k), masks.0);
+    }
+    let a = fields::get4(body, k);
+    let b = fields::get4(body, k + 4);
+    let c = fields::get4(body, k + 8);
+    words_fault(masks, a, b, c)
+}
+
+// 36 anywhere in a body whose bits the row's bytes tell over and over.
+fn periodic_fault(masks: Masks, body: &[u8]) -> Refusal
     ensures { λ r. ⌜ r ≡ firstOf (periodicAt masks (now (body .entry))) 0 (length (now (body .entry))) ⌝ }
 {
     let mut k = 0;
-    let mut j = 0;
-    while k < body.len() {
-        let fault = reserved_rule(body[k], masks[j]);
+    while k + 12 <= body.len() {
+        let fault = twelve_fault(masks, body, k);
+        if fault.number != 0 {
+            return fault;
+        }
+        k += 12;
+    }
+    last_fault(masks, body, k)
+}
+
+// 36 anywhere in the pad bytes.
+fn pad_fault(pad: &[u8]) -> Refusal
+    ensures { λ r. ⌜ r ≡ firstOf (padAt (now (pad .entry))) 0 (length (now (pad .entry))) ⌝ }
+{
+    let mut k = 0;
+    while k < pad.len() {
+        let fault = pad_rule(pad[k]);
         if fault.number != 0 {
             return fault;
         }
         k += 1;
-        j = behind(j);
     }
     refusal::ACCEPTED
 }
 
-// 36 anywhere in a body whose bits byte 7 counts.
-fn counted_fault(row: Row, body: &[u8]) -> Refusal
-    ensures { λ r. ⌜ r ≡ firstOf (reservedAt row (now (body .entry))) 0 (length (now (body .entry))) ⌝ }
+// 36 anywhere in a body whose bits byte 7 counts: in its first four bytes, then in what follows the bytes that are counted.
+fn counted_fault(mask: u32, body: &[u8]) -> Refusal
+    ensures { λ r. ⌜ r ≡ countedFault mask (now (body .entry)) ⌝ }
 {
-    let n = fields::byte(body, 3);
-    let mut k = 0;
-    while k < body.len() {
-        let mask = mask_at(row, n, k);
-        let fault = reserved_rule(body[k], mask);
-        if fault.number != 0 {
-            return fault;
-        }
-        k += 1;
+    let fault = reserved_rule(fields::get4(body, 0), mask);
+    if fault.number != 0 {
+        return fault;
     }
-    refusal::ACCEPTED
+    let n = fields::byte(body, 3);
+    pad_fault(fields::part(body, 4 + n as usize, body.len()))
 }
 
 // 36 anywhere in a body.
@@ -203,7 +235,7 @@ fn reserved_fault(row: Row, body: &[u8]) -> Refusal
     match length {
         Length::Any => periodic_fault(masks, body),
         Length::Exactly(_) => periodic_fault(masks, body),
-        Length::Counted => counted_fault(row, body),
+        Length::Counted => counted_fault(masks.0, body),
     }
 }
 

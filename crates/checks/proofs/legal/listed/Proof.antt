@@ -21,27 +21,19 @@ loop-holds : tie.Need-loop-holds Inv-loop μ-loop
 unfolding rowOf
 loop-holds c = (omega arith, refl)
 
-mul-if1 : tie.Need-mul-if1 Inv-loop μ-loop
+mul-row : tie.Need-mul-row Inv-loop μ-loop
 unfolding legal
-mul-if1 c = search needs
+mul-row c = search needs
 
-element-copy-out-if1 : tie.Need-element-copy-out-if1 Inv-loop μ-loop
+array-copy-out-row : tie.Need-array-copy-out-row Inv-loop μ-loop
 unfolding legal
-element-copy-out-if1 c = search needs
-
-mul-result : tie.Need-mul-result Inv-loop μ-loop
-unfolding legal
-mul-result c = search needs
-
-array-copy-out-result : tie.Need-array-copy-out-result Inv-loop μ-loop
-unfolding legal
-array-copy-out-result c = search needs
+array-copy-out-row c = search needs
 
 returns : tie.Need-returns Inv-loop μ-loop
 unfolding legal rowOf
 returns c =
-    pick-found _ _ other legal _ _ _ _ (c .before .before .before .before .loop .inv .1) (c .before .before .before .loop-test .taken) refl
-    (eq-eqb _ _ (c .before .if1 .taken)) refl
+    pick-found _ _ other legal _ _ _ _ (c .before .before .before .before .before .loop .inv .1) (c .before .before .before .before .loop-test .taken) refl
+    (eq-eqb _ _ (c .if1 .taken)) refl
 
 add-i : tie.Need-add-i Inv-loop μ-loop
 unfolding legal
@@ -54,7 +46,7 @@ loop-less c = search needs
 loop-again : tie.Need-loop-again Inv-loop μ-loop
 unfolding legal rowOf
 loop-again c =
-    (search needs, pick-next _ _ other legal _ _ _ (c .before .before .before .loop .inv .1) (c .before .before .loop-test .taken) refl (ne-eqb _ _ (c .if1 .left)))
+    (search needs, pick-next _ _ other legal _ _ _ (c .before .before .before .before .before .loop .inv .1) (c .before .before .before .before .loop-test .taken) refl (ne-eqb _ _ (c .if1 .left)))
 
 returns-2 : tie.Need-returns-2 Inv-loop μ-loop
 unfolding legal rowOf other
@@ -63,4 +55,4 @@ returns-2 c = search pick-none
 pub listed-spec : {M : Type 1} → statement M
 listed-spec =
     tie.close
-    (tie.spec Inv-loop μ-loop loop-holds mul-if1 element-copy-out-if1 mul-result array-copy-out-result returns add-i loop-less loop-again returns-2)
+    (tie.spec Inv-loop μ-loop loop-holds mul-row array-copy-out-row returns add-i loop-less loop-again returns-2)

@@ -1,5 +1,5 @@
 -- `checks::rules::reserved_fault` meets its contract, by the cases of the length.
-use Rattle.checks.proofs.Reserved.{periodic-any, periodic-exactly}
+use Rattle.checks.proofs.Reserved.{periodic-any, periodic-exactly, counted-first}
 use borrow.Author.Needs.{needs}
 use Rattle.checks.proofs.rules.reserved_fault.Statement.{statement}
 use Rattle.checks.proofs.rules.reserved_fault.Tie as tie
@@ -10,7 +10,12 @@ returns c = let a = c .before .before .before .before .before .args in periodic-
 returns-2 : tie.Need-returns-2
 returns-2 c = let a = c .before .before .before .before .before .args in periodic-exactly (a .row) (a .body .now) _ (c .periodic-fault2 .ensures) _ (c .before .enum-told2 .given .1)
 
+returns-3 : tie.Need-returns-3
+returns-3 c =
+    let a = c .before .before .before .before .before .args in
+    counted-first (a .row) (a .body .now) (λ i. c .before .before .before .before .shared-slice-known .given i .fits) (c .before .enum-told3 .given .1) _ (c .counted-fault .ensures)
+
 pub reserved-fault-spec : {M : Type 1} → statement M
 reserved-fault-spec =
     tie.close
-    (tie.spec (λ c. search needs) (λ c κs. search needs) (λ c. search needs) (λ c κs. search needs) (λ c. search needs) (λ c κs. search needs) returns returns-2 (λ c. search needs))
+    (tie.spec (λ c. search needs) (λ c κs. search needs) (λ c. search needs) (λ c κs. search needs) (λ c. search needs) (λ c κs. search needs) returns returns-2 returns-3)
