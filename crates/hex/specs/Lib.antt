@@ -1,0 +1,5 @@
+pub mod Chars
+pub mod Front
+pub mod Steps
+pub mod Text
+pub mod inner

@@ -1,0 +1,2 @@
+-- What only the walk over a text speaks of.
+pub mod Walk
