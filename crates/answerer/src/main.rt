@@ -1,5 +1,6 @@
 // Reads a drive sheet from standard input and writes the box's answer to a command to standard output. A refusal is a line on standard error, and
-// nothing is written then. Argument: the command's bytes, two hexadecimal digits each; with none it is RT 0 from 0, allocation length 65,535.
+// nothing is written then. Arguments: the command's bytes, two hexadecimal digits each, with none RT 0 from 0, allocation length 65,535; and whether
+// hexadecimal text is written.
 ghost use mathlib.Core.Path.{_≡_};
 ghost use Rattle.io.specs.Counts.{Counts};
 ghost use Rattle.text.specs.Command.{commandFault};
@@ -15,6 +16,9 @@ const MOST: usize = 1048576;
 
 // One byte more: an input that fills it is too long, and is not shortened.
 const ROOM: usize = MOST + 1;
+
+// The argument that says whether hexadecimal text is written.
+const HEX_OUT: usize = 2;
 
 // The answer, whole: the buffer has room for the longest answer, so that 12 is never given.
 fn answer_of(sheet: &[u8], command: &[u8], response: &mut [u8; Header::RETURN_LIMIT]) -> Made
@@ -36,7 +40,7 @@ fn answer_command(sheet: &[u8], command: &[u8]) {
         return;
     }
     let count = reply.count;
-    streams::say(&response[..count]);
+    dumps::say(HEX_OUT, &response[..count]);
 }
 
 fn answer(sheet: &[u8]) {

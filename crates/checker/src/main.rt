@@ -1,6 +1,6 @@
 // Reads a response from standard input and says in words what is wrong with its descriptors, and whether it has what a profile requires: the
 // one that is asked for, else each listed one that has a table. Of a response that is refused it says only why. Arguments: RT, starting feature number, allocation
-// length (`asked`), profile.
+// length (`asked`), profile, and whether hexadecimal text is read.
 use checks::Finding;
 use checks::Judgement;
 use libc::STDOUT_FILENO;
@@ -12,6 +12,9 @@ use text::Profile;
 
 // One byte more than a response may have: an input that fills it is refused, not shortened.
 const ROOM: usize = Header::RETURN_LIMIT + 1;
+
+// The argument that says whether hexadecimal text is read.
+const HEX: usize = 5;
 
 // ---- words
 
@@ -125,9 +128,17 @@ fn say_profiles(s: &[u8]) {
 
 // ---- the program
 
+// What is refused of the response to the command that is asked for. Of RT 0 from 0 the check's own reading finds it: the response is read once.
+fn asked_fault(s: &[u8]) -> Refusal {
+    if asked::plain() {
+        return refusal::ACCEPTED;
+    }
+    asked::fault(s)
+}
+
 // What is refused of the response as a whole. Numbers from 30 on are of a feature.
 fn whole_fault(finding: Finding, s: &[u8]) -> Refusal {
-    let fault = asked::fault(s);
+    let fault = asked_fault(s);
     if fault.number != 0 {
         return fault;
     }
@@ -144,6 +155,7 @@ fn check(s: &[u8]) {
     if fault.number != 0 {
         streams::mark_fault();
         words::say_refused(STDOUT_FILENO, fault, 0, 0);
+        dumps::hint(HEX, s);
         return;
     }
     say_descriptors(finding);
@@ -152,7 +164,7 @@ fn check(s: &[u8]) {
 
 fn main() {
     let mut input = [0u8; ROOM];
-    let got = streams::read(&mut input);
+    let got = dumps::read(HEX, &mut input);
     let count = got.count;
     if !got.failed {
         check(&input[..count]);

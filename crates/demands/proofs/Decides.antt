@@ -80,6 +80,8 @@ use Rattle.capture.proofs.check as capture-check
 use Rattle.import.proofs.import as import
 use Rattle.sense.proofs.make as sense-make
 use Rattle.sense.proofs.read as sense-read
+use Rattle.hex.specs.Text as hex
+use Rattle.hex.proofs.spell as hex-spell
 use Rattle.sense.proofs.Picked.{heard-injective}
 use Rattle.abi.specs.Left.{Left}
 use Rattle.rom.proofs.respond_accepted as rom-respond-accepted
@@ -359,6 +361,11 @@ sense-make-decided x = decides (x .𝓤) (λ o o′ p q. (ap (λ (z : Outcome). 
 
 pub sense-read-decided : Decided sense-read.ended (λ M. sense-read.clauses) (λ M. sense-read.spec)
 sense-read-decided x = decides (x .𝓤) (λ o o′ p q. (heard-injective (o .0) (o′ .0) (joined p q), refl))
+
+-- ---- hex
+
+pub hex-spell-decided : Decided hex-spell.ended (λ M. hex-spell.clauses) (λ M. hex-spell.spec)
+hex-spell-decided x = decides (x .𝓤) (λ o o′ p q. (ap (λ (z : hex.Outcome). z .told) (joined p q), refl & ap (λ (z : hex.Outcome). z .buffer) (joined p q) & refl))
 
 -- ---- abi: what is left in the buffers and in the array of numbers
 

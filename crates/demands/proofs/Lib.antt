@@ -11,6 +11,7 @@ pub mod Capturing
 pub mod Importing
 pub mod Images
 pub mod Senses
+pub mod Spells
 pub mod Stars
 pub mod Decides
 pub mod Ground

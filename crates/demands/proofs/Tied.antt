@@ -34,6 +34,9 @@ use Rattle.import.proofs.import as import
 use Rattle.sense.specs.Sense.{heard}
 use Rattle.sense.proofs.make as sense-make
 use Rattle.sense.proofs.read as sense-read
+use Rattle.hex.specs.Text as hex
+use Rattle.hex.proofs.spell as hex-spell
+use Rattle.demands.proofs.Spells.{Spells, spells}
 use Rattle.demands.proofs.Sheets.{Checks, checks}
 use Rattle.demands.proofs.Images.{Images, images, ImagesOnce, images-once}
 use Rattle.demands.proofs.Sending.{Answers, demand2, Trusts, trusts, Serves, serves, Sizes, sizes, ServesSized, serves-sized}
@@ -146,3 +149,8 @@ sense-make-tied x = promises (x .𝓤) (λ o. by (Makes _ _) (makes-sense _ _))
 
 pub sense-read-tied : Promised sense-read.ended (λ M. sense-read.clauses) (λ M. sense-read.spec) (λ x o. Senses (x .args .0 .now) (heard (o .0)))
 sense-read-tied x = promises (x .𝓤) (λ o. by (Senses _) (senses _))
+
+-- ---- hex
+
+pub hex-spell-tied : Promised hex-spell.ended (λ M. hex-spell.clauses) (λ M. hex-spell.spec) (λ x o. Spells (x .args .0 .now) (x .args .1 .0 .now) (hex.outcome (o .0) (o .1 .1 .0)))
+hex-spell-tied x = promises (x .𝓤) (λ o. by (Spells _ _) (spells _ _))

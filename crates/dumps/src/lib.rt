@@ -1,29 +1,35 @@
 // Hexadecimal text at the ends of a program: an input that is given as such text, an output that is printed so, and a hint where text was given for bytes.
-ghost use mathlib.Core.Path.{_≡_};
 ghost use Rattle.io.specs.Counts.{Counts};
 use libc::STDERR_FILENO;
 use libc::STDIN_FILENO;
 use streams::Input;
 
-// The longest text that is taken: 16 characters for each byte of the longest response.
-const MOST: usize = 1048576;
+// The longest text that is taken: 8 characters for each byte of the longest response.
+const MOST: usize = 524288;
 
 // One byte more: a text that fills it is too long, and is not shortened.
 const ROOM: usize = MOST + 1;
 
 // ---- input
 
-fn failed() -> Input
-    ensures { λ r. ⌜ r .count ≡ 0 ⌝ }
-{
+fn failed() -> Input {
     Input {
         failed: true,
         count: 0,
     }
 }
 
-fn say_line(line: usize) {
+// The file that an argument names, if one is read.
+fn say_name(named: usize) {
+    if named > 0 {
+        streams::say_arg_to(STDERR_FILENO, named);
+        streams::say_to(STDERR_FILENO, b": ");
+    }
+}
+
+fn say_line(named: usize, line: usize) {
     streams::mark_fault();
+    say_name(named);
     streams::say_to(STDERR_FILENO, b"line ");
     streams::say_decimal_to(STDERR_FILENO, line as u64);
     streams::say_to(
@@ -32,33 +38,33 @@ fn say_line(line: usize) {
     );
 }
 
-fn say_too_many(count: usize) {
+fn say_too_many(named: usize, count: usize) {
     streams::mark_fault();
+    say_name(named);
     streams::say_to(STDERR_FILENO, b"the text spells ");
     streams::say_decimal_to(STDERR_FILENO, count as u64);
     streams::say_to(STDERR_FILENO, b" bytes, more than are taken here\n");
 }
 
-fn say_too_long() {
+fn say_too_long(named: usize) {
     streams::mark_fault();
+    say_name(named);
     streams::say_to(
         STDERR_FILENO,
-        b"the text has over 1,048,576 characters, more than are taken here\n",
+        b"the text has over 524,288 characters, more than are taken here\n",
     );
 }
 
 // The bytes that a text spells.
-fn spelt(text: &[u8], buf: &mut [u8]) -> Input
-    ensures { λ r. ⌜ Counts (r .count) (now (buf .exit)) ⌝ }
-{
+fn spelt(named: usize, text: &[u8], buf: &mut [u8]) -> Input {
     let spelt = hex::spell(text, buf);
     if spelt.line != 0 {
-        say_line(spelt.line);
+        say_line(named, spelt.line);
         return failed();
     }
     let count = spelt.count;
     if buf.len() < count {
-        say_too_many(count);
+        say_too_many(named, count);
         return failed();
     }
     Input {
@@ -67,21 +73,35 @@ fn spelt(text: &[u8], buf: &mut [u8]) -> Input
     }
 }
 
-// Reads a text from a descriptor, and gives the bytes that it spells.
-fn read_text(fd: i32, buf: &mut [u8]) -> Input
-    ensures { λ r. ⌜ Counts (r .count) (now (buf .exit)) ⌝ }
-{
-    let mut text = [0u8; ROOM];
-    let got = streams::read_from(fd, &mut text);
+// Reads a text from a descriptor into lent memory, and gives the bytes that it spells.
+fn read_into(named: usize, fd: i32, text: &mut [u8; ROOM], buf: &mut [u8]) -> Input {
+    let got = streams::read_from(fd, text);
     if got.failed {
         return failed();
     }
     let count = got.count;
     if count > MOST {
-        say_too_long();
+        say_too_long(named);
         return failed();
     }
-    spelt(&text[..count], buf)
+    spelt(named, fields::part(text, 0, count), buf)
+}
+
+// Only a function that reads a text has the memory for one.
+fn read_text(named: usize, fd: i32, buf: &mut [u8]) -> Input {
+    let mut text = [0u8; ROOM];
+    read_into(named, fd, &mut text, buf)
+}
+
+// What was read, which the buffer has.
+fn within(got: Input, buf: &[u8]) -> Input
+    ensures { λ r. ⌜ Counts (r .count) (now (buf .entry)) ⌝ }
+{
+    let part = fields::part(buf, 0, got.count);
+    Input {
+        failed: got.failed,
+        count: part.len(),
+    }
 }
 
 // Reads standard input: bytes, or where argument i is given the bytes that a text spells.
@@ -89,9 +109,30 @@ pub fn read(i: usize, buf: &mut [u8]) -> Input
     ensures { λ r. ⌜ Counts (r .count) (now (buf .exit)) ⌝ }
 {
     if streams::given(i) {
-        return read_text(STDIN_FILENO, buf);
+        let got = read_text(0, STDIN_FILENO, buf);
+        return within(got, buf);
     }
     streams::read(buf)
+}
+
+fn read_named_text(named: usize, buf: &mut [u8]) -> Input {
+    let mut name = io::buffer();
+    let length = os::arg(named, &mut name);
+    let fd = os::open_read(&name[..length]);
+    let got = read_text(named, fd, buf);
+    libc::close(fd);
+    got
+}
+
+// Reads the file that an argument names, as read does.
+pub fn read_named(i: usize, named: usize, buf: &mut [u8]) -> Input
+    ensures { λ r. ⌜ Counts (r .count) (now (buf .exit)) ⌝ }
+{
+    if streams::given(i) {
+        let got = read_named_text(named, buf);
+        return within(got, buf);
+    }
+    streams::read_named(named, buf)
 }
 
 // ---- a hint
@@ -136,40 +177,37 @@ fn digit(d: u8) -> u8 {
     digits[(d % 16) as usize]
 }
 
-fn put_byte(line: &mut [u8], at: usize, b: u8) -> usize {
-    let next = lent::put(line, at, digit(b / 16));
-    lent::put(line, next, digit(b))
+fn say_byte(b: u8) {
+    streams::say(&[digit(b / 16), digit(b)]);
 }
 
 // The offset of a line, and a colon.
-fn put_offset(line: &mut [u8], offset: usize) -> usize {
-    let a = put_byte(line, 0, (offset / 16777216 % 256) as u8);
-    let b = put_byte(line, a, (offset / 65536 % 256) as u8);
-    let c = put_byte(line, b, (offset / 256 % 256) as u8);
-    let d = put_byte(line, c, (offset % 256) as u8);
-    lent::put(line, d, b':')
+fn say_offset(offset: usize) {
+    say_byte((offset / 16777216 % 256) as u8);
+    say_byte((offset / 65536 % 256) as u8);
+    say_byte((offset / 256 % 256) as u8);
+    say_byte((offset % 256) as u8);
+    streams::say(b":");
 }
 
 // Byte i of a row, or blanks in its place; a blank before every other one.
-fn put_column(line: &mut [u8], at: usize, row: &[u8], i: usize) -> usize {
-    let mut next = at;
+fn say_column(row: &[u8], i: usize) {
     if i % 2 == 0 {
-        next = lent::put(line, at, b' ');
+        streams::say(b" ");
     }
     if i < row.len() {
-        return put_byte(line, next, row[i]);
+        say_byte(row[i]);
+        return;
     }
-    lent::copy(line, next, b"  ")
+    streams::say(b"  ");
 }
 
-fn put_columns(line: &mut [u8], at: usize, row: &[u8]) -> usize {
-    let mut next = at;
+fn say_columns(row: &[u8]) {
     let mut i = 0;
     while i < 16 {
-        next = put_column(line, next, row, i);
+        say_column(row, i);
         i += 1;
     }
-    next
 }
 
 fn printed(c: u8) -> u8 {
@@ -180,25 +218,21 @@ fn printed(c: u8) -> u8 {
 }
 
 // The characters of a row, a point for each that is not printed.
-fn put_characters(line: &mut [u8], at: usize, row: &[u8]) -> usize {
-    let mut next = at;
+fn say_characters(row: &[u8]) {
     let mut i = 0;
     while i < row.len() {
-        next = lent::put(line, next, printed(row[i]));
+        streams::say(&[printed(row[i])]);
         i += 1;
     }
-    next
 }
 
 // A line as `xxd` prints it, of at most 16 bytes.
 fn say_row(row: &[u8], offset: usize) {
-    let mut line = [0u8; 80];
-    let a = put_offset(&mut line, offset);
-    let b = put_columns(&mut line, a, row);
-    let c = lent::copy(&mut line, b, b"  ");
-    let d = put_characters(&mut line, c, row);
-    let e = lent::put(&mut line, d, b'\n');
-    streams::say(fields::part(&line, 0, e));
+    say_offset(offset);
+    say_columns(row);
+    streams::say(b"  ");
+    say_characters(row);
+    streams::say(b"\n");
 }
 
 fn say_rows(bytes: &[u8]) {

@@ -6,10 +6,10 @@ use Prim.Native.Nat.{ℕ, zero, suc, _≤_, _<_}
 use native.Mathlib.Nat.{zero-add}
 use native.Mathlib.Omega.{arith}
 use lib.ListN.{length, drop}
-use lib.Seq.{sets, sets-eq}
+use lib.Seq.{sets-eq}
 use Rattle.hex.specs.declared.Spelt.{Spelt}
 use Rattle.hex.specs.Chars.{choose}
-use Rattle.hex.specs.Text.{Spelling, Outcome, outcome, given}
+use Rattle.hex.specs.Text.{Spelling, outcome, given}
 use Rattle.hex.specs.inner.Walk.{finished, Walked}
 use Rattle.hex.proofs.Cases.{choose-yes, choose-no}
 use Rattle.hex.proofs.Puts.{finished-none}

@@ -1,7 +1,7 @@
 -- The walk over a text: what was put, and what is left to spell. Assumes nothing.
 use mathlib.Core.Path.{_≡_, refl, sym, ap, _∙_}
 use mathlib.Core.Bool.{Bool, true, false}
-use mathlib.Core.List.{List, [], _∷_, _++_, append-assoc, append-nil}
+use mathlib.Core.List.{List, [], _++_, append-assoc, append-nil}
 use Prim.Native.Nat.{ℕ, suc, _+_, _-_, _≤_, _<_}
 use native.Mathlib.Nat.{zero-add}
 use native.Mathlib.Numerals.{add-one}
@@ -45,7 +45,7 @@ going-start s d q e =
       holds = refl;
     }
 
-pub some-few : (p : Bool) (b : ℕ) → length (some p b) ≤ 1
+some-few : (p : Bool) (b : ℕ) → length (some p b) ≤ 1
 unfolding some
 some-few true b = omega arith
 some-few false b = omega arith

@@ -1,13 +1,10 @@
 -- The laws of `lineAt`, as a loop that counts lines holds them. Assumes nothing.
-use mathlib.Core.Path.{_≡_, refl, sym, ap, _∙_}
-use mathlib.Core.Bool.{Bool, true, false}
+use mathlib.Core.Path.{_≡_, refl, ap, _∙_}
 use mathlib.Core.List.{List}
 use Prim.Native.Nat.{ℕ, zero, suc, _+_, _≤_}
 use native.Mathlib.Numerals.{add-one}
 use native.Mathlib.Omega.{arith}
-use lib.Dec.{eqb}
-use Rattle.hex.specs.Chars.{choose, at, ends, lineAt}
-use Rattle.hex.proofs.Cases.{choose-true, choose-false}
+use Rattle.hex.specs.Chars.{at, ends, lineAt}
 
 pub line-first : (s : List ℕ) → lineAt s 0 ≡ 1
 unfolding lineAt

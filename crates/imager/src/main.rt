@@ -1,9 +1,16 @@
 // Reads an image, a complete response to RT 0 from 0, from standard input and writes what a box that holds it answers to a command to standard output. A refusal is
-// a line on standard error, and nothing is written then. Argument: the command's bytes, two hexadecimal digits each; with none it is RT 0 from 0, allocation length 65,535.
+// a line on standard error, and nothing is written then. Arguments: the command's bytes, two hexadecimal digits each, with none RT 0 from 0, allocation length 65,535; whether
+// hexadecimal text is read; and whether it is written.
 use text::Header;
 
 // One byte more than an image may have: an input that fills it is refused, not shortened.
 const ROOM: usize = Header::RETURN_LIMIT + 1;
+
+// The argument that says whether hexadecimal text is read.
+const HEX: usize = 2;
+
+// The argument that says whether hexadecimal text is written.
+const HEX_OUT: usize = 3;
 
 fn answer_command(image: &[u8], command: &[u8]) {
     let mut response = [0u8; Header::RETURN_LIMIT];
@@ -11,9 +18,10 @@ fn answer_command(image: &[u8], command: &[u8]) {
     let refusal = reply.refusal;
     if refusal.number != 0 {
         told::say_capture_refused(refusal, image);
+        dumps::hint(HEX, image);
         return;
     }
-    streams::say(fields::part(&response, 0, reply.count));
+    dumps::say(HEX_OUT, fields::part(&response, 0, reply.count));
 }
 
 fn answer(image: &[u8]) {
@@ -28,7 +36,7 @@ fn answer(image: &[u8]) {
 
 fn main() {
     let mut input = [0u8; ROOM];
-    let got = streams::read(&mut input);
+    let got = dumps::read(HEX, &mut input);
     let count = got.count;
     if !got.failed {
         answer(&input[..count]);

@@ -1,5 +1,5 @@
 // Reads a captured response to RT 0 from 0 from standard input and writes its drive sheet to standard output. A refusal is a line on standard
-// error, and nothing is written then.
+// error, and nothing is written then. Argument: whether hexadecimal text is read.
 ghost use mathlib.Core.Path.{_≡_};
 ghost use Rattle.io.specs.Counts.{Counts};
 ghost use Rattle.refusal.specs.First.{unless};
@@ -14,6 +14,9 @@ const ROOM: usize = Header::RETURN_LIMIT + 1;
 
 // The longest sheet: of the 65,532 bytes of the longest response 12 give way to the counts, 4, and each of at most 16,380 further descriptors grows by 4.
 const LONGEST: usize = 131044;
+
+// The argument that says whether hexadecimal text is read.
+const HEX: usize = 1;
 
 // The sheet, whole: the buffer has room for the longest, so 42 is never given.
 fn sheet_of(s: &[u8], sheet: &mut [u8; LONGEST]) -> Made
@@ -31,6 +34,7 @@ fn import_from(s: &[u8]) {
     let refusal = imported.refusal;
     if refusal.number != 0 {
         told::say_capture_refused(refusal, s);
+        dumps::hint(HEX, s);
         return;
     }
     let count = imported.count;
@@ -39,7 +43,7 @@ fn import_from(s: &[u8]) {
 
 fn main() {
     let mut input = [0u8; ROOM];
-    let got = streams::read(&mut input);
+    let got = dumps::read(HEX, &mut input);
     let count = got.count;
     if !got.failed {
         import_from(&input[..count]);

@@ -1,5 +1,6 @@
 // Sweeps over captured responses, in the order in which the arguments name them: each is taken as the answer to the sweep's next command. Tells the rounds and the
-// totals. Arguments: RT, whether the collected descriptors are to be written as one response, allocation length, then the files. Without an allocation length it is
+// totals. Arguments: RT, whether the collected descriptors are to be written as one response, allocation length, whether
+// the files are hexadecimal text, then the files. Without an allocation length it is
 // that of the first response: of a sweep's responses only the last may be shorter.
 use libc::STDERR_FILENO;
 use libc::STDOUT_FILENO;
@@ -16,8 +17,11 @@ const ROOM: usize = Header::RETURN_LIMIT + 1;
 // What is collected at most here.
 const MOST: usize = 1048576;
 
+// The argument that says whether hexadecimal text is read.
+const HEX: usize = 4;
+
 // The argument that names the first file.
-const FIRST: usize = 4;
+const FIRST: usize = 5;
 
 // A sweep over files: whether all was taken, and the record then.
 struct Joined {
@@ -27,11 +31,12 @@ struct Joined {
 
 // ---- words
 
-fn say_refused(i: usize, refusal: Refusal) {
+fn say_refused(i: usize, refusal: Refusal, response: &[u8]) {
     streams::mark_fault();
     streams::say_arg_to(STDERR_FILENO, i);
     streams::say_to(STDERR_FILENO, b": ");
     words::say_refused(STDERR_FILENO, refusal, 0, 0);
+    dumps::hint(HEX, response);
 }
 
 fn say_open(sweep: Sweep) {
@@ -52,7 +57,7 @@ fn take_file(i: usize, sweep: Sweep, response: &[u8], collected: &mut [u8]) -> S
     let step = sweep.take(response, collected);
     let fault = step.refusal;
     if fault.number != 0 {
-        say_refused(i, fault);
+        say_refused(i, fault, response);
         return step;
     }
     streams::say_arg_to(STDOUT_FILENO, i);
@@ -67,7 +72,7 @@ fn take_files(first: Sweep, input: &mut [u8], collected: &mut [u8]) -> Joined {
     let mut sweep = first;
     let mut i = FIRST;
     while i < count {
-        let got = streams::read_named(i, input);
+        let got = dumps::read_named(HEX, i, input);
         if got.failed {
             return Joined {
                 failed: true,
@@ -115,7 +120,7 @@ fn finish(joined: Joined, profile: Profile, collected: &[u8]) {
 }
 
 fn join(input: &mut [u8], collected: &mut [u8]) {
-    let got = streams::read_named(FIRST, input);
+    let got = dumps::read_named(HEX, FIRST, input);
     if got.failed {
         return;
     }
@@ -123,7 +128,7 @@ fn join(input: &mut [u8], collected: &mut [u8]) {
     let step = Sweep::start(asked::rt(), allocation(got.count));
     let fault = step.refusal;
     if fault.number != 0 {
-        say_refused(FIRST, fault);
+        say_refused(FIRST, fault, fields::part(input, 0, got.count));
         return;
     }
     let joined = take_files(step.sweep, input, collected);

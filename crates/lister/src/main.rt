@@ -1,4 +1,5 @@
-// Reads a response from standard input and prints its listing. Arguments: RT, starting feature number, allocation length (`asked`).
+// Reads a response from standard input and prints its listing. Arguments: RT, starting feature number, allocation length (`asked`), and
+// whether hexadecimal text is read.
 ghost use mathlib.Core.Path.{_≡_};
 ghost use lib.ListN.{take};
 ghost use Rattle.io.specs.Counts.{Counts};
@@ -7,6 +8,9 @@ use text::Header;
 
 // One byte more than a response may have: an input that fills it is refused, not shortened.
 const ROOM: usize = Header::RETURN_LIMIT + 1;
+
+// The argument that says whether hexadecimal text is read.
+const HEX: usize = 4;
 
 // The listing, whole: the text has room for the longest.
 fn listed(s: &[u8], text: &mut [u8; listing::LONGEST]) -> usize
@@ -21,10 +25,11 @@ fn listed(s: &[u8], text: &mut [u8; listing::LONGEST]) -> usize
 fn say_listed(s: &[u8]) {
     let mut text = [0u8; listing::LONGEST];
     let count = listed(s, &mut text);
+    streams::say(&text[..count]);
     if text[0] == b'r' {
         streams::mark_fault();
+        dumps::hint(HEX, s);
     }
-    streams::say(&text[..count]);
 }
 
 fn say_refused(number: u8) {
@@ -38,6 +43,7 @@ fn say_asked(s: &[u8]) {
     let fault = asked::fault(s);
     if fault.number != 0 {
         say_refused(fault.number);
+        dumps::hint(HEX, s);
         return;
     }
     say_listed(s);
@@ -53,7 +59,7 @@ fn list(s: &[u8]) {
 
 fn main() {
     let mut input = [0u8; ROOM];
-    let got = streams::read(&mut input);
+    let got = dumps::read(HEX, &mut input);
     let count = got.count;
     if !got.failed {
         list(&input[..count]);

@@ -1,6 +1,6 @@
 // Reads a response from standard input and shows it in words, or as one JSON value: current profile, each whole descriptor with its name and flags, the profiles, the
-// fields of the bodies that the check's table knows, every body in hexadecimal. Arguments: RT, starting feature number, allocation length (`asked`), and whether
-// JSON is wanted. Of its input only numbers get into JSON, so that it is valid whatever comes.
+// fields of the bodies that the check's table knows, every body in hexadecimal. Arguments: RT, starting feature number, allocation length (`asked`), whether JSON
+// is wanted, and whether hexadecimal text is read. Of its input only numbers get into JSON, so that it is valid whatever comes.
 use libc::STDOUT_FILENO;
 use names::Field;
 use refusal::Refusal;
@@ -11,6 +11,9 @@ use text::Reading;
 
 // One byte more than a response may have: an input that fills it is refused, not shortened.
 const ROOM: usize = Header::RETURN_LIMIT + 1;
+
+// The argument that says whether hexadecimal text is read.
+const HEX: usize = 5;
 
 // ---- numbers
 
@@ -397,6 +400,7 @@ fn show(s: &[u8]) {
     let fault = asked::fault(s);
     if fault.number != 0 {
         say_refused(json, fault);
+        dumps::hint(HEX, s);
         return;
     }
     let reading = reading::read(asked::rt(), asked::from(), s);
@@ -409,7 +413,7 @@ fn show(s: &[u8]) {
 
 fn main() {
     let mut input = [0u8; ROOM];
-    let got = streams::read(&mut input);
+    let got = dumps::read(HEX, &mut input);
     let count = got.count;
     if !got.failed {
         show(&input[..count]);

@@ -1,0 +1,43 @@
+-- Hexadecimal text: "which bytes a text spells; anything else gets a message with its line". `spelled` is what a text spells (crates/hex/specs/Text.antt). Assumes nothing.
+use borrow.Author.Tests.{lt-ltb, le-ltb, eq-eqb, ne-eqb}
+use mathlib.Core.Path.{_≡_, refl, sym, ap, _∙_}
+use mathlib.Core.List.{List, _++_}
+use Prim.Native.Nat.{ℕ, zero, suc, _≤_, _<_}
+use native.Mathlib.Omega.{arith}
+use lib.ListN.{length, drop}
+use Rattle.hex.specs.Text.{Outcome, spelled, given}
+use Rattle.hex.proofs.Cases.{choose-yes, choose-no}
+
+-- the outcome o of the text s and the buffer d: the first line that is none, and then the count 0 and nothing changed; else the count of the bytes, which stand at the
+-- front where there is room, and nothing changed where there is none
+pub record Spells (s d : List ℕ) (o : Outcome) : Type 0 where
+  pub line : o .told .line ≡ spelled s .line
+  pub none : (spelled s .line ≡ 0 → ⊥) → (o .told .count ≡ 0) × (o .buffer ≡ d)
+  pub count : spelled s .line ≡ 0 → o .told .count ≡ length (spelled s .bytes)
+  pub short : spelled s .line ≡ 0 → length d < length (spelled s .bytes) → o .buffer ≡ d
+  pub made : spelled s .line ≡ 0 → length (spelled s .bytes) ≤ length d → o .buffer ≡ spelled s .bytes ++ drop (length (spelled s .bytes)) d
+
+pub spells : (s d : List ℕ) → Spells s d (given (spelled s) d)
+unfolding given
+spells s d = go (spelled s .line) refl
+  where
+    go : (n : ℕ) → spelled s .line ≡ n → Spells s d (given (spelled s) d)
+    go zero e =
+        let t = choose-yes _ _ _ (eq-eqb (spelled s .line) 0 e) in
+        record {
+          line = ap (λ (o : Outcome). o .told .line) t ∙ sym e;
+          none = λ h. absurd (h e);
+          count = λ z. ap (λ (o : Outcome). o .told .count) t;
+          short = λ z h. ap (λ (o : Outcome). o .buffer) t ∙ choose-yes _ _ _ (lt-ltb (length d) (length (spelled s .bytes)) h);
+          made = λ z h. ap (λ (o : Outcome). o .buffer) t ∙ choose-no _ _ _ (le-ltb (length d) (length (spelled s .bytes)) h);
+        }
+    go (suc n) e =
+        let k : spelled s .line ≡ 0 → ⊥ = λ z. omega arith in
+        let t = choose-no _ _ _ (ne-eqb (spelled s .line) 0 k) in
+        record {
+          line = ap (λ (o : Outcome). o .told .line) t;
+          none = λ h. (ap (λ (o : Outcome). o .told .count) t, ap (λ (o : Outcome). o .buffer) t);
+          count = λ z. absurd (k z);
+          short = λ z h. absurd (k z);
+          made = λ z h. absurd (k z);
+        }
