@@ -1,4 +1,4 @@
-//! Commands, for the two functions that answer one.
+//! Commands to a sheet, for the two functions that answer one, and what commands to an image have in common with them.
 
 use crate::lent::Given;
 use crate::made::damage::damage;
@@ -15,11 +15,11 @@ use crate::run::{Run, Told};
 use second::command::Request;
 use second::wire::Feature;
 
-/// Compares one command: sheet, command, room for the response, room for the numbers.
+/// Compares one command: sheet or image, command, room for the response, room for the numbers.
 pub type Compare = fn(&mut Run, &Given, &[u8], usize, usize) -> Told;
 
 /// A command's bytes.
-fn command(rt: u8, sfn: u16, allocation: u16) -> [u8; 10] {
+pub fn command(rt: u8, sfn: u16, allocation: u16) -> [u8; 10] {
     Request { rt, sfn: Feature(sfn), allocation }.bytes()
 }
 
@@ -27,7 +27,7 @@ fn command(rt: u8, sfn: u16, allocation: u16) -> [u8; 10] {
 pub fn fixed(run: &mut Run, compare: Compare) {
     each_allocation(run, compare);
     each_two_faults(run, compare);
-    commands_that_are_none(run, compare);
+    commands_that_are_none(run, compare, &Given::new(&E));
     around_the_return_limit(run, compare);
     at_the_limit(run, compare);
 }
@@ -54,12 +54,12 @@ fn each_allocation(run: &mut Run, compare: Compare) {
 }
 
 /// A command with more room than it needs, with just enough, and with one byte too little.
-fn each_room(run: &mut Run, compare: Compare, sheet: &Given, command: &[u8], needed: usize) {
+pub fn each_room(run: &mut Run, compare: Compare, asked: &Given, command: &[u8], needed: usize) {
     let numbers = needed % 4;
-    compare(run, sheet, command, needed + 1 + needed % 9, numbers);
-    compare(run, sheet, command, needed, 1);
+    compare(run, asked, command, needed + 1 + needed % 9, numbers);
+    compare(run, asked, command, needed, 1);
     if needed > 0 {
-        compare(run, sheet, command, needed - 1, numbers);
+        compare(run, asked, command, needed - 1, numbers);
     }
 }
 
@@ -95,19 +95,18 @@ fn each_two_faults(run: &mut Run, compare: Compare) {
 }
 
 /// Commands of every length up to 20, every first byte, and every second byte with all reserved bits set behind.
-fn commands_that_are_none(run: &mut Run, compare: Compare) {
-    let sheet = Given::new(&E);
+pub fn commands_that_are_none(run: &mut Run, compare: Compare, asked: &Given) {
     for length in (0..20).chain([10 + 0x100, 10 + 0x1_0000]) {
-        compare(run, &sheet, &vec![0x46; length], 100, 2);
+        compare(run, asked, &vec![0x46; length], 100, 2);
     }
     for byte in 0..=255 {
         let mut first = command(0, 0, 44);
         first[0] = byte;
-        compare(run, &sheet, &first, 44, 1);
+        compare(run, asked, &first, 44, 1);
         let mut second = [0xFF; 10];
         second[..4].copy_from_slice(&[0x46, byte, 0, 1]);
         second[7..9].copy_from_slice(&[0, 100]);
-        compare(run, &sheet, &second, 100, 1);
+        compare(run, asked, &second, 100, 1);
     }
 }
 
@@ -154,10 +153,22 @@ pub fn random(run: &mut Run, random: &mut Random, compare: Compare) {
         damage(random, &mut sheet);
     }
     let given = Given::new(&sheet);
+    made_up_commands(run, random, compare, &given, &starts, |rt, sfn| length_to_send(&sheet, rt, sfn));
+}
+
+/// Made-up commands to a sheet or an image, most of them with about the room that they need; `full` is the length of the whole response.
+pub fn made_up_commands(
+    run: &mut Run,
+    random: &mut Random,
+    compare: Compare,
+    given: &Given,
+    starts: &[u16],
+    full: impl Fn(u8, u16) -> usize,
+) {
     for _ in 0..10 {
         let rt = random.one_of(&[0, 0, 1, 1, 2, 2, 3]);
-        let sfn = random.one_of(&starts);
-        let full = length_to_send(&sheet, rt, sfn);
+        let sfn = random.one_of(starts);
+        let full = full(rt, sfn);
         let allocation = random.near(full);
         let mut asked = command(rt, sfn, allocation).to_vec();
         reserved(random, &mut asked);
@@ -170,7 +181,7 @@ pub fn random(run: &mut Run, random: &mut Random, compare: Compare) {
         } else {
             (needed + random.below(11)).saturating_sub(2)
         };
-        compare(run, &given, &asked, room, random.below(4));
+        compare(run, given, &asked, room, random.below(4));
     }
 }
 

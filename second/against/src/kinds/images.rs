@@ -1,5 +1,6 @@
 //! Commands to an image, for the two functions that answer one, and the same commands to image and imported sheet.
 
+use super::commands::{command, commands_that_are_none, each_room, made_up_commands, Compare};
 use crate::lent::Given;
 use crate::made::captures::{
     example, full_sheets, good_import, import_faults, random_capture, short_captures, spoil, starts_of,
@@ -9,18 +10,8 @@ use crate::made::damage::damage;
 use crate::made::faults::{each_pair, fault, fault_at, Fault};
 use crate::made::responses::{sent, MOST};
 use crate::random::Random;
-use crate::run::{Input, Run, Told};
+use crate::run::{Input, Run};
 use gcf::raw;
-use second::command::Request;
-use second::wire::Feature;
-
-/// Compares one command: image, command, room for the response, room for the numbers.
-pub type Compare = fn(&mut Run, &Given, &[u8], usize, usize) -> Told;
-
-/// A command's bytes.
-fn command(rt: u8, sfn: u16, allocation: u16) -> [u8; 10] {
-    Request { rt, sfn: Feature(sfn), allocation }.bytes()
-}
 
 /// The length of the response with the longest allocation length, by the plain side, for any bytes.
 fn length_to_send(image: &[u8], rt: u8, sfn: u16) -> usize {
@@ -31,7 +22,7 @@ fn length_to_send(image: &[u8], rt: u8, sfn: u16) -> usize {
 pub fn fixed(run: &mut Run, compare: Compare) {
     each_allocation(run, compare);
     each_two_faults(run, compare);
-    commands_that_are_none(run, compare);
+    commands_that_are_none(run, compare, &Given::new(&example()));
     the_longest(run, compare);
     each_spoilt(run, compare);
     short_ones(run, compare);
@@ -50,16 +41,6 @@ fn each_allocation(run: &mut Run, compare: Compare) {
                 }
             }
         }
-    }
-}
-
-/// A command with more room than it needs, with just enough, and with one byte too little.
-fn each_room(run: &mut Run, compare: Compare, image: &Given, command: &[u8], needed: usize) {
-    let numbers = needed % 4;
-    compare(run, image, command, needed + 1 + needed % 9, numbers);
-    compare(run, image, command, needed, 1);
-    if needed > 0 {
-        compare(run, image, command, needed - 1, numbers);
     }
 }
 
@@ -95,23 +76,6 @@ fn each_two_faults(run: &mut Run, compare: Compare) {
         let told = compare(run, &image, &asked.command, asked.room, numbers);
         run.expect_told(told, wanted);
     });
-}
-
-/// Commands of every length up to 20, every first byte, and every second byte with all reserved bits set behind.
-fn commands_that_are_none(run: &mut Run, compare: Compare) {
-    let image = Given::new(&example());
-    for length in (0..20).chain([10 + 0x100, 10 + 0x1_0000]) {
-        compare(run, &image, &vec![0x46; length], 100, 2);
-    }
-    for byte in 0..=255 {
-        let mut first = command(0, 0, 44);
-        first[0] = byte;
-        compare(run, &image, &first, 44, 1);
-        let mut second = [0xFF; 10];
-        second[..4].copy_from_slice(&[0x46, byte, 0, 1]);
-        second[7..9].copy_from_slice(&[0, 100]);
-        compare(run, &image, &second, 100, 1);
-    }
 }
 
 /// Images of 65,532 bytes, and longer ones that are none, asked from both ends with short and long allocation lengths.
@@ -190,27 +154,7 @@ pub fn random(run: &mut Run, random: &mut Random, compare: Compare) {
         _ => {}
     }
     let given = Given::new(&image);
-    for _ in 0..10 {
-        let rt = random.one_of(&[0, 0, 1, 1, 2, 2, 3]);
-        let sfn = random.one_of(&starts);
-        let full = length_to_send(&image, rt % 3, sfn);
-        let allocation = random.near(full);
-        let mut asked = command(rt, sfn, allocation).to_vec();
-        asked[1] |= random.byte() & 0xFC;
-        for at in [4, 5, 6, 9] {
-            asked[at] = random.byte();
-        }
-        if random.once_in(6) {
-            damage(random, &mut asked);
-        }
-        let needed = full.min(usize::from(allocation));
-        let room = if random.once_in(8) {
-            random.below(needed + 9)
-        } else {
-            (needed + random.below(11)).saturating_sub(2)
-        };
-        compare(run, &given, &asked, room, random.below(4));
-    }
+    made_up_commands(run, random, compare, &given, &starts, |rt, sfn| length_to_send(&image, rt % 3, sfn));
     let mut sheet = vec![0; 2 * image.len() + 8];
     if let Ok(length) = second::import::import(&image, &mut sheet) {
         side_by_side(run, &image, &sheet[..length]);
