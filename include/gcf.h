@@ -25,7 +25,7 @@
 #include <stdint.h>
 
 /* The version, and its only place: all else that tells it takes it from here. docs/CHANGES.md says what each one brought. */
-#define GCF_VERSION "0.9.2"
+#define GCF_VERSION "0.10.0"
 
 #if SIZE_MAX != UINT64_MAX
 #error "gcf.h: size_t has not 64 bits here, and the functions of libgcf.a take every length and count as 64 bits. There is no libgcf.a for such a target."
@@ -170,6 +170,34 @@ uint8_t gcf_respond_accepted(const uint8_t *sheet, size_t sheet_bytes,
                              uint8_t *response, size_t response_bytes,
                              uint64_t *numbers, size_t numbers_count);
 
+/* ---- a sheet with its contents in columns: all feature numbers, then all flags, all body lengths, all offsets; all else stands as in rows */
+
+/*
+ * The three for such a sheet. Both layouts of one sheet get the same numbers, the same places and the same bytes sent. A function that does not say columns
+ * takes a sheet in rows, and gcf_import writes one.
+ */
+uint8_t gcf_check_columns(const uint8_t *sheet, size_t sheet_bytes, uint64_t *numbers, size_t numbers_count);
+
+uint8_t gcf_respond_columns(const uint8_t *sheet, size_t sheet_bytes,
+                            const uint8_t *command, size_t command_bytes,
+                            uint8_t *response, size_t response_bytes,
+                            uint64_t *numbers, size_t numbers_count);
+
+uint8_t gcf_respond_columns_accepted(const uint8_t *sheet, size_t sheet_bytes,
+                                     const uint8_t *command, size_t command_bytes,
+                                     uint8_t *response, size_t response_bytes,
+                                     uint64_t *numbers, size_t numbers_count);
+
+/*
+ * Turns a sheet in rows into one in columns, which is as long: the numbers of gcf_check_sheet, then 42. Accepted: it stands at the front of the buffer, and
+ * only its bytes changed. Refused: nothing changed.
+ * numbers: bytes of the sheet, the place. Refused: 0, the place.
+ */
+uint8_t gcf_to_columns(const uint8_t *sheet, size_t sheet_bytes, uint8_t *columns, size_t columns_bytes, uint64_t *numbers, size_t numbers_count);
+
+/* The same back: a sheet in columns into one in rows. Each undoes the other. */
+uint8_t gcf_to_rows(const uint8_t *sheet, size_t sheet_bytes, uint8_t *rows, size_t rows_bytes, uint64_t *numbers, size_t numbers_count);
+
 /* ---- the box without a sheet: it holds an image, a complete response to RT 0 from 0 that gcf_import accepts */
 
 /*
@@ -301,6 +329,13 @@ uint8_t gcf_bench(const uint8_t *sheet, size_t sheet_bytes, uint8_t rt, uint16_t
                   uint16_t *starts, size_t starts_count,
                   uint64_t *numbers, size_t numbers_count);
 
+/* The same of a sheet in columns. */
+uint8_t gcf_bench_columns(const uint8_t *sheet, size_t sheet_bytes, uint8_t rt, uint16_t allocation,
+                          uint8_t *response, size_t response_bytes,
+                          uint8_t *collected, size_t collected_bytes,
+                          uint16_t *starts, size_t starts_count,
+                          uint64_t *numbers, size_t numbers_count);
+
 /*
  * Checks the descriptors of a response to RT 0 from 0: the reading's numbers, 29, then 30 to 39. A feature with a Version above 0 may be longer than its
  * table says, and its body is not looked at.
@@ -336,9 +371,9 @@ uint8_t gcf_import(const uint8_t *response, size_t response_bytes, uint8_t *shee
 /* ---- sense data */
 
 /*
- * Makes the 18 bytes of fixed-format sense data for the number that gcf_respond, gcf_respond_image or their two for what was accepted before gave, 0 too:
- * 54 for a number that no command gives, then 55 for a buffer under GCF_SENSE_BYTES. Accepted: they stand at the front of the buffer, and only they
- * changed. Refused: nothing changed.
+ * Makes the 18 bytes of fixed-format sense data for the number that gcf_respond, gcf_respond_columns, gcf_respond_image or their three for what was
+ * accepted before gave, 0 too: 54 for a number that no command gives, then 55 for a buffer under GCF_SENSE_BYTES. Accepted: they stand at the front of the
+ * buffer, and only they changed. Refused: nothing changed.
  * numbers: bytes written.
  */
 uint8_t gcf_make_sense(uint8_t number, uint8_t *sense, size_t sense_bytes, uint64_t *numbers, size_t numbers_count);

@@ -75,8 +75,9 @@ archive_target() { # TRIPLE FOLDER
         return
     fi
     archive_ll || return 1
+    # blocks that are jumped to begin at 16 bytes: what a loop takes would else hang, by a seventh, on what stands before it
     "$archive_tools/bin/clang" --target="$1" --no-default-config -Wno-override-module -O3 -fPIC -ffunction-sections -fdata-sections \
-        -c -x ir target/own/abi.ll -o "$2/gcf.o" >"$log" 2>&1 || return 1
+        -mllvm -align-all-nofallthru-blocks=4 -c -x ir target/own/abi.ll -o "$2/gcf.o" >"$log" 2>&1 || return 1
     rm -f "$2/libgcf.a"
     "$archive_tools/bin/llvm-ar" crs "$2/libgcf.a" "$2/gcf.o" && rm "$2/gcf.o"
 }

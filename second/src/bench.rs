@@ -3,7 +3,7 @@
 use crate::command::{full_length, most_bytes, send, Request};
 use crate::numbers::*;
 use crate::refusal::Refusal;
-use crate::sheet::Sheet;
+use crate::sheet::{Layout, Sheet};
 use crate::sweep::Record;
 
 /// What a bench sweep gives back: the count of starts written and of bytes collected.
@@ -15,6 +15,7 @@ pub struct Outcome {
 
 /// Sweeps the sheet; on a refusal all three buffers are set to zero.
 pub fn bench(
+    layout: Layout,
     sheet: &[u8],
     rt: u8,
     allocation: u16,
@@ -22,7 +23,7 @@ pub fn bench(
     collected: &mut [u8],
     starts: &mut [u16],
 ) -> Result<Outcome, Refusal> {
-    let outcome = run(sheet, rt, allocation, response, collected, starts);
+    let outcome = run(layout, sheet, rt, allocation, response, collected, starts);
     if outcome.is_err() {
         response.fill(0);
         collected.fill(0);
@@ -33,6 +34,7 @@ pub fn bench(
 
 /// Runs the rounds.
 fn run(
+    layout: Layout,
     sheet: &[u8],
     rt: u8,
     allocation: u16,
@@ -40,7 +42,7 @@ fn run(
     collected: &mut [u8],
     starts: &mut [u16],
 ) -> Result<Outcome, Refusal> {
-    let sheet = Sheet::accept(sheet)?;
+    let sheet = Sheet::accept(layout, sheet)?;
     let (number, mut record) = Record::start(rt, allocation);
     accept(number)?;
     if response.len() < most_bytes(allocation) {

@@ -4,7 +4,7 @@ use std::ops::Range;
 
 use crate::numbers::*;
 use crate::refusal::Refusal;
-use crate::sheet::Sheet;
+use crate::sheet::{Layout, Sheet};
 use crate::wire::{be16, byte, DescriptorHeader, Feature};
 
 /// RT 0: all features from SFN.
@@ -54,8 +54,8 @@ pub fn most_bytes(allocation: u16) -> usize {
 }
 
 /// Checks the sheet and answers the command; gives the count of bytes sent.
-pub fn respond(sheet: &[u8], command: &[u8], out: &mut [u8]) -> Result<usize, Refusal> {
-    let sheet = Sheet::accept(sheet)?;
+pub fn respond(layout: Layout, sheet: &[u8], command: &[u8], out: &mut [u8]) -> Result<usize, Refusal> {
+    let sheet = Sheet::accept(layout, sheet)?;
     Ok(respond_checked(sheet, command, out)?)
 }
 

@@ -3,13 +3,14 @@
 use crate::command::{most_bytes, respond, Request};
 use crate::numbers::ACCEPTED;
 use crate::reading::{read, whole};
+use crate::sheet::Layout;
 use crate::wire::Feature;
 
 /// The descriptors that one command receives whole, each as its number and its bytes.
 fn received(sheet: &[u8], request: Request) -> Vec<(Feature, u8, Vec<u8>)> {
     let most = most_bytes(request.allocation);
     let mut response = vec![0; most];
-    let count = respond(sheet, &request.bytes(), &mut response).unwrap_or(0);
+    let count = respond(Layout::Rows, sheet, &request.bytes(), &mut response).unwrap_or(0);
     let sent = &response[..count];
     let reading = read(request.rt, request.sfn, sent, Some(most));
     if reading.number != ACCEPTED {

@@ -4,6 +4,7 @@
 pub mod bench;
 pub mod checks;
 pub mod command;
+pub mod convert;
 pub mod fast;
 pub mod fewest;
 pub mod find;

@@ -4,6 +4,15 @@ use crate::numbers::*;
 use crate::refusal::Refusal;
 use crate::wire::{be16, be32, byte, part, Descriptor, Feature, Profile};
 
+/// How the contents stand.
+#[derive(Clone, Copy, Debug, PartialEq, Eq)]
+pub enum Layout {
+    /// Entry behind entry.
+    Rows,
+    /// All feature numbers, then all flags, all lengths, all offsets.
+    Columns,
+}
+
 /// One entry of the contents.
 #[derive(Clone, Copy, Debug, PartialEq, Eq)]
 pub struct Entry {
@@ -14,20 +23,61 @@ pub struct Entry {
 }
 
 impl Entry {
-    /// The entry in 8 bytes.
-    fn parse(bytes: &[u8]) -> Entry {
-        Entry {
-            feature: Feature(be16(bytes, 0)),
-            flags: byte(bytes, 2),
-            length: byte(bytes, 3),
-            offset: be32(bytes, 4),
-        }
-    }
-
     /// Whether the Current bit is set.
     pub fn is_current(self) -> bool {
         self.flags & CURRENT != 0
     }
+}
+
+/// The contents of a sheet, 8 bytes an entry.
+#[derive(Clone, Copy, Debug)]
+struct Contents<'a> {
+    layout: Layout,
+    bytes: &'a [u8],
+}
+
+impl Contents<'_> {
+    /// The number of entries.
+    fn count(self) -> usize {
+        self.bytes.len() / ENTRY_BYTES
+    }
+
+    /// The entry with an index below the count.
+    fn entry(self, index: usize) -> Entry {
+        let count = self.count();
+        // Where its number, flags, length and offset stand.
+        let [feature, flags, length, offset] = match self.layout {
+            Layout::Rows => [0, 2, 3, 4].map(|at| ENTRY_BYTES * index + at),
+            Layout::Columns => [2 * index, 2 * count + index, 3 * count + index, 4 * count + 4 * index],
+        };
+        Entry {
+            feature: Feature(be16(self.bytes, feature)),
+            flags: byte(self.bytes, flags),
+            length: byte(self.bytes, length),
+            offset: be32(self.bytes, offset),
+        }
+    }
+}
+
+/// The bytes of entries in a layout.
+pub(crate) fn laid_out(layout: Layout, entries: &[Entry]) -> Vec<u8> {
+    let mut bytes = Vec::new();
+    match layout {
+        Layout::Rows => {
+            for entry in entries {
+                bytes.extend_from_slice(&entry.feature.0.to_be_bytes());
+                bytes.extend_from_slice(&[entry.flags, entry.length]);
+                bytes.extend_from_slice(&entry.offset.to_be_bytes());
+            }
+        }
+        Layout::Columns => {
+            bytes.extend(entries.iter().flat_map(|entry| entry.feature.0.to_be_bytes()));
+            bytes.extend(entries.iter().map(|entry| entry.flags));
+            bytes.extend(entries.iter().map(|entry| entry.length));
+            bytes.extend(entries.iter().flat_map(|entry| entry.offset.to_be_bytes()));
+        }
+    }
+    bytes
 }
 
 /// A profile as the sheet lists it.
@@ -48,30 +98,30 @@ pub struct Meaning<'a> {
 #[derive(Clone, Copy, Debug)]
 pub struct Sheet<'a> {
     bytes: &'a [u8],
-    contents: &'a [u8],
+    contents: Contents<'a>,
     profiles: &'a [u8],
 }
 
 impl<'a> Sheet<'a> {
     /// Checks the bytes; gives the sheet, or why it is refused.
-    pub fn accept(bytes: &'a [u8]) -> Result<Sheet<'a>, Refusal> {
-        check(bytes)?;
-        Ok(Sheet::assume_checked(bytes))
+    pub fn accept(layout: Layout, bytes: &'a [u8]) -> Result<Sheet<'a>, Refusal> {
+        check(layout, bytes)?;
+        Ok(Sheet::assume_checked(layout, bytes))
     }
 
     /// A sheet from bytes that `check` accepted earlier; other bytes give a sheet without promise, but no panic.
-    pub fn assume_checked(bytes: &'a [u8]) -> Sheet<'a> {
-        let (profiles_at, bodies_at) = layout(bytes);
+    pub fn assume_checked(layout: Layout, bytes: &'a [u8]) -> Sheet<'a> {
+        let (profiles_at, bodies_at) = places(bytes);
         Sheet {
             bytes,
-            contents: part(bytes, SHEET_HEADER_BYTES, profiles_at),
+            contents: Contents { layout, bytes: part(bytes, SHEET_HEADER_BYTES, profiles_at) },
             profiles: part(bytes, profiles_at, bodies_at),
         }
     }
 
     /// The number of entries.
     pub fn feature_count(self) -> usize {
-        self.contents.len() / ENTRY_BYTES
+        self.contents.count()
     }
 
     /// The number of profiles.
@@ -91,14 +141,12 @@ impl<'a> Sheet<'a> {
 
     /// The entry with an index below the count.
     pub fn entry(self, index: usize) -> Entry {
-        let at = index * ENTRY_BYTES;
-        Entry::parse(part(self.contents, at, at + ENTRY_BYTES))
+        self.contents.entry(index)
     }
 
     /// The entries from one index up to another.
     pub fn entries(self, from: usize, to: usize) -> impl Iterator<Item = Entry> + 'a {
-        let bytes = part(self.contents, from * ENTRY_BYTES, to * ENTRY_BYTES);
-        bytes.chunks_exact(ENTRY_BYTES).map(Entry::parse)
+        (from..to).map(move |index| self.entry(index))
     }
 
     /// The profiles in their order.
@@ -147,15 +195,15 @@ impl<'a> Sheet<'a> {
 }
 
 /// Where the profiles start and where the bodies start, from the two counts.
-fn layout(bytes: &[u8]) -> (usize, usize) {
+pub(crate) fn places(bytes: &[u8]) -> (usize, usize) {
     let profiles_at = SHEET_HEADER_BYTES + ENTRY_BYTES * usize::from(be16(bytes, 0));
     let bodies_at = profiles_at + PROFILE_BYTES * usize::from(be16(bytes, 2));
     (profiles_at, bodies_at)
 }
 
 /// Checks a sheet; gives the first of its numbers that refuses it, with the profile's or the entry's place.
-pub fn check(bytes: &[u8]) -> Result<(), Refusal> {
-    let (profiles_at, bodies_at) = layout(bytes);
+pub fn check(layout: Layout, bytes: &[u8]) -> Result<(), Refusal> {
+    let (profiles_at, bodies_at) = places(bytes);
     if bytes.len() < SHEET_HEADER_BYTES || bytes.len() < bodies_at {
         return Err(SHEET_SHORT.into());
     }
@@ -163,7 +211,7 @@ pub fn check(bytes: &[u8]) -> Result<(), Refusal> {
         return Err(PROFILE_COUNT.into());
     }
     check_profiles(part(bytes, profiles_at, bodies_at))?;
-    let end = check_entries(part(bytes, SHEET_HEADER_BYTES, profiles_at), bodies_at)?;
+    let end = check_entries(Sheet::assume_checked(layout, bytes), bodies_at)?;
     if end != bytes.len() {
         return Err(SHEET_END.into());
     }
@@ -195,11 +243,11 @@ pub(crate) fn check_flags(flags: u8) -> Result<(), u8> {
 }
 
 /// Checks the entries in order; gives where the last body ends.
-fn check_entries(contents: &[u8], bodies_at: usize) -> Result<usize, Refusal> {
+fn check_entries(sheet: Sheet, bodies_at: usize) -> Result<usize, Refusal> {
     // No number is above itself, so starting at 0 also refuses feature 0.
     let mut before = Feature(0);
     let mut end = bodies_at;
-    for (index, entry) in contents.chunks_exact(ENTRY_BYTES).map(Entry::parse).enumerate() {
+    for (index, entry) in sheet.entries(0, sheet.feature_count()).enumerate() {
         check_entry(entry, before, end).map_err(|number| Refusal::of_index(number, index))?;
         before = entry.feature;
         end += usize::from(entry.length);
@@ -222,21 +270,30 @@ fn check_entry(entry: Entry, before: Feature, end: usize) -> Result<(), u8> {
     Ok(())
 }
 
-/// Builds a sheet's bytes; none if a count or a body length doesn't fit its field. `check` decides the rest.
+/// Builds a sheet's bytes in rows.
 pub fn build(profiles: &[ListedProfile], descriptors: &[Descriptor]) -> Option<Vec<u8>> {
+    build_in(Layout::Rows, profiles, descriptors)
+}
+
+/// Builds a sheet's bytes; none if a count or a body length doesn't fit its field. `check` decides the rest.
+pub fn build_in(layout: Layout, profiles: &[ListedProfile], descriptors: &[Descriptor]) -> Option<Vec<u8>> {
     let feature_count = u16::try_from(descriptors.len()).ok()?;
     let profile_count = u16::try_from(profiles.len()).ok()?;
     let mut sheet = Vec::new();
     sheet.extend_from_slice(&feature_count.to_be_bytes());
     sheet.extend_from_slice(&profile_count.to_be_bytes());
     let mut offset = SHEET_HEADER_BYTES + ENTRY_BYTES * descriptors.len() + PROFILE_BYTES * profiles.len();
+    let mut entries = Vec::new();
     for descriptor in descriptors {
-        let length = u8::try_from(descriptor.body.len()).ok()?;
-        sheet.extend_from_slice(&descriptor.feature.0.to_be_bytes());
-        sheet.extend_from_slice(&[descriptor.flags, length]);
-        sheet.extend_from_slice(&u32::try_from(offset).ok()?.to_be_bytes());
+        entries.push(Entry {
+            feature: descriptor.feature,
+            flags: descriptor.flags,
+            length: u8::try_from(descriptor.body.len()).ok()?,
+            offset: u32::try_from(offset).ok()?,
+        });
         offset += descriptor.body.len();
     }
+    sheet.extend_from_slice(&laid_out(layout, &entries));
     for profile in profiles {
         sheet.extend_from_slice(&profile.number.0.to_be_bytes());
         sheet.extend_from_slice(&[u8::from(profile.current), 0]);

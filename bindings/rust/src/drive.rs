@@ -34,7 +34,7 @@ pub(crate) fn placed(number: u8, place: u64) -> Result<(), Refused> {
 
 /// A drive sheet that was accepted. Its bytes are borrowed, so that they stay what was checked.
 #[derive(Clone, Copy, Debug)]
-pub struct Sheet<'a>(&'a [u8]);
+pub struct Sheet<'a>(pub(crate) &'a [u8]);
 
 impl<'a> Sheet<'a> {
     /// The check of a drive sheet: `gcf_check_sheet`.

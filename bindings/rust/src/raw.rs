@@ -62,6 +62,43 @@ extern "C" {
         numbers: *mut u64,
         numbers_len: usize,
     ) -> u8;
+    fn gcf_check_columns(sheet: *const u8, sheet_len: usize, numbers: *mut u64, numbers_len: usize) -> u8;
+    fn gcf_respond_columns(
+        sheet: *const u8,
+        sheet_len: usize,
+        command: *const u8,
+        command_len: usize,
+        response: *mut u8,
+        response_len: usize,
+        numbers: *mut u64,
+        numbers_len: usize,
+    ) -> u8;
+    fn gcf_respond_columns_accepted(
+        sheet: *const u8,
+        sheet_len: usize,
+        command: *const u8,
+        command_len: usize,
+        response: *mut u8,
+        response_len: usize,
+        numbers: *mut u64,
+        numbers_len: usize,
+    ) -> u8;
+    fn gcf_to_columns(
+        sheet: *const u8,
+        sheet_len: usize,
+        columns: *mut u8,
+        columns_len: usize,
+        numbers: *mut u64,
+        numbers_len: usize,
+    ) -> u8;
+    fn gcf_to_rows(
+        sheet: *const u8,
+        sheet_len: usize,
+        rows: *mut u8,
+        rows_len: usize,
+        numbers: *mut u64,
+        numbers_len: usize,
+    ) -> u8;
     fn gcf_check_image(image: *const u8, image_len: usize, numbers: *mut u64, numbers_len: usize) -> u8;
     fn gcf_respond_image(
         image: *const u8,
@@ -111,6 +148,20 @@ extern "C" {
         collecting_len: usize,
     ) -> Step;
     fn gcf_bench(
+        sheet: *const u8,
+        sheet_len: usize,
+        rt: u8,
+        allocation: u16,
+        response: *mut u8,
+        response_len: usize,
+        collected: *mut u8,
+        collected_len: usize,
+        starts: *mut u16,
+        starts_len: usize,
+        numbers: *mut u64,
+        numbers_len: usize,
+    ) -> u8;
+    fn gcf_bench_columns(
         sheet: *const u8,
         sheet_len: usize,
         rt: u8,
@@ -186,6 +237,76 @@ pub fn respond_accepted(sheet: &[u8], command: &[u8], response: &mut [u8], numbe
             command.len(),
             response.as_mut_ptr(),
             response.len(),
+            numbers.as_mut_ptr(),
+            numbers.len(),
+        )
+    }
+}
+
+/// Checks a sheet in columns; the numbers are: place.
+pub fn check_columns(sheet: &[u8], numbers: &mut [u64]) -> u8 {
+    unsafe { gcf_check_columns(sheet.as_ptr(), sheet.len(), numbers.as_mut_ptr(), numbers.len()) }
+}
+
+/// Answers a command from a sheet in columns; the numbers are: bytes sent, place.
+pub fn respond_columns(sheet: &[u8], command: &[u8], response: &mut [u8], numbers: &mut [u64]) -> u8 {
+    unsafe {
+        gcf_respond_columns(
+            sheet.as_ptr(),
+            sheet.len(),
+            command.as_ptr(),
+            command.len(),
+            response.as_mut_ptr(),
+            response.len(),
+            numbers.as_mut_ptr(),
+            numbers.len(),
+        )
+    }
+}
+
+/// Answers a command from a sheet in columns that was accepted before; the numbers are: bytes sent.
+pub fn respond_columns_accepted(
+    sheet: &[u8],
+    command: &[u8],
+    response: &mut [u8],
+    numbers: &mut [u64],
+) -> u8 {
+    unsafe {
+        gcf_respond_columns_accepted(
+            sheet.as_ptr(),
+            sheet.len(),
+            command.as_ptr(),
+            command.len(),
+            response.as_mut_ptr(),
+            response.len(),
+            numbers.as_mut_ptr(),
+            numbers.len(),
+        )
+    }
+}
+
+/// Turns a sheet into columns; the numbers are: bytes of the sheet, place.
+pub fn to_columns(sheet: &[u8], columns: &mut [u8], numbers: &mut [u64]) -> u8 {
+    unsafe {
+        gcf_to_columns(
+            sheet.as_ptr(),
+            sheet.len(),
+            columns.as_mut_ptr(),
+            columns.len(),
+            numbers.as_mut_ptr(),
+            numbers.len(),
+        )
+    }
+}
+
+/// Turns a sheet in columns into rows; the numbers are: bytes of the sheet, place.
+pub fn to_rows(sheet: &[u8], rows: &mut [u8], numbers: &mut [u64]) -> u8 {
+    unsafe {
+        gcf_to_rows(
+            sheet.as_ptr(),
+            sheet.len(),
+            rows.as_mut_ptr(),
+            rows.len(),
             numbers.as_mut_ptr(),
             numbers.len(),
         )
@@ -283,6 +404,34 @@ pub fn bench(
 ) -> u8 {
     unsafe {
         gcf_bench(
+            sheet.as_ptr(),
+            sheet.len(),
+            rt,
+            allocation,
+            response.as_mut_ptr(),
+            response.len(),
+            collected.as_mut_ptr(),
+            collected.len(),
+            starts.as_mut_ptr(),
+            starts.len(),
+            numbers.as_mut_ptr(),
+            numbers.len(),
+        )
+    }
+}
+
+/// Sweeps a sheet in columns; the numbers are: commands, bytes collected, place.
+pub fn bench_columns(
+    sheet: &[u8],
+    rt: u8,
+    allocation: u16,
+    response: &mut [u8],
+    collected: &mut [u8],
+    starts: &mut [u16],
+    numbers: &mut [u64],
+) -> u8 {
+    unsafe {
+        gcf_bench_columns(
             sheet.as_ptr(),
             sheet.len(),
             rt,

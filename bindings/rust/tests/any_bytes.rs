@@ -56,6 +56,35 @@ fn the_box() {
 }
 
 #[test]
+fn the_box_with_columns() {
+    let made = &mut Made(5);
+    for _ in 0..20_000 {
+        let (sheet, command) = (made.spoilt(&COLUMNS_E), made.spoilt(&[0x46, 0, 0, 0, 0, 0, 0, 0, 44, 0]));
+        let (room, allocation) = (made.below(60), made.below(50) as u16);
+        let mut buffers = ([0; 60], [0; 60], [0; 9]);
+        assert_eq!(refused(Columns::check(&sheet)), raw::check_columns(&sheet, &mut []));
+        let number = raw::respond_columns(&sheet, &command, &mut buffers.0[..room], &mut []);
+        assert_eq!(refused(respond_columns(&sheet, &command, &mut buffers.0[..room])), number);
+        if let Ok(sheet) = Columns::check(&sheet) {
+            assert_eq!(sheet.respond(&command, &mut buffers.0[..room]).is_err(), number != 0);
+            // In rows and back it is the same.
+            let rows = to_rows(sheet.bytes(), &mut buffers.0).map(|rows| rows.bytes());
+            let back = rows.and_then(|rows| to_columns(rows, &mut buffers.1)).map(|columns| columns.bytes());
+            assert_eq!(back, Ok(sheet.bytes()));
+        }
+        let (lent, other, starts) = (&mut buffers.0, &mut buffers.1, &mut buffers.2);
+        let number = raw::bench_columns(&sheet, 1, allocation, lent, other, starts, &mut []);
+        assert_eq!(refused(bench_columns(&sheet, Rt::Current, allocation, lent, other, starts)), number);
+        assert_eq!(
+            refused(to_rows(&sheet, &mut lent[..room])),
+            raw::to_rows(&sheet, &mut other[..room], &mut [])
+        );
+        let number = raw::to_columns(&sheet, &mut other[..room], &mut []);
+        assert_eq!(refused(to_columns(&sheet, &mut lent[..room])), number);
+    }
+}
+
+#[test]
 fn the_box_with_an_image() {
     let made = &mut Made(4);
     for _ in 0..20_000 {

@@ -5,7 +5,10 @@ ghost use mathlib.Core.List.{[], _∷_};
 ghost use Rattle.lent.specs.Wrote.{Wrote};
 ghost use Rattle.text.specs.Reading.{reading};
 ghost use Rattle.text.specs.Response.{returnLimit, most};
+ghost use Rattle.layout.specs.declared.Layout.the-variants.{Rows, Columns};
+ghost use Rattle.layout.specs.Layout.{stored};
 ghost use Rattle.sheet.specs.Check.{verdict};
+ghost use Rattle.convert.specs.Convert.{converted};
 ghost use Rattle.responder.specs.Answer.{answered};
 ghost use Rattle.responder.specs.Trusting.{trustingCommand};
 ghost use Rattle.reading.specs.Held.{heldOf};
@@ -21,6 +24,7 @@ ghost use Rattle.rom.specs.Image.{imageCommanded};
 ghost use Rattle.sense.specs.Sense.{made, sensed};
 ghost use Rattle.abi.specs.Left.{left, showVerdict, showMade, showPlaced, readingNumbers, showRead, showBenched, showFinding, showJudged, kindNumber, showSensed};
 use checks::Judgement;
+use layout::Layout;
 use sense::Kind;
 use sense::Sense;
 use sweep::Step;
@@ -70,19 +74,42 @@ fn tell_reading(numbers: &mut [u64], reading: Reading) -> usize
     tell(numbers, d, reading.complete as u64)
 }
 
-// ---- the box
+// ---- the box, over a sheet of either layout
 
-// The number of a sheet. Numbers: the place of the profile or entry at fault.
-#[no_mangle]
-pub extern "C" fn gcf_check_sheet(sheet: &[u8], numbers: &mut [u64]) -> u8
-    ensures { λ r. ⌜ left r tt (now (numbers .exit)) ≡ showVerdict (verdict (now (sheet .entry))) (now (numbers .entry)) ⌝ }
+fn check_laid(lay: Layout, sheet: &[u8], numbers: &mut [u64]) -> u8
+    ensures { λ r. ⌜ left r tt (now (numbers .exit)) ≡ showVerdict (verdict (stored lay (now (sheet .entry)))) (now (numbers .entry)) ⌝ }
 {
-    let verdict = sheet::check(sheet);
+    let verdict = sheet::check(lay, sheet);
     tell(numbers, 0, verdict.place as u64);
     verdict.number
 }
 
-// Answers a command from any sheet. Numbers: bytes sent, the place of the profile or entry at fault.
+fn respond_laid_accepted(
+    lay: Layout,
+    sheet: &[u8],
+    command: &[u8],
+    response: &mut [u8],
+    numbers: &mut [u64],
+) -> u8
+    ensures { λ r. ⌜ left r (now (response .exit)) (now (numbers .exit))
+        ≡ showMade (trustingCommand (stored lay (now (sheet .entry))) (now (command .entry)) (now (response .entry))) (now (numbers .entry)) ⌝ }
+{
+    let trusted = responder::respond_accepted(lay, sheet, command, response);
+    let fault = trusted.refusal;
+    tell(numbers, 0, trusted.count as u64);
+    fault.number
+}
+
+// The number of a sheet. Numbers: the place of the profile or entry at fault.
+#[no_mangle]
+pub extern "C" fn gcf_check_sheet(sheet: &[u8], numbers: &mut [u64]) -> u8
+    ensures { λ r. ⌜ left r tt (now (numbers .exit)) ≡ showVerdict (verdict (stored Rows (now (sheet .entry)))) (now (numbers .entry)) ⌝ }
+{
+    check_laid(Layout::Rows, sheet, numbers)
+}
+
+// Answers a command from any sheet. Numbers: bytes sent, the place of the profile or entry at fault. What `responder::respond` does is spelt out here and for
+// columns: a frame between, which two callers would share, takes the box past 256 bytes of stack.
 #[no_mangle]
 pub extern "C" fn gcf_respond(
     sheet: &[u8],
@@ -91,9 +118,14 @@ pub extern "C" fn gcf_respond(
     numbers: &mut [u64],
 ) -> u8
     ensures { λ r. ⌜ left r (now (response .exit)) (now (numbers .exit))
-        ≡ showPlaced (answered (now (sheet .entry)) (now (command .entry)) (now (response .entry))) (now (numbers .entry)) ⌝ }
+        ≡ showPlaced (answered (stored Rows (now (sheet .entry))) (now (command .entry)) (now (response .entry))) (now (numbers .entry)) ⌝ }
 {
-    let reply = responder::respond(sheet, command, response);
+    let verdict = sheet::check(Layout::Rows, sheet);
+    if verdict.number != 0 {
+        tell2(numbers, 0, verdict.place as u64);
+        return verdict.number;
+    }
+    let reply = responder::respond_accepted(Layout::Rows, sheet, command, response);
     let fault = reply.refusal;
     tell2(numbers, reply.count as u64, fault.place as u64);
     fault.number
@@ -108,12 +140,81 @@ pub extern "C" fn gcf_respond_accepted(
     numbers: &mut [u64],
 ) -> u8
     ensures { λ r. ⌜ left r (now (response .exit)) (now (numbers .exit))
-        ≡ showMade (trustingCommand (now (sheet .entry)) (now (command .entry)) (now (response .entry))) (now (numbers .entry)) ⌝ }
+        ≡ showMade (trustingCommand (stored Rows (now (sheet .entry))) (now (command .entry)) (now (response .entry))) (now (numbers .entry)) ⌝ }
 {
-    let trusted = responder::respond_accepted(sheet, command, response);
-    let fault = trusted.refusal;
-    tell(numbers, 0, trusted.count as u64);
+    respond_laid_accepted(Layout::Rows, sheet, command, response, numbers)
+}
+
+// The three over a sheet in columns.
+#[no_mangle]
+pub extern "C" fn gcf_check_columns(sheet: &[u8], numbers: &mut [u64]) -> u8
+    ensures { λ r. ⌜ left r tt (now (numbers .exit)) ≡ showVerdict (verdict (stored Columns (now (sheet .entry)))) (now (numbers .entry)) ⌝ }
+{
+    check_laid(Layout::Columns, sheet, numbers)
+}
+
+#[no_mangle]
+pub extern "C" fn gcf_respond_columns(
+    sheet: &[u8],
+    command: &[u8],
+    response: &mut [u8],
+    numbers: &mut [u64],
+) -> u8
+    ensures { λ r. ⌜ left r (now (response .exit)) (now (numbers .exit))
+        ≡ showPlaced (answered (stored Columns (now (sheet .entry))) (now (command .entry)) (now (response .entry))) (now (numbers .entry)) ⌝ }
+{
+    let verdict = sheet::check(Layout::Columns, sheet);
+    if verdict.number != 0 {
+        tell2(numbers, 0, verdict.place as u64);
+        return verdict.number;
+    }
+    let answer = responder::respond_accepted(Layout::Columns, sheet, command, response);
+    let fault = answer.refusal;
+    tell2(numbers, answer.count as u64, fault.place as u64);
     fault.number
+}
+
+#[no_mangle]
+pub extern "C" fn gcf_respond_columns_accepted(
+    sheet: &[u8],
+    command: &[u8],
+    response: &mut [u8],
+    numbers: &mut [u64],
+) -> u8
+    ensures { λ r. ⌜ left r (now (response .exit)) (now (numbers .exit))
+        ≡ showMade (trustingCommand (stored Columns (now (sheet .entry))) (now (command .entry)) (now (response .entry))) (now (numbers .entry)) ⌝ }
+{
+    respond_laid_accepted(Layout::Columns, sheet, command, response, numbers)
+}
+
+// ---- a sheet in the other layout
+
+fn convert_laid(to: Layout, lay: Layout, sheet: &[u8], out: &mut [u8], numbers: &mut [u64]) -> u8
+    ensures { λ r. ⌜ left r (now (out .exit)) (now (numbers .exit))
+        ≡ showPlaced (converted to (stored lay (now (sheet .entry))) (now (out .entry))) (now (numbers .entry)) ⌝ }
+{
+    let laid = convert::convert(to, lay, sheet, out);
+    let fault = laid.refusal;
+    tell2(numbers, laid.count as u64, fault.place as u64);
+    fault.number
+}
+
+// Turns a sheet into columns. Numbers: bytes of the sheet, the place of the profile or entry at fault.
+#[no_mangle]
+pub extern "C" fn gcf_to_columns(sheet: &[u8], columns: &mut [u8], numbers: &mut [u64]) -> u8
+    ensures { λ r. ⌜ left r (now (columns .exit)) (now (numbers .exit))
+        ≡ showPlaced (converted Columns (stored Rows (now (sheet .entry))) (now (columns .entry))) (now (numbers .entry)) ⌝ }
+{
+    convert_laid(Layout::Columns, Layout::Rows, sheet, columns, numbers)
+}
+
+// Turns a sheet in columns into one in rows. Numbers: the same.
+#[no_mangle]
+pub extern "C" fn gcf_to_rows(sheet: &[u8], rows: &mut [u8], numbers: &mut [u64]) -> u8
+    ensures { λ r. ⌜ left r (now (rows .exit)) (now (numbers .exit))
+        ≡ showPlaced (converted Rows (stored Columns (now (sheet .entry))) (now (rows .entry))) (now (numbers .entry)) ⌝ }
+{
+    convert_laid(Layout::Rows, Layout::Columns, sheet, rows, numbers)
 }
 
 // ---- the box with an image in place of a sheet
@@ -224,6 +325,30 @@ pub extern "C" fn gcf_sweep_take(sweep: Sweep, response: &[u8], out: &mut [u8]) 
 
 // ---- the bench and the checks
 
+fn bench_laid(
+    lay: Layout,
+    sheet: &[u8],
+    rt: u8,
+    allocation: u16,
+    response: &mut [u8],
+    collected: &mut [u8],
+    starts: &mut [u16],
+    numbers: &mut [u64],
+) -> u8
+    ensures { λ r. ⌜ left r (bench.buffers (now (response .exit)) (now (collected .exit)) (now (starts .exit))) (now (numbers .exit))
+        ≡ showBenched (bench.benched (stored lay (now (sheet .entry))) rt allocation (bench.buffers (now (response .entry)) (now (collected .entry)) (now (starts .entry)))) (now (numbers .entry)) ⌝ }
+{
+    let end = bench::bench(lay, sheet, rt, allocation, response, collected, starts);
+    let fault = end.refusal;
+    tell3(
+        numbers,
+        end.commands as u64,
+        end.collected as u64,
+        fault.place as u64,
+    );
+    fault.number
+}
+
 // A bench sweep of a sheet. Numbers: commands, bytes collected, the place of the profile or entry at fault.
 #[no_mangle]
 pub extern "C" fn gcf_bench(
@@ -236,17 +361,44 @@ pub extern "C" fn gcf_bench(
     numbers: &mut [u64],
 ) -> u8
     ensures { λ r. ⌜ left r (bench.buffers (now (response .exit)) (now (collected .exit)) (now (starts .exit))) (now (numbers .exit))
-        ≡ showBenched (bench.benched (now (sheet .entry)) rt allocation (bench.buffers (now (response .entry)) (now (collected .entry)) (now (starts .entry)))) (now (numbers .entry)) ⌝ }
+        ≡ showBenched (bench.benched (stored Rows (now (sheet .entry))) rt allocation (bench.buffers (now (response .entry)) (now (collected .entry)) (now (starts .entry)))) (now (numbers .entry)) ⌝ }
 {
-    let end = bench::bench(sheet, rt, allocation, response, collected, starts);
-    let fault = end.refusal;
-    tell3(
+    bench_laid(
+        Layout::Rows,
+        sheet,
+        rt,
+        allocation,
+        response,
+        collected,
+        starts,
         numbers,
-        end.commands as u64,
-        end.collected as u64,
-        fault.place as u64,
-    );
-    fault.number
+    )
+}
+
+// The same of a sheet in columns.
+#[no_mangle]
+pub extern "C" fn gcf_bench_columns(
+    sheet: &[u8],
+    rt: u8,
+    allocation: u16,
+    response: &mut [u8],
+    collected: &mut [u8],
+    starts: &mut [u16],
+    numbers: &mut [u64],
+) -> u8
+    ensures { λ r. ⌜ left r (bench.buffers (now (response .exit)) (now (collected .exit)) (now (starts .exit))) (now (numbers .exit))
+        ≡ showBenched (bench.benched (stored Columns (now (sheet .entry))) rt allocation (bench.buffers (now (response .entry)) (now (collected .entry)) (now (starts .entry)))) (now (numbers .entry)) ⌝ }
+{
+    bench_laid(
+        Layout::Columns,
+        sheet,
+        rt,
+        allocation,
+        response,
+        collected,
+        starts,
+        numbers,
+    )
 }
 
 // Checks the descriptors of a response. Numbers: the feature at fault.

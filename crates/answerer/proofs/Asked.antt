@@ -11,11 +11,12 @@ use Rattle.refusal.proofs.First.{unless-none, unless-fault}
 use Rattle.lent.specs.Maker.{refusing, making}
 use Rattle.lent.proofs.Maker.{makes-made, makes-fault}
 use Rattle.text.proofs.Sent.{length-sent}
+use Rattle.layout.specs.Layout.{Sheet}
 use Rattle.sheet.specs.Check.{verdict}
 use Rattle.sheet.specs.Meaning.{meaning}
 use Rattle.responder.specs.Answer.{due, answered}
 
-module _ (s c d : List ℕ) (h : 65534 ≤ length d) where
+module _ (s : Sheet) (c d : List ℕ) (h : 65534 ≤ length d) where
   abbrev fault : Refusal
   fault = verdict s orElse commandFault c
 

@@ -1,13 +1,15 @@
 // Reads a drive sheet from standard input and writes the box's answer to a command to standard output. A refusal is a line on standard error, and
-// nothing is written then. Arguments: the command's bytes, two hexadecimal digits each, with none RT 0 from 0, allocation length 65,535; and whether
-// hexadecimal text is written.
+// nothing is written then. Arguments: the command's bytes, two hexadecimal digits each, with none RT 0 from 0, allocation length 65,535; whether
+// hexadecimal text is written; and whether the sheet is in columns.
 ghost use mathlib.Core.Path.{_≡_};
 ghost use Rattle.io.specs.Counts.{Counts};
 ghost use Rattle.text.specs.Command.{commandFault};
+ghost use Rattle.layout.specs.Layout.{stored};
 ghost use Rattle.sheet.specs.Check.{verdict};
 ghost use Rattle.refusal.specs.First.{unless, _orElse_};
 ghost use Rattle.responder.specs.Answer.{due};
 ghost use Rattle.lent.specs.Maker.{outcome, refusing, making};
+use layout::Layout;
 use lent::Made;
 use text::Header;
 
@@ -20,23 +22,32 @@ const ROOM: usize = MOST + 1;
 // The argument that says whether hexadecimal text is written.
 const HEX_OUT: usize = 2;
 
+// The one that says whether the sheet is in columns.
+const COLUMNS: usize = 3;
+
 // The answer, whole: the buffer has room for the longest answer, so that 12 is never given.
-fn answer_of(sheet: &[u8], command: &[u8], response: &mut [u8; Header::RETURN_LIMIT]) -> Made
+fn answer_of(
+    lay: Layout,
+    sheet: &[u8],
+    command: &[u8],
+    response: &mut [u8; Header::RETURN_LIMIT],
+) -> Made
     ensures { λ r. ⌜ Counts (r .count) (now (response .exit)) ⌝ }
-    ensures { λ r. ⌜ outcome r (now (response .exit)) ≡ unless (verdict (now (sheet .entry)) orElse commandFault (now (command .entry))) (refusing (now (response .entry)))
-        (making (due (now (sheet .entry)) (now (command .entry))) (now (response .entry))) ⌝ }
+    ensures { λ r. ⌜ outcome r (now (response .exit)) ≡ unless (verdict (stored lay (now (sheet .entry))) orElse commandFault (now (command .entry))) (refusing (now (response .entry)))
+        (making (due (stored lay (now (sheet .entry))) (now (command .entry))) (now (response .entry))) ⌝ }
 {
-    responder::respond(sheet, command, response)
+    responder::respond(lay, sheet, command, response)
 }
 
 // ---- the program
 
 fn answer_command(sheet: &[u8], command: &[u8]) {
     let mut response = [0u8; Header::RETURN_LIMIT];
-    let reply = answer_of(sheet, command, &mut response);
+    let lay = told::layout_given(COLUMNS);
+    let reply = answer_of(lay, sheet, command, &mut response);
     let refusal = reply.refusal;
     if refusal.number != 0 {
-        told::say_sheet_refused(refusal, sheet);
+        told::say_sheet_refused(refusal, lay, sheet);
         return;
     }
     let count = reply.count;

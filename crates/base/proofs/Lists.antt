@@ -289,3 +289,10 @@ keep-range t u f from to n l m before inside behind =
     let z : keep t (each f to (n - to)) ≡ [] =
     keep-none t (each f to (n - to)) (each-all (λ a. t a ≡ false) f to (n - to) (λ j h k. behind j h (omega arith))) in
     rw (each-cut f to n m, each-cut f from to l, keep-append, keep-append, x, z, append-nil) (sym y)
+
+-- what agrees at each index agrees in all
+pub each-same : {A : Type 0} (f g : ℕ → A) (i k : ℕ) → ((j : ℕ) → i ≤ j → j < i + k → f j ≡ g j) → each f i k ≡ each g i k
+unfolding each
+each-same f g i zero h = refl
+each-same f g i (suc k) h =
+    λ z. h i (omega arith) (omega arith) z ∷ each-same f g (suc i) k (λ j l m. h j (omega arith) (omega arith)) z

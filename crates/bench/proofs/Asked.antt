@@ -11,6 +11,7 @@ use Rattle.lent.proofs.Maker.{makes-made}
 use Rattle.text.specs.Drive.{Drive}
 use Rattle.text.specs.Response.{sent, most}
 use Rattle.text.proofs.Sent.{length-sent}
+use Rattle.layout.specs.Layout.{Sheet}
 use Rattle.sheet.specs.Meaning.{meaning}
 use Rattle.responder.specs.Answer as box
 use Rattle.bench.specs.Bench.{zeros, filled}
@@ -25,7 +26,7 @@ unfolding filled
 take-filled xs d = take-append-seam xs _
 
 -- the box accepts, returns the count of bytes sent, and leaves them with zeros behind
-pub asked : (s : List ℕ) (rt f a : ℕ) (d : List ℕ) → most a ≤ length d
+pub asked : (s : Sheet) (rt f a : ℕ) (d : List ℕ) → most a ≤ length d
     → box.requested s rt f a (zeros d) ≡ outcome (written (length (sent rt f a (meaning s)))) (filled (sent rt f a (meaning s)) d)
 unfolding box.requested making filled zeros
 asked s rt f a d h =

@@ -16,7 +16,7 @@ use Rattle.text.proofs.Own.{walked-sent}
 use Rattle.text.proofs.Packing.{whole-rest, flat-parts}
 use Rattle.text.proofs.Selection.{selected-asc}
 use Rattle.text.proofs.Next.{last-from}
-use Rattle.layout.specs.Layout.{featureCount}
+use Rattle.layout.specs.Layout.{Sheet, featureCount}
 use Rattle.sheet.specs.Check.{Accepted}
 use Rattle.sheet.specs.Meaning.{meaning}
 use Rattle.sheet.specs.inner.Search.{nextFrom}
@@ -71,13 +71,13 @@ clean-cleared {n} {d} c q =
 
 -- ---- how many bytes are left
 
-pub taken-wanted : (s : List ℕ) (b : Bytes s) (ok : Accepted s) (w : Sweep) → wantedSize (meaning s) w ≡ takenSize s (w .rt) (w .next .0)
+pub taken-wanted : (s : Sheet) (b : Bytes (s .bytes)) (ok : Accepted s) (w : Sweep) → wantedSize (meaning s) w ≡ takenSize s (w .rt) (w .next .0)
 taken-wanted s b ok w = omega (arith, length-full (w .rt) (w .next .0) (meaning s), found-length s (w .rt) (w .next .0) b ok)
 
 -- ---- the first entry that is left
 
 -- on from that of an earlier start
-pub first-left : (s : List ℕ) (b : Bytes s) (ok : Accepted s) {start next n from r : ℕ} → n ≡ featureCount s → from ≡ takenFrom s start → start ≤ next → r ≡ nextFrom s n next from → r ≡ takenFrom s next
+pub first-left : (s : Sheet) (b : Bytes (s .bytes)) (ok : Accepted s) {start next n from r : ℕ} → n ≡ featureCount s → from ≡ takenFrom s start → start ≤ next → r ≡ nextFrom s n next from → r ≡ takenFrom s next
 unfolding takenFrom
 first-left s b ok q e h p = next-first (accepted.facts s b ok) e h (rw (← q) p)
 

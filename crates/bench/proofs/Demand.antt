@@ -20,6 +20,7 @@ use Rattle.base.proofs.Compare.{le-or-lt}
 use Rattle.text.proofs.Selection.{selected-asc, selected-zero}
 use Rattle.text.proofs.Sizes.{selected-count}
 use Rattle.text.proofs.Packing.{length-flat-bytes, groups-fit, packing}
+use Rattle.layout.specs.Layout.{Sheet}
 use Rattle.sheet.specs.Check.{verdict, Accepted}
 use Rattle.sheet.specs.Meaning.{meaning}
 use Rattle.sheet.proofs.Meaning.{meaning-fine}
@@ -121,7 +122,7 @@ module _ {m : Drive} (good : Sound m) (rt a : ℕ) (two : rt < 2) (eight : 8 ≤
 
 -- ---- the bench sweep of a sheet
 
-module _ (s : List ℕ) (rt a : ℕ) (bs : Buffers) where
+module _ (s : Sheet) (rt a : ℕ) (bs : Buffers) where
   -- what comes of it, and of all rounds
   abbrev rest : Ending
   rest = runFrom (meaning s) (state (fresh rt a) bs)
@@ -153,7 +154,7 @@ module _ (s : List ℕ) (rt a : ℕ) (bs : Buffers) where
       rw (accepted, pickZero, le-ltb 1 rt h, le-ltb a 8 eight)
 
   -- an accepted sheet, whatever the room: it succeeds, or is refused 12, 23, 24 or 25
-  pub ended : Bytes s → Accepted s → rt < 2 → 8 ≤ a → Ended (meaning s) rt a bs result
+  pub ended : Bytes (s .bytes) → Accepted s → rt < 2 → 8 ≤ a → Ended (meaning s) rt a bs result
   unfolding benched
   ended b accepted two eight = ⊎-elim
       (λ (h : most a ≤ length (bs .response)).
@@ -164,11 +165,11 @@ module _ (s : List ℕ) (rt a : ℕ) (bs : Buffers) where
       (le-or-lt (most a) (length (bs .response)))
 
   -- demand 3
-  pub demand3 : Bytes s → Accepted s → Premises (meaning s) rt a bs → Swept (meaning s) rt a bs result
+  pub demand3 : Bytes (s .bytes) → Accepted s → Premises (meaning s) rt a bs → Swept (meaning s) rt a bs result
   demand3 b accepted p = ended-swept p (ended b accepted (p .kind) (p .eight))
 
   -- whatever succeeds is such a sweep
-  pub succeeded : Bytes s → number result ≡ 0 → Swept (meaning s) rt a bs result
+  pub succeeded : Bytes (s .bytes) → number result ≡ 0 → Swept (meaning s) rt a bs result
   unfolding benched
   succeeded b e =
       let f : firstFault s rt a (length (bs .response)) .number ≡ 0 = unless-zero (firstFault s rt a (length (bs .response))) bs rest e in

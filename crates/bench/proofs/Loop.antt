@@ -15,6 +15,7 @@ use Rattle.refusal.specs.First.{refuse, accept, unless}
 use Rattle.text.specs.Drive.{Drive, Sound}
 use Rattle.text.specs.Response.{sent, most}
 use Rattle.refusal.proofs.First.{if-zero, orElse-zero, unless-none, unless-fault}
+use Rattle.layout.specs.Layout.{Sheet}
 use Rattle.sheet.specs.Check.{Accepted}
 use Rattle.sheet.specs.Meaning.{meaning}
 use Rattle.lent.specs.declared.Made.{Made}
@@ -39,7 +40,7 @@ use Rattle.bench.proofs.Turns.{onwards, onwards-ended, onwards-fault, o
 -- ---- before any round
 
 -- nothing is refused: the sheet is accepted, a sweep starts afresh, and there is room for a response
-module _ (s : List ℕ) (rt a n : ℕ) (e : firstFault s rt a n .number ≡ 0) where
+module _ (s : Sheet) (rt a n : ℕ) (e : firstFault s rt a n .number ≡ 0) where
   first-accepted : Accepted s
   unfolding firstFault
   first-accepted = orElse-zero _ _ e .0
@@ -55,7 +56,7 @@ module _ (s : List ℕ) (rt a n : ℕ) (e : firstFault s rt a n .number ≡ 0) w
 -- ---- a round
 
 -- the box of a sheet that is accepted is asked into a buffer with room for a response
-module _ (s : List ℕ) (b : Bytes s) (ok : Accepted s) (rt f a : ℕ) (d : List ℕ) {from size : ℕ} {blank : List ℕ} {r : Made} {e : List ℕ} (room : most a ≤ length d) (clear : blank ≡ replicate (length d) 0)
+module _ (s : Sheet) (b : Bytes (s .bytes)) (ok : Accepted s) (rt f a : ℕ) (d : List ℕ) {from size : ℕ} {blank : List ℕ} {r : Made} {e : List ℕ} (room : most a ≤ length d) (clear : blank ≡ replicate (length d) 0)
     (found : from ≡ takenFrom s f) (told : size ≡ takenSize s rt f) (q : maker.outcome r e ≡ sized s rt f a from size blank) where
   abbrev due : List ℕ
   due = sent rt f a (meaning s)
@@ -92,8 +93,8 @@ round-short {m} {w} {bs} h = record {
 }
 
 -- the start is noted, the box is asked, the record takes the bytes sent
-module _ (s : List ℕ) (w : Sweep) (bs : Buffers) {blank e out noted : List ℕ} {r : Made} {n from size : ℕ} {t : Step} where
-  pub round-asked : Bytes s → Accepted s → most (w .allocation) ≤ length (bs .response) → w .commands < length (bs .starts) → Wrote (bs .starts) (w .commands) (w .next .0 ∷ []) n noted
+module _ (s : Sheet) (w : Sweep) (bs : Buffers) {blank e out noted : List ℕ} {r : Made} {n from size : ℕ} {t : Step} where
+  pub round-asked : Bytes (s .bytes) → Accepted s → most (w .allocation) ≤ length (bs .response) → w .commands < length (bs .starts) → Wrote (bs .starts) (w .commands) (w .next .0 ∷ []) n noted
       → blank ≡ replicate (length (bs .response)) 0 → from ≡ takenFrom s (w .next .0) → size ≡ takenSize s (w .rt) (w .next .0)
       → maker.outcome r e ≡ sized s (w .rt) (w .next .0) (w .allocation) from size blank
       → turn t out ≡ stepped w (take (r .count) e) (bs .collected) → length out ≡ length (bs .collected)
@@ -214,7 +215,7 @@ refused-kept : (r : Refusal) {was bs : Buffers} → SameLengths was bs → faili
 unfolding failing zeros
 refused-kept r k = rw (k .response, k .collected, k .starts)
 
-module _ (s : List ℕ) (rt a : ℕ) (bs : Buffers) {r : Refusal} (q : r ≡ firstFault s rt a (length (bs .response))) where
+module _ (s : Sheet) (rt a : ℕ) (bs : Buffers) {r : Refusal} (q : r ≡ firstFault s rt a (length (bs .response))) where
   abbrev rest : Ending
   rest = runFrom (meaning s) (state (fresh rt a) bs)
 

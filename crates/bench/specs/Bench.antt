@@ -8,6 +8,7 @@ use Rattle.refusal.specs.declared.Refusal.{Refusal}
 use Rattle.refusal.specs.First.{refuse, accept, _if_else_, _orElse_, unless}
 use Rattle.text.specs.Drive.{Drive}
 use Rattle.text.specs.Response.{sent, most}
+use Rattle.layout.specs.Layout.{Sheet}
 use Rattle.sheet.specs.Check.{verdict}
 use Rattle.sheet.specs.Meaning.{meaning}
 use Rattle.sweep.specs.declared.Sweep.{Sweep}
@@ -85,7 +86,7 @@ rounds (suc n) m b w = elim (w .sweep .ended) [ true ↦ succeeding w | false �
 -- ---- the bench sweep
 
 -- before any round: the sheet's numbers, 21, 22, then 12: the response buffer, of `room` bytes, has fewer than C
-unfoldable pub firstFault : (s : List ℕ) (rt a room : ℕ) → Refusal
+unfoldable pub firstFault : (s : Sheet) (rt a room : ℕ) → Refusal
 firstFault s rt a room =
     verdict s orElse
     startRule rt a orElse
@@ -93,5 +94,5 @@ firstFault s rt a room =
     accept
 
 -- the bench sweep of the sheet s: all rounds from a fresh record
-unfoldable pub benched : (s : List ℕ) (rt a : ℕ) → Buffers → Ending
+unfoldable pub benched : (s : Sheet) (rt a : ℕ) → Buffers → Ending
 benched s rt a b = unless (firstFault s rt a (length (b .response))) (failing b) (rounds 65537 (meaning s) b (state (fresh rt a) b))

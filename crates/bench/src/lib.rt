@@ -2,12 +2,14 @@
 ghost use mathlib.Core.Path.{_≡_};
 ghost use Prim.Native.Nat.{_≤_};
 ghost use lib.ListN.{length};
+ghost use Rattle.layout.specs.Layout.{stored};
 ghost use Rattle.sheet.specs.Check.{Accepted};
 ghost use Rattle.text.specs.Response.{most};
 ghost use Rattle.sheet.specs.Meaning.{meaning};
 ghost use Rattle.responder.specs.inner.Index.{takenFrom};
 ghost use Rattle.bench.specs.Bench.{buffers, state, ending, failing, firstFault, benched};
 ghost use Rattle.bench.specs.inner.Loop.{wantedSize, Clean, Rounded, Ran};
+use layout::Layout;
 use refusal::Refusal;
 use sweep::Step;
 use sweep::Sweep;
@@ -20,10 +22,10 @@ pub struct Benched {
 }
 
 // What is refused before any round, where the response buffer has so many bytes.
-fn first_fault(s: &[u8], rt: u8, a: u16, space: usize) -> Refusal
-    ensures { λ r. ⌜ r ≡ firstFault (now (s .entry)) rt a space ⌝ }
+fn first_fault(lay: Layout, s: &[u8], rt: u8, a: u16, space: usize) -> Refusal
+    ensures { λ r. ⌜ r ≡ firstFault (stored lay (now (s .entry))) rt a space ⌝ }
 {
-    let fault = sheet::check(s);
+    let fault = sheet::check(lay, s);
     if fault.number != 0 {
         return fault;
     }
@@ -41,6 +43,7 @@ fn first_fault(s: &[u8], rt: u8, a: u16, space: usize) -> Refusal
 // One round against a sheet that is accepted: the start is noted, the box is asked, the driver takes just the bytes sent.
 // Asks: an accepted sheet and a response buffer of C bytes or more, which the sheet's numbers and 12 have shown before; the entry where the request starts, the bytes that are left, and how many of the buffer can be dirty, which the rounds before leave.
 fn one_round(
+    lay: Layout,
     s: &[u8],
     w: Sweep,
     from: u16,
@@ -50,8 +53,8 @@ fn one_round(
     collected: &mut [u8],
     starts: &mut [u16],
 ) -> Step
-    requires { ⌜ Accepted (now s) × (most (w .allocation) ≤ length (now response)) × (left ≡ wantedSize (meaning (now s)) w) × Clean dirty (now response) × (from ≡ takenFrom (now s) (w .next .0)) ⌝ }
-    ensures { λ r. ⌜ Rounded (meaning (now (s .entry))) (state w (buffers (now (response .entry)) (now (collected .entry)) (now (starts .entry))))
+    requires { ⌜ Accepted (stored lay (now s)) × (most (w .allocation) ≤ length (now response)) × (left ≡ wantedSize (meaning (stored lay (now s))) w) × Clean dirty (now response) × (from ≡ takenFrom (stored lay (now s)) (w .next .0)) ⌝ }
+    ensures { λ r. ⌜ Rounded (meaning (stored lay (now (s .entry)))) (state w (buffers (now (response .entry)) (now (collected .entry)) (now (starts .entry))))
         (r .refusal) (state (r .sweep) (buffers (now (response .exit)) (now (collected .exit)) (now (starts .exit)))) ⌝ }
 {
     let at = w.commands as usize;
@@ -64,7 +67,7 @@ fn one_round(
     let next = w.next;
     lent::note(starts, at, next.0);
     lent::clear(&mut response[..dirty]);
-    let reply = responder::send_sized(s, w.rt, next, w.allocation, from, left, response);
+    let reply = responder::send_sized(lay, s, w.rt, next, w.allocation, from, left, response);
     let count = reply.count;
     w.take(&response[..count], collected)
 }
@@ -73,24 +76,35 @@ fn one_round(
 // response buffer can be dirty go along, so that a round costs what it sends.
 // Asks: an accepted sheet, a response buffer of C bytes or more and a sweep that has just started; the sheet's numbers, 12 and the start come before.
 fn all_rounds(
+    lay: Layout,
     s: &[u8],
     w: Sweep,
     response: &mut [u8],
     collected: &mut [u8],
     starts: &mut [u16],
 ) -> Step
-    requires { ⌜ Accepted (now s) × (most (w .allocation) ≤ length (now response)) × (w .commands ≡ 0) ⌝ }
-    ensures { λ r. ⌜ Ran (meaning (now (s .entry))) (state w (buffers (now (response .entry)) (now (collected .entry)) (now (starts .entry))))
+    requires { ⌜ Accepted (stored lay (now s)) × (most (w .allocation) ≤ length (now response)) × (w .commands ≡ 0) ⌝ }
+    ensures { λ r. ⌜ Ran (meaning (stored lay (now (s .entry)))) (state w (buffers (now (response .entry)) (now (collected .entry)) (now (starts .entry))))
         (r .refusal) (state (r .sweep) (buffers (now (response .exit)) (now (collected .exit)) (now (starts .exit)))) ⌝ }
 {
     let most = text::most(w.allocation);
     let mut sweep = w;
     let n = layout::feature_count(s);
-    let mut from = sheet::first_from(s, n, w.next);
-    let mut left = responder::size(s, w.rt, w.next);
+    let mut from = sheet::first_from(lay, s, n, w.next);
+    let mut left = responder::size(lay, s, w.rt, w.next);
     let mut dirty = response.len();
     while !sweep.ended {
-        let step = one_round(s, sweep, from, left, dirty, response, collected, starts);
+        let step = one_round(
+            lay,
+            s,
+            sweep,
+            from,
+            left,
+            dirty,
+            response,
+            collected,
+            starts,
+        );
         let fault = step.refusal;
         if fault.number != 0 {
             return step;
@@ -98,7 +112,7 @@ fn all_rounds(
         let next = step.sweep;
         left -= next.collected - sweep.collected;
         dirty = most;
-        from = sheet::next_from(s, n, next.next, from);
+        from = sheet::next_from(lay, s, n, next.next, from);
         sweep = next;
     }
     Step {
@@ -124,6 +138,7 @@ fn refuse(fault: Refusal, response: &mut [u8], collected: &mut [u8], starts: &mu
 
 // The bench sweep of any sheet: it is checked once, and then round follows round. A refusal leaves all three buffers zero throughout.
 pub fn bench(
+    lay: Layout,
     s: &[u8],
     rt: u8,
     a: u16,
@@ -132,14 +147,14 @@ pub fn bench(
     starts: &mut [u16],
 ) -> Benched
     ensures { λ r. ⌜ ending r (buffers (now (response .exit)) (now (collected .exit)) (now (starts .exit)))
-        ≡ benched (now (s .entry)) rt a (buffers (now (response .entry)) (now (collected .entry)) (now (starts .entry))) ⌝ }
+        ≡ benched (stored lay (now (s .entry))) rt a (buffers (now (response .entry)) (now (collected .entry)) (now (starts .entry))) ⌝ }
 {
-    let fault = first_fault(s, rt, a, response.len());
+    let fault = first_fault(lay, s, rt, a, response.len());
     if fault.number != 0 {
         return refuse(fault, response, collected, starts);
     }
     let start = Sweep::start(rt, a);
-    let end = all_rounds(s, start.sweep, response, collected, starts);
+    let end = all_rounds(lay, s, start.sweep, response, collected, starts);
     let fault = end.refusal;
     if fault.number != 0 {
         return refuse(fault, response, collected, starts);

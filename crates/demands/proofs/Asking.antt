@@ -10,25 +10,28 @@ use contract.Lifetimes.{Lfts}
 use denote.Triple.Entry.{Res}
 use denote.Triple.Clauses.{Ended, closing}
 use lib.ListN.{length, getD}
-use Rattle.base.proofs.Decided.{Contract, Stated, Call, Outcome, asked, allowed, seen, decides, joined, _&_}
+use Rattle.base.proofs.Decided.{Contract, Stated, Call, Outcome, asked, allowed, decides, joined, _&_}
 use Rattle.base.proofs.Promise.{promises}
+use Rattle.base.specs.Lists.{each}
 use Rattle.fields.specs.Field.{field, spell}
-use Rattle.fields.specs.Part.{PartOf}
-use Rattle.fields.proofs.Parts.{same-part}
 use Rattle.lent.specs.Wrote.{Wrote}
 use Rattle.lent.proofs.Laws.{same}
 use Rattle.profiles.specs.Profiles.{recordsFault}
-use Rattle.layout.specs.Layout.{entryAt}
-use Rattle.layout.specs.inner.Entry.{entryOf, headPart}
+use Rattle.layout.specs.Layout.{stored}
+use Rattle.layout.specs.Contents.{entryOf, contents}
+use Rattle.layout.specs.inner.Room.{Room}
+use Rattle.layout.specs.inner.Found.{foundOf}
 use Rattle.fields.proofs.inside as inside
 use Rattle.fields.proofs.inside2 as inside2
 use Rattle.fields.proofs.inside4 as inside4
 use Rattle.lent.proofs.place as place
 use Rattle.lent.proofs.place4 as place4
+use Rattle.lent.proofs.set4 as set4
 use Rattle.profiles.proofs.fault as profiles-fault
 use Rattle.layout.proofs.entry_in as entry-in
-use Rattle.layout.proofs.head_part as head-part
-use Rattle.layout.proofs.place_entry as place-entry
+use Rattle.layout.proofs.find as find
+use Rattle.layout.proofs.place_row as place-row
+use Rattle.layout.proofs.put_contents as put-contents
 
 -- The contract s of the function's theorem is made of the clauses c, no more than q is asked of the caller, and two outcomes that are allowed are the same
 -- to whoever has `see` of the result
@@ -91,6 +94,13 @@ pub place4-tied : PromisedAsking place4.ended (λ M. place4.clauses) (λ M. plac
     (λ x o. Wrote (x .args .0 .now) (x .args .1 .0) (x .args .1 .1 .0 .now) (o .0) (o .1 .0))
 place4-tied x = promises-asking (x .𝓤) (λ o e. e)
 
+pub set4-decided : DecidedAsking set4.ended (λ M. set4.clauses) (λ M. set4.spec) (λ x. x .args .1 .0 + 4 ≤ length (x .args .0 .now)) (λ κs r. r)
+set4-decided x = decides-asking (x .𝓤) (λ o o′ p q. (same p q .0, same p q .1 & refl))
+
+pub set4-tied : PromisedAsking set4.ended (λ M. set4.clauses) (λ M. set4.spec) (λ x. x .args .1 .0 + 4 ≤ length (x .args .0 .now))
+    (λ x o. Wrote (x .args .0 .now) (x .args .1 .0) (spell 4 (x .args .1 .1 .0)) (o .0) (o .1 .0))
+set4-tied x = promises-asking (x .𝓤) (λ o e. e)
+
 -- ---- profiles
 
 pub profiles-fault-decided : DecidedAsking profiles-fault.ended (λ M. profiles-fault.clauses) (λ M. profiles-fault.spec) (λ x. length (x .args .0 .now) < 262144) (λ κs r. r)
@@ -101,22 +111,30 @@ profiles-fault-tied x = promises-asking (x .𝓤) (λ o e. e)
 
 -- ---- layout
 
-pub entry-in-decided : DecidedAsking entry-in.ended (λ M. entry-in.clauses) (λ M. entry-in.spec) (λ x. entryAt (x .args .1 .0) + 8 ≤ length (x .args .0 .now)) (λ κs r. r)
+pub entry-in-decided : DecidedAsking entry-in.ended (λ M. entry-in.clauses) (λ M. entry-in.spec) (λ x. Room (x .args .1 .0 .now) (x .args .1 .1 .0) × (x .args .1 .1 .1 .0 < x .args .1 .1 .0)) (λ κs r. r)
 entry-in-decided x = decides-asking (x .𝓤) (λ o o′ p q. (joined p q, refl))
 
-pub entry-in-tied : PromisedAsking entry-in.ended (λ M. entry-in.clauses) (λ M. entry-in.spec) (λ x. entryAt (x .args .1 .0) + 8 ≤ length (x .args .0 .now)) (λ x o. o .0 ≡ entryOf (x .args .0 .now) (x .args .1 .0))
+pub entry-in-tied : PromisedAsking entry-in.ended (λ M. entry-in.clauses) (λ M. entry-in.spec) (λ x. Room (x .args .1 .0 .now) (x .args .1 .1 .0) × (x .args .1 .1 .1 .0 < x .args .1 .1 .0))
+    (λ x o. o .0 ≡ entryOf (stored (x .args .0) (x .args .1 .0 .now)) (x .args .1 .1 .1 .0))
 entry-in-tied x = promises-asking (x .𝓤) (λ o e. e)
 
-pub head-part-decided : DecidedAsking head-part.ended (λ M. head-part.clauses) (λ M. head-part.spec) (λ x. entryAt (x .args .1 .0) + 8 ≤ length (x .args .0 .now)) (λ κs r. seen r)
-head-part-decided x = decides-asking (x .𝓤) (λ o o′ p q. (same-part (p .0) (q .0), refl))
+pub find-decided : DecidedAsking find.ended (λ M. find.clauses) (λ M. find.spec) (λ x. Room (x .args .1 .0 .now) (x .args .1 .1 .0) × (x .args .1 .1 .1 .0 < x .args .1 .1 .0)) (λ κs r. r)
+find-decided x = decides-asking (x .𝓤) (λ o o′ p q. (joined p q, refl))
 
-pub head-part-tied : PromisedAsking head-part.ended (λ M. head-part.clauses) (λ M. head-part.spec) (λ x. entryAt (x .args .1 .0) + 8 ≤ length (x .args .0 .now))
-    (λ x o. PartOf (x .args .0) (entryAt (x .args .1 .0)) (headPart (x .args .0 .now) (x .args .1 .0)) (o .0))
-head-part-tied x = promises-asking (x .𝓤) (λ o e. e .0)
+pub find-tied : PromisedAsking find.ended (λ M. find.clauses) (λ M. find.spec) (λ x. Room (x .args .1 .0 .now) (x .args .1 .1 .0) × (x .args .1 .1 .1 .0 < x .args .1 .1 .0))
+    (λ x o. o .0 ≡ foundOf (stored (x .args .0) (x .args .1 .0 .now)) (x .args .1 .1 .1 .0))
+find-tied x = promises-asking (x .𝓤) (λ o e. e)
 
-pub place-entry-decided : DecidedAsking place-entry.ended (λ M. place-entry.clauses) (λ M. place-entry.spec) (λ x. (length (x .args .1 .1 .0 .now) ≡ 4) × (x .args .1 .0 + 8 ≤ length (x .args .0 .now))) (λ κs r. r)
-place-entry-decided x = decides-asking (x .𝓤) (λ o o′ p q. (same p q .0, same p q .1 & refl))
+pub place-row-decided : DecidedAsking place-row.ended (λ M. place-row.clauses) (λ M. place-row.spec) (λ x. (length (x .args .1 .1 .0 .now) ≡ 4) × (x .args .1 .0 + 8 ≤ length (x .args .0 .now))) (λ κs r. r)
+place-row-decided x = decides-asking (x .𝓤) (λ o o′ p q. (same p q .0, same p q .1 & refl))
 
-pub place-entry-tied : PromisedAsking place-entry.ended (λ M. place-entry.clauses) (λ M. place-entry.spec) (λ x. (length (x .args .1 .1 .0 .now) ≡ 4) × (x .args .1 .0 + 8 ≤ length (x .args .0 .now)))
+pub place-row-tied : PromisedAsking place-row.ended (λ M. place-row.clauses) (λ M. place-row.spec) (λ x. (length (x .args .1 .1 .0 .now) ≡ 4) × (x .args .1 .0 + 8 ≤ length (x .args .0 .now)))
     (λ x o. Wrote (x .args .0 .now) (x .args .1 .0) (x .args .1 .1 .0 .now ++ spell 4 (x .args .1 .1 .1 .0)) (o .0) (o .1 .0))
-place-entry-tied x = promises-asking (x .𝓤) (λ o e. e)
+place-row-tied x = promises-asking (x .𝓤) (λ o e. e)
+
+pub put-contents-decided : DecidedAsking put-contents.ended (λ M. put-contents.clauses) (λ M. put-contents.spec) (λ x. Room (x .args .1 .1 .1 .1 .0 .now) (x .args .1 .1 .1 .1 .1 .0)) (λ κs r. r)
+put-contents-decided x = decides-asking (x .𝓤) (λ o o′ p q. (same p q .0, same p q .1 & refl))
+
+pub put-contents-tied : PromisedAsking put-contents.ended (λ M. put-contents.clauses) (λ M. put-contents.spec) (λ x. Room (x .args .1 .1 .1 .1 .0 .now) (x .args .1 .1 .1 .1 .1 .0))
+    (λ x o. Wrote (x .args .0 .now) (x .args .1 .0) (contents (x .args .1 .1 .0) (each (entryOf (stored (x .args .1 .1 .1 .0) (x .args .1 .1 .1 .1 .0 .now))) 0 (x .args .1 .1 .1 .1 .1 .0))) (o .0) (o .1 .0))
+put-contents-tied x = promises-asking (x .𝓤) (λ o e. e)

@@ -28,6 +28,7 @@ use Rattle.text.proofs.Packing.{length-flat-bytes, whole-every}
 use Rattle.text.proofs.Sent.{sent-whole}
 use Rattle.text.proofs.Own.{readFault-sent, wholes-sent, complete-sent}
 use Rattle.profiles.specs.Profiles.{Distinct}
+use Rattle.layout.specs.Layout.{Sheet}
 use Rattle.sheet.specs.Check as sheet
 use Rattle.sheet.specs.Meaning.{meaning, Fine}
 use Rattle.sheet.proofs.Meaning.{meaning-fine}
@@ -219,7 +220,7 @@ module _ {m : Drive} (good : Sound m) (h : length (full 0 0 m) ≤ 65534) where
 
 -- ---- the theorem
 
-pub own-findings : (s : List ℕ) → Bytes s → sheet.Accepted s → length (full 0 0 (meaning s)) ≤ 65534 → Findings (checked (full 0 0 (meaning s)) .refusal .number)
+pub own-findings : (s : Sheet) → Bytes (s .bytes) → sheet.Accepted s → length (full 0 0 (meaning s)) ≤ 65534 → Findings (checked (full 0 0 (meaning s)) .refusal .number)
 unfolding checked
 own-findings s b ok h =
     let m : Drive = meaning s in
@@ -253,7 +254,7 @@ pub record Finds (s : List ℕ) (f : Finding) : Type 0 where
   pub refuses : (completeFault s .number ≡ 0 → ⊥) → f ≡ finding (completeFault s) 0
   pub sound : f .refusal .number ≡ 0 → Passes s
   pub complete : Passes s → f ≡ finding accept 0
-  pub own : (t : List ℕ) → Bytes t → sheet.Accepted t → length (full 0 0 (meaning t)) ≤ 65534 → s ≡ full 0 0 (meaning t) → Findings (f .refusal .number)
+  pub own : (t : Sheet) → Bytes (t .bytes) → sheet.Accepted t → length (full 0 0 (meaning t)) ≤ 65534 → s ≡ full 0 0 (meaning t) → Findings (f .refusal .number)
 
 pub finds : (s : List ℕ) → Finds s (checked s)
 unfolding checked

@@ -37,19 +37,18 @@ use Rattle.layout.proofs.feature_count as feature-count
 use Rattle.layout.proofs.profile_count as profile-count
 use Rattle.layout.proofs.profiles_behind as profiles-behind
 use Rattle.layout.proofs.bodies_at as bodies-at
-use Rattle.layout.proofs.entry_end as entry-end
 use Rattle.layout.proofs.feature_at as feature-at
 use Rattle.layout.proofs.flags_at as flags-at
 use Rattle.layout.proofs.length_at as length-at
 use Rattle.layout.proofs.offset_at as offset-at
 use Rattle.layout.proofs.put_counts as put-counts
-use Rattle.layout.proofs.put_entry as put-entry
 use Rattle.layout.proofs.profiles_part as profiles-part
 use Rattle.sheet.proofs.end_before as end-before
 use Rattle.sheet.proofs.flags_rule as flags-rule
 use Rattle.sheet.proofs.first_from as first-from
 use Rattle.sheet.proofs.next_from as next-from
 use Rattle.sheet.proofs.check as check
+use Rattle.convert.proofs.convert as convert
 use Rattle.responder.proofs.send as send
 use Rattle.responder.proofs.size as size
 use Rattle.responder.proofs.send_sized as send-sized
@@ -87,8 +86,11 @@ use Rattle.abi.specs.Left.{Left}
 use Rattle.rom.proofs.respond_accepted as rom-respond-accepted
 use Rattle.rom.proofs.respond as rom-respond
 use Rattle.abi.proofs.gcf_check_sheet as gcf-check-sheet
+use Rattle.abi.proofs.gcf_check_columns as gcf-check-columns
 use Rattle.abi.proofs.gcf_respond as gcf-respond
+use Rattle.abi.proofs.gcf_respond_columns as gcf-respond-columns
 use Rattle.abi.proofs.gcf_respond_accepted as gcf-respond-accepted
+use Rattle.abi.proofs.gcf_respond_columns_accepted as gcf-respond-columns-accepted
 use Rattle.abi.proofs.gcf_check_image as gcf-check-image
 use Rattle.abi.proofs.gcf_respond_image as gcf-respond-image
 use Rattle.abi.proofs.gcf_respond_image_accepted as gcf-respond-image-accepted
@@ -99,9 +101,12 @@ use Rattle.abi.proofs.gcf_most as gcf-most
 use Rattle.abi.proofs.gcf_sweep_start as gcf-sweep-start
 use Rattle.abi.proofs.gcf_sweep_take as gcf-sweep-take
 use Rattle.abi.proofs.gcf_bench as gcf-bench
+use Rattle.abi.proofs.gcf_bench_columns as gcf-bench-columns
 use Rattle.abi.proofs.gcf_check_descriptors as gcf-check-descriptors
 use Rattle.abi.proofs.gcf_check_profile as gcf-check-profile
 use Rattle.abi.proofs.gcf_import as gcf-import
+use Rattle.abi.proofs.gcf_to_rows as gcf-to-rows
+use Rattle.abi.proofs.gcf_to_columns as gcf-to-columns
 use Rattle.abi.proofs.gcf_make_sense as gcf-make-sense
 use Rattle.abi.proofs.gcf_read_sense as gcf-read-sense
 
@@ -201,9 +206,6 @@ profiles-behind-decided x = decides (x .𝓤) (λ o o′ p q. (joined p q, refl)
 pub bodies-at-decided : Decided bodies-at.ended (λ M. bodies-at.clauses) (λ M. bodies-at.spec)
 bodies-at-decided x = decides (x .𝓤) (λ o o′ p q. (joined p q, refl))
 
-pub entry-end-decided : Decided entry-end.ended (λ M. entry-end.clauses) (λ M. entry-end.spec)
-entry-end-decided x = decides (x .𝓤) (λ o o′ p q. (joined p q, refl))
-
 pub flags-at-decided : Decided flags-at.ended (λ M. flags-at.clauses) (λ M. flags-at.spec)
 flags-at-decided x = decides (x .𝓤) (λ o o′ p q. ((λ i. record { 0 = joined p q i }), refl))
 
@@ -218,9 +220,6 @@ feature-at-decided x = decides (x .𝓤) (λ o o′ p q. ((λ i. record { 0 = jo
 
 pub put-counts-decided : Decided put-counts.ended (λ M. put-counts.clauses) (λ M. put-counts.spec)
 put-counts-decided x = decides (x .𝓤) (λ o o′ p q. (same p q .0, same p q .1 & refl))
-
-pub put-entry-decided : Decided put-entry.ended (λ M. put-entry.clauses) (λ M. put-entry.spec)
-put-entry-decided x = decides (x .𝓤) (λ o o′ p q. (same p q .0, same p q .1 & refl))
 
 pub profiles-part-decided : DecidedAs profiles-part.ended (λ M. profiles-part.clauses) (λ M. profiles-part.spec) (λ κs r. seen r)
 profiles-part-decided x = decides (x .𝓤) (λ o o′ p q. (same-part p q, refl))
@@ -242,22 +241,27 @@ next-from-decided x = decides (x .𝓤) (λ o o′ p q. (joined p q, refl))
 pub check-decided : Decided check.ended (λ M. check.clauses) (λ M. check.spec)
 check-decided = sheet-decides.check-decided
 
+-- ---- convert
+
+pub convert-decided : Decided convert.ended (λ M. convert.clauses) (λ M. convert.spec)
+convert-decided x = decides (x .𝓤) (λ o o′ p q. (ap (λ (z : Outcome). z .made) (joined p q), refl & refl & refl & ap (λ (z : Outcome). z .buffer) (joined p q) & refl))
+
 -- ---- responder
 
 pub send-decided : Decided send.ended (λ M. send.clauses) (λ M. send.spec)
-send-decided x = decides (x .𝓤) (λ o o′ p q. (ap (λ (z : Outcome). z .made) (joined p q), refl & refl & refl & refl & ap (λ (z : Outcome). z .buffer) (joined p q) & refl))
+send-decided x = decides (x .𝓤) (λ o o′ p q. (ap (λ (z : Outcome). z .made) (joined p q), refl & refl & refl & refl & refl & ap (λ (z : Outcome). z .buffer) (joined p q) & refl))
 
 pub size-decided : Decided size.ended (λ M. size.clauses) (λ M. size.spec)
 size-decided x = decides (x .𝓤) (λ o o′ p q. (joined p q, refl))
 
 pub send-sized-decided : Decided send-sized.ended (λ M. send-sized.clauses) (λ M. send-sized.spec)
-send-sized-decided x = decides (x .𝓤) (λ o o′ p q. (ap (λ (z : Outcome). z .made) (joined p q), refl & refl & refl & refl & refl & refl & ap (λ (z : Outcome). z .buffer) (joined p q) & refl))
+send-sized-decided x = decides (x .𝓤) (λ o o′ p q. (ap (λ (z : Outcome). z .made) (joined p q), refl & refl & refl & refl & refl & refl & refl & ap (λ (z : Outcome). z .buffer) (joined p q) & refl))
 
 pub respond-accepted-decided : Decided respond-accepted.ended (λ M. respond-accepted.clauses) (λ M. respond-accepted.spec)
-respond-accepted-decided x = decides (x .𝓤) (λ o o′ p q. (ap (λ (z : Outcome). z .made) (joined p q), refl & refl & ap (λ (z : Outcome). z .buffer) (joined p q) & refl))
+respond-accepted-decided x = decides (x .𝓤) (λ o o′ p q. (ap (λ (z : Outcome). z .made) (joined p q), refl & refl & refl & ap (λ (z : Outcome). z .buffer) (joined p q) & refl))
 
 pub respond-decided : Decided respond.ended (λ M. respond.clauses) (λ M. respond.spec)
-respond-decided x = decides (x .𝓤) (λ o o′ p q. (ap (λ (z : Outcome). z .made) (joined p q), refl & refl & ap (λ (z : Outcome). z .buffer) (joined p q) & refl))
+respond-decided x = decides (x .𝓤) (λ o o′ p q. (ap (λ (z : Outcome). z .made) (joined p q), refl & refl & refl & ap (λ (z : Outcome). z .buffer) (joined p q) & refl))
 
 -- ---- reading
 
@@ -327,7 +331,7 @@ starts p = ap (λ (z : bench-specs.Buffers). z .starts) p
 pub bench-decided : Decided bench.ended (λ M. bench.clauses) (λ M. bench.spec)
 bench-decided x = decides (x .𝓤) (λ o o′ p q. (
   ap (λ (z : bench-specs.Ending). z .reply) (joined p q),
-  refl & refl & refl & response (ap (λ (z : bench-specs.Ending). z .buffers) (joined p q)) & collected (ap (λ (z : bench-specs.Ending). z .buffers) (joined p q)) & starts (ap (λ (z : bench-specs.Ending). z .buffers) (joined p q)) & refl,
+  refl & refl & refl & refl & response (ap (λ (z : bench-specs.Ending). z .buffers) (joined p q)) & collected (ap (λ (z : bench-specs.Ending). z .buffers) (joined p q)) & starts (ap (λ (z : bench-specs.Ending). z .buffers) (joined p q)) & refl,
 ))
 
 -- ---- checks
@@ -381,11 +385,20 @@ numbers {B} p = ap (λ (z : Left B). z .numbers) p
 pub gcf-check-sheet-decided : Decided gcf-check-sheet.ended (λ M. gcf-check-sheet.clauses) (λ M. gcf-check-sheet.spec)
 gcf-check-sheet-decided x = decides (x .𝓤) (λ o o′ p q. (number (joined p q), refl & numbers (joined p q) & refl))
 
+pub gcf-check-columns-decided : Decided gcf-check-columns.ended (λ M. gcf-check-columns.clauses) (λ M. gcf-check-columns.spec)
+gcf-check-columns-decided x = decides (x .𝓤) (λ o o′ p q. (number (joined p q), refl & numbers (joined p q) & refl))
+
 pub gcf-respond-decided : Decided gcf-respond.ended (λ M. gcf-respond.clauses) (λ M. gcf-respond.spec)
 gcf-respond-decided x = decides (x .𝓤) (λ o o′ p q. (number (joined p q), refl & refl & buffers (joined p q) & numbers (joined p q) & refl))
 
+pub gcf-respond-columns-decided : Decided gcf-respond-columns.ended (λ M. gcf-respond-columns.clauses) (λ M. gcf-respond-columns.spec)
+gcf-respond-columns-decided x = decides (x .𝓤) (λ o o′ p q. (number (joined p q), refl & refl & buffers (joined p q) & numbers (joined p q) & refl))
+
 pub gcf-respond-accepted-decided : Decided gcf-respond-accepted.ended (λ M. gcf-respond-accepted.clauses) (λ M. gcf-respond-accepted.spec)
 gcf-respond-accepted-decided x = decides (x .𝓤) (λ o o′ p q. (number (joined p q), refl & refl & buffers (joined p q) & numbers (joined p q) & refl))
+
+pub gcf-respond-columns-accepted-decided : Decided gcf-respond-columns-accepted.ended (λ M. gcf-respond-columns-accepted.clauses) (λ M. gcf-respond-columns-accepted.spec)
+gcf-respond-columns-accepted-decided x = decides (x .𝓤) (λ o o′ p q. (number (joined p q), refl & refl & buffers (joined p q) & numbers (joined p q) & refl))
 
 pub gcf-check-image-decided : Decided gcf-check-image.ended (λ M. gcf-check-image.clauses) (λ M. gcf-check-image.spec)
 gcf-check-image-decided x = decides (x .𝓤) (λ o o′ p q. (number (joined p q), refl & numbers (joined p q) & refl))
@@ -420,6 +433,12 @@ gcf-bench-decided x = decides (x .𝓤) (λ o o′ p q. (
   refl & refl & refl & response (buffers (joined p q)) & collected (buffers (joined p q)) & starts (buffers (joined p q)) & numbers (joined p q) & refl,
 ))
 
+pub gcf-bench-columns-decided : Decided gcf-bench-columns.ended (λ M. gcf-bench-columns.clauses) (λ M. gcf-bench-columns.spec)
+gcf-bench-columns-decided x = decides (x .𝓤) (λ o o′ p q. (
+  number (joined p q),
+  refl & refl & refl & response (buffers (joined p q)) & collected (buffers (joined p q)) & starts (buffers (joined p q)) & numbers (joined p q) & refl,
+))
+
 pub gcf-check-descriptors-decided : Decided gcf-check-descriptors.ended (λ M. gcf-check-descriptors.clauses) (λ M. gcf-check-descriptors.spec)
 gcf-check-descriptors-decided x = decides (x .𝓤) (λ o o′ p q. (number (joined p q), refl & numbers (joined p q) & refl))
 
@@ -428,6 +447,12 @@ gcf-check-profile-decided x = decides (x .𝓤) (λ o o′ p q. (number (joined 
 
 pub gcf-import-decided : Decided gcf-import.ended (λ M. gcf-import.clauses) (λ M. gcf-import.spec)
 gcf-import-decided x = decides (x .𝓤) (λ o o′ p q. (number (joined p q), refl & buffers (joined p q) & numbers (joined p q) & refl))
+
+pub gcf-to-rows-decided : Decided gcf-to-rows.ended (λ M. gcf-to-rows.clauses) (λ M. gcf-to-rows.spec)
+gcf-to-rows-decided x = decides (x .𝓤) (λ o o′ p q. (number (joined p q), refl & buffers (joined p q) & numbers (joined p q) & refl))
+
+pub gcf-to-columns-decided : Decided gcf-to-columns.ended (λ M. gcf-to-columns.clauses) (λ M. gcf-to-columns.spec)
+gcf-to-columns-decided x = decides (x .𝓤) (λ o o′ p q. (number (joined p q), refl & buffers (joined p q) & numbers (joined p q) & refl))
 
 pub gcf-make-sense-decided : Decided gcf-make-sense.ended (λ M. gcf-make-sense.clauses) (λ M. gcf-make-sense.spec)
 gcf-make-sense-decided x = decides (x .𝓤) (λ o o′ p q. (number (joined p q), refl & buffers (joined p q) & numbers (joined p q) & refl))

@@ -17,6 +17,8 @@ use Rattle.base.proofs.Decided.{Call, Outcome, allowed}
 use Rattle.text.specs.declared.Reading.{Reading}
 use Rattle.text.specs.Command.{rtOf, sfnOf, allocationOf, commandFault}
 use Rattle.refusal.proofs.First.{if-zero}
+use Rattle.layout.specs.declared.Layout.the-variants.{Rows}
+use Rattle.layout.specs.Layout.{Sheet, stored}
 use Rattle.sheet.specs.Check.{verdict, Accepted}
 use Rattle.sheet.specs.Meaning.{meaning}
 use Rattle.lent.specs.Maker as maker
@@ -46,7 +48,7 @@ two c e =
     let n : rtOf c ≡ 3 → ⊥ = eqb-false (rtOf c) 3 (if-zero _ _ _ (b .1) .0) in
     omega (arith, n)
 
-module _ {s c d : List ℕ} {o : maker.Outcome} (a : Answers s c d o) (z : o .made .refusal .number ≡ 0) where
+module _ {s : Sheet} {c d : List ℕ} {o : maker.Outcome} (a : Answers s c d o) (z : o .made .refusal .number ≡ 0) where
   -- a number that the answer would give is 0
   none : (n : ℕ) {x : maker.Outcome} → (n ≡ 0 → ⊥) → o ≡ x → x .made .refusal .number ≡ n → ⊥
   none n h e f = h (sym f ∙ sym (ap (λ (y : maker.Outcome). y .made .refusal .number) e) ∙ z)
@@ -76,7 +78,7 @@ module _ {s c d : List ℕ} {o : maker.Outcome} (a : Answers s c d o) (z : o .ma
   got = rw (a .sends sheet-fine command-fine room) (take-append-seam (due s c) (drop (length (due s c)) d))
 
   -- so a reading of them, as the answer to that command, gives back what the sheet has
-  pub read-back : {rt sfn : ℕ} {received : List ℕ} {r : Reading} → Reads 65534 rt sfn received r → Bytes s
+  pub read-back : {rt sfn : ℕ} {received : List ℕ} {r : Reading} → Reads 65534 rt sfn received r → Bytes (s .bytes)
       → 8 ≤ allocationOf c → rt ≡ rtOf c → sfn ≡ sfnOf c → received ≡ take (o .made .count) (o .buffer)
       → ReadBack (meaning s) 65534 (rtOf c) (sfnOf c) (allocationOf c) received r
   read-back {rt} {sfn} {received} {r} f b eight is-rt is-sfn there =
@@ -91,15 +93,15 @@ module _ (x : Call respond.ended (λ M. respond.clauses)) (κs : Lfts (read.ende
 
   pub demand2-end-to-end : (o : Outcome respond.ended (λ M. respond.clauses) x) (p : Outcome read.ended (λ M. read.clauses) reading-of)
       → ent (x .𝓤) (conj (x .𝓤) (allowed respond.ended (λ M. respond.clauses) x o) (allowed read.ended (λ M. read.clauses) reading-of p)) (fact (x .𝓤) (
-      o .0 .refusal .number ≡ 0 → Bytes (x .args .0 .now) → 8 ≤ allocationOf (x .args .1 .0 .now)
-      → args .0 ≡ rtOf (x .args .1 .0 .now) → args .1 .0 .0 ≡ sfnOf (x .args .1 .0 .now) → args .1 .1 .0 .now ≡ take (o .0 .count) (o .1 .1 .1 .0)
-      → ReadBack (meaning (x .args .0 .now)) 65534 (rtOf (x .args .1 .0 .now)) (sfnOf (x .args .1 .0 .now)) (allocationOf (x .args .1 .0 .now)) (args .1 .1 .0 .now) (p .0)))
+      o .0 .refusal .number ≡ 0 → Bytes (x .args .1 .0 .now) → 8 ≤ allocationOf (x .args .1 .1 .0 .now)
+      → args .0 ≡ rtOf (x .args .1 .1 .0 .now) → args .1 .0 .0 ≡ sfnOf (x .args .1 .1 .0 .now) → args .1 .1 .0 .now ≡ take (o .0 .count) (o .1 .1 .1 .1 .0)
+      → ReadBack (meaning (stored (x .args .0) (x .args .1 .0 .now))) 65534 (rtOf (x .args .1 .1 .0 .now)) (sfnOf (x .args .1 .1 .0 .now)) (allocationOf (x .args .1 .1 .0 .now)) (args .1 .1 .0 .now) (p .0)))
   demand2-end-to-end o p = both (x .𝓤) (λ e f z. read-back (by (Answers _ _ _) (demand2 _ _ _) e) z (by (Reads _ _ _ _) (reads _ _ _ _) f))
 
 -- ---- a captured response end to end: `import` is called, then `respond` with the sheet that it left and a command of RT 0 from 0
 
-replayed : {r d s c e : List ℕ} {o : maker.Outcome} {p : maker.Outcome} → Imports r d o → Answers s c e p → o .made .refusal .number ≡ 0 → Bytes r
-    → s ≡ take (o .made .count) (o .buffer) → commandFault c .number ≡ 0 → rtOf c ≡ 0 → sfnOf c ≡ 0 → length r ≤ allocationOf c → length r ≤ length e
+replayed : {r d : List ℕ} {s : Sheet} {c e : List ℕ} {o : maker.Outcome} {p : maker.Outcome} → Imports r d o → Answers s c e p → o .made .refusal .number ≡ 0 → Bytes r
+    → s ≡ stored Rows (take (o .made .count) (o .buffer)) → commandFault c .number ≡ 0 → rtOf c ≡ 0 → sfnOf c ≡ 0 → length r ≤ allocationOf c → length r ≤ length e
     → p ≡ maker.making r e
 replayed {r} {d} {s} {c} {e} i a z b there plain is-rt is-sfn enough fits =
     let x : due s c ≡ r = rw (there, is-rt, is-sfn) (i .stores b z .back (allocationOf c) enough) in
@@ -112,10 +114,10 @@ module _ (x : Call import.ended (λ M. import.clauses)) (κs : Lfts (respond.end
 
   pub import-end-to-end : (o : Outcome import.ended (λ M. import.clauses) x) (p : Outcome respond.ended (λ M. respond.clauses) answer)
       → ent (x .𝓤) (conj (x .𝓤) (allowed import.ended (λ M. import.clauses) x o) (allowed respond.ended (λ M. respond.clauses) answer p)) (fact (x .𝓤) (
-      o .0 .refusal .number ≡ 0 → Bytes (x .args .0 .now) → args .0 .now ≡ take (o .0 .count) (o .1 .1 .0)
-      → commandFault (args .1 .0 .now) .number ≡ 0 → rtOf (args .1 .0 .now) ≡ 0 → sfnOf (args .1 .0 .now) ≡ 0
-      → length (x .args .0 .now) ≤ allocationOf (args .1 .0 .now) → length (x .args .0 .now) ≤ length (args .1 .1 .0 .now)
-      → maker.outcome (p .0) (p .1 .1 .1 .0) ≡ maker.making (x .args .0 .now) (args .1 .1 .0 .now)))
+      o .0 .refusal .number ≡ 0 → Bytes (x .args .0 .now) → stored (args .0) (args .1 .0 .now) ≡ stored Rows (take (o .0 .count) (o .1 .1 .0))
+      → commandFault (args .1 .1 .0 .now) .number ≡ 0 → rtOf (args .1 .1 .0 .now) ≡ 0 → sfnOf (args .1 .1 .0 .now) ≡ 0
+      → length (x .args .0 .now) ≤ allocationOf (args .1 .1 .0 .now) → length (x .args .0 .now) ≤ length (args .1 .1 .1 .0 .now)
+      → maker.outcome (p .0) (p .1 .1 .1 .1 .0) ≡ maker.making (x .args .0 .now) (args .1 .1 .1 .0 .now)))
   import-end-to-end o p = both (x .𝓤) (λ e f. replayed (by (Imports _ _) (imports _ _) e) (by (Answers _ _ _) (demand2 _ _ _) f))
 
 -- ---- sense data end to end: `make` is called, then `read` with the bytes that it wrote
@@ -137,6 +139,6 @@ module _ (x : Call gcf-respond.ended (λ M. gcf-respond.clauses)) (κs : Lfts (r
 
   pub gcf-respond-same : (o : Outcome gcf-respond.ended (λ M. gcf-respond.clauses) x) (p : Outcome respond.ended (λ M. respond.clauses) direct)
       → ent (x .𝓤) (conj (x .𝓤) (allowed gcf-respond.ended (λ M. gcf-respond.clauses) x o) (allowed respond.ended (λ M. respond.clauses) direct p)) (fact (x .𝓤) (
-      args .0 .now ≡ x .args .0 .now → args .1 .0 .now ≡ x .args .1 .0 .now → args .1 .1 .0 .now ≡ x .args .1 .1 .0 .now
-      → left (o .0) (o .1 .1 .1 .0) (o .1 .1 .1 .1 .0) ≡ showPlaced (maker.outcome (p .0) (p .1 .1 .1 .0)) (x .args .1 .1 .1 .0 .now)))
+      stored (args .0) (args .1 .0 .now) ≡ stored Rows (x .args .0 .now) → args .1 .1 .0 .now ≡ x .args .1 .0 .now → args .1 .1 .1 .0 .now ≡ x .args .1 .1 .0 .now
+      → left (o .0) (o .1 .1 .1 .0) (o .1 .1 .1 .1 .0) ≡ showPlaced (maker.outcome (p .0) (p .1 .1 .1 .1 .0)) (x .args .1 .1 .1 .0 .now)))
   gcf-respond-same o p = both (x .𝓤) (λ e f a b c. e ∙ ap (λ (w : maker.Outcome). showPlaced w (x .args .1 .1 .1 .0 .now)) (sym (rw (← a, ← b, ← c) f)))

@@ -6,13 +6,18 @@ use Prim.Native.Nat.{ℕ, _<_, min}
 use lib.ListN.{length, take}
 use Rattle.lent.specs.Wrote.{Wrote}
 use Rattle.lent.proofs.Laws.{room-left}
+use Rattle.layout.specs.declared.Layout.the-variants.{Rows, Columns}
+use Rattle.layout.specs.Layout.{stored}
 use Rattle.bench.specs.Bench as bench
 use Rattle.sweep.specs.Sweep.{turn}
 use Rattle.abi.specs.Left.{left}
 use Rattle.abi.specs.Left as abi
 use Rattle.abi.proofs.gcf_check_sheet as gcf-check-sheet
+use Rattle.abi.proofs.gcf_check_columns as gcf-check-columns
 use Rattle.abi.proofs.gcf_respond as gcf-respond
+use Rattle.abi.proofs.gcf_respond_columns as gcf-respond-columns
 use Rattle.abi.proofs.gcf_respond_accepted as gcf-respond-accepted
+use Rattle.abi.proofs.gcf_respond_columns_accepted as gcf-respond-columns-accepted
 use Rattle.abi.proofs.gcf_check_image as gcf-check-image
 use Rattle.abi.proofs.gcf_respond_image as gcf-respond-image
 use Rattle.abi.proofs.gcf_respond_image_accepted as gcf-respond-image-accepted
@@ -23,9 +28,12 @@ use Rattle.abi.proofs.gcf_most as gcf-most
 use Rattle.abi.proofs.gcf_sweep_start as gcf-sweep-start
 use Rattle.abi.proofs.gcf_sweep_take as gcf-sweep-take
 use Rattle.abi.proofs.gcf_bench as gcf-bench
+use Rattle.abi.proofs.gcf_bench_columns as gcf-bench-columns
 use Rattle.abi.proofs.gcf_check_descriptors as gcf-check-descriptors
 use Rattle.abi.proofs.gcf_check_profile as gcf-check-profile
 use Rattle.abi.proofs.gcf_import as gcf-import
+use Rattle.abi.proofs.gcf_to_columns as gcf-to-columns
+use Rattle.abi.proofs.gcf_to_rows as gcf-to-rows
 use Rattle.abi.proofs.gcf_make_sense as gcf-make-sense
 use Rattle.abi.proofs.gcf_read_sense as gcf-read-sense
 use Rattle.base.proofs.Promise.{Promised, promises, by, Shows, shows}
@@ -39,23 +47,38 @@ use Rattle.demands.proofs.Steps.{Starts, starts, Takes, takes}
 use Rattle.demands.proofs.Sweeping.{Benches, benches}
 use Rattle.demands.proofs.Checking.{Finds, finds, Judges, judges}
 use Rattle.demands.proofs.Importing.{Imports, imports}
+use Rattle.demands.proofs.Converting.{Converts, converts}
 use Rattle.demands.proofs.Senses.{Makes, makes-sense, Senses, senses}
 
 -- ---- the box
 
 pub gcf-check-sheet-tied : Promised gcf-check-sheet.ended (λ M. gcf-check-sheet.clauses) (λ M. gcf-check-sheet.spec)
-    (λ x o. Shows (Checks (x .args .0 .now)) (λ z. abi.showVerdict z (x .args .1 .0 .now)) (left (o .0) tt (o .1 .1 .0)))
+    (λ x o. Shows (Checks (stored Rows (x .args .0 .now))) (λ z. abi.showVerdict z (x .args .1 .0 .now)) (left (o .0) tt (o .1 .1 .0)))
 gcf-check-sheet-tied x = promises (x .𝓤) (λ o. shows _ (checks _))
 
+pub gcf-check-columns-tied : Promised gcf-check-columns.ended (λ M. gcf-check-columns.clauses) (λ M. gcf-check-columns.spec)
+    (λ x o. Shows (Checks (stored Columns (x .args .0 .now))) (λ z. abi.showVerdict z (x .args .1 .0 .now)) (left (o .0) tt (o .1 .1 .0)))
+gcf-check-columns-tied x = promises (x .𝓤) (λ o. shows _ (checks _))
+
 pub gcf-respond-tied : Promised gcf-respond.ended (λ M. gcf-respond.clauses) (λ M. gcf-respond.spec)
-    (λ x o. Shows (Answers (x .args .0 .now) (x .args .1 .0 .now) (x .args .1 .1 .0 .now)) (λ z. abi.showPlaced z (x .args .1 .1 .1 .0 .now))
+    (λ x o. Shows (Answers (stored Rows (x .args .0 .now)) (x .args .1 .0 .now) (x .args .1 .1 .0 .now)) (λ z. abi.showPlaced z (x .args .1 .1 .1 .0 .now))
     (left (o .0) (o .1 .1 .1 .0) (o .1 .1 .1 .1 .0)))
 gcf-respond-tied x = promises (x .𝓤) (λ o. shows _ (demand2 _ _ _))
 
+pub gcf-respond-columns-tied : Promised gcf-respond-columns.ended (λ M. gcf-respond-columns.clauses) (λ M. gcf-respond-columns.spec)
+    (λ x o. Shows (Answers (stored Columns (x .args .0 .now)) (x .args .1 .0 .now) (x .args .1 .1 .0 .now)) (λ z. abi.showPlaced z (x .args .1 .1 .1 .0 .now))
+    (left (o .0) (o .1 .1 .1 .0) (o .1 .1 .1 .1 .0)))
+gcf-respond-columns-tied x = promises (x .𝓤) (λ o. shows _ (demand2 _ _ _))
+
 pub gcf-respond-accepted-tied : Promised gcf-respond-accepted.ended (λ M. gcf-respond-accepted.clauses) (λ M. gcf-respond-accepted.spec)
-    (λ x o. Shows (Trusts (x .args .0 .now) (x .args .1 .0 .now) (x .args .1 .1 .0 .now)) (λ z. abi.showMade z (x .args .1 .1 .1 .0 .now))
+    (λ x o. Shows (Trusts (stored Rows (x .args .0 .now)) (x .args .1 .0 .now) (x .args .1 .1 .0 .now)) (λ z. abi.showMade z (x .args .1 .1 .1 .0 .now))
     (left (o .0) (o .1 .1 .1 .0) (o .1 .1 .1 .1 .0)))
 gcf-respond-accepted-tied x = promises (x .𝓤) (λ o. shows _ (trusts _ _ _))
+
+pub gcf-respond-columns-accepted-tied : Promised gcf-respond-columns-accepted.ended (λ M. gcf-respond-columns-accepted.clauses) (λ M. gcf-respond-columns-accepted.spec)
+    (λ x o. Shows (Trusts (stored Columns (x .args .0 .now)) (x .args .1 .0 .now) (x .args .1 .1 .0 .now)) (λ z. abi.showMade z (x .args .1 .1 .1 .0 .now))
+    (left (o .0) (o .1 .1 .1 .0) (o .1 .1 .1 .1 .0)))
+gcf-respond-columns-accepted-tied x = promises (x .𝓤) (λ o. shows _ (trusts _ _ _))
 
 pub gcf-check-image-tied : Promised gcf-check-image.ended (λ M. gcf-check-image.clauses) (λ M. gcf-check-image.spec)
     (λ x o. Shows (ChecksImage (x .args .0 .now)) (λ z. abi.showVerdict z (x .args .1 .0 .now)) (left (o .0) tt (o .1 .1 .0)))
@@ -109,10 +132,17 @@ gcf-sweep-take-tied x = promises (x .𝓤) (λ o. by (Takes _ _ _) (takes _ _ _)
 
 pub gcf-bench-tied : Promised gcf-bench.ended (λ M. gcf-bench.clauses) (λ M. gcf-bench.spec)
     (λ x o. Shows
-    (Benches (x .args .0 .now) (x .args .1 .0) (x .args .1 .1 .0) (bench.buffers (x .args .1 .1 .1 .0 .now) (x .args .1 .1 .1 .1 .0 .now) (x .args .1 .1 .1 .1 .1 .0 .now)))
+    (Benches (stored Rows (x .args .0 .now)) (x .args .1 .0) (x .args .1 .1 .0) (bench.buffers (x .args .1 .1 .1 .0 .now) (x .args .1 .1 .1 .1 .0 .now) (x .args .1 .1 .1 .1 .1 .0 .now)))
     (λ z. abi.showBenched z (x .args .1 .1 .1 .1 .1 .1 .0 .now))
     (left (o .0) (bench.buffers (o .1 .1 .1 .1 .0) (o .1 .1 .1 .1 .1 .0) (o .1 .1 .1 .1 .1 .1 .0)) (o .1 .1 .1 .1 .1 .1 .1 .0)))
 gcf-bench-tied x = promises (x .𝓤) (λ o. shows _ (benches _ _ _ _))
+
+pub gcf-bench-columns-tied : Promised gcf-bench-columns.ended (λ M. gcf-bench-columns.clauses) (λ M. gcf-bench-columns.spec)
+    (λ x o. Shows
+    (Benches (stored Columns (x .args .0 .now)) (x .args .1 .0) (x .args .1 .1 .0) (bench.buffers (x .args .1 .1 .1 .0 .now) (x .args .1 .1 .1 .1 .0 .now) (x .args .1 .1 .1 .1 .1 .0 .now)))
+    (λ z. abi.showBenched z (x .args .1 .1 .1 .1 .1 .1 .0 .now))
+    (left (o .0) (bench.buffers (o .1 .1 .1 .1 .0) (o .1 .1 .1 .1 .1 .0) (o .1 .1 .1 .1 .1 .1 .0)) (o .1 .1 .1 .1 .1 .1 .1 .0)))
+gcf-bench-columns-tied x = promises (x .𝓤) (λ o. shows _ (benches _ _ _ _))
 
 -- ---- the checks and the import
 
@@ -127,6 +157,14 @@ gcf-check-profile-tied x = promises (x .𝓤) (λ o. shows _ (judges _ _))
 pub gcf-import-tied : Promised gcf-import.ended (λ M. gcf-import.clauses) (λ M. gcf-import.spec)
     (λ x o. Shows (Imports (x .args .0 .now) (x .args .1 .0 .now)) (λ z. abi.showPlaced z (x .args .1 .1 .0 .now)) (left (o .0) (o .1 .1 .0) (o .1 .1 .1 .0)))
 gcf-import-tied x = promises (x .𝓤) (λ o. shows _ (imports _ _))
+
+pub gcf-to-columns-tied : Promised gcf-to-columns.ended (λ M. gcf-to-columns.clauses) (λ M. gcf-to-columns.spec)
+    (λ x o. Shows (Converts Columns (stored Rows (x .args .0 .now)) (x .args .1 .0 .now)) (λ z. abi.showPlaced z (x .args .1 .1 .0 .now)) (left (o .0) (o .1 .1 .0) (o .1 .1 .1 .0)))
+gcf-to-columns-tied x = promises (x .𝓤) (λ o. shows _ (converts _ _ _))
+
+pub gcf-to-rows-tied : Promised gcf-to-rows.ended (λ M. gcf-to-rows.clauses) (λ M. gcf-to-rows.spec)
+    (λ x o. Shows (Converts Rows (stored Columns (x .args .0 .now)) (x .args .1 .0 .now)) (λ z. abi.showPlaced z (x .args .1 .1 .0 .now)) (left (o .0) (o .1 .1 .0) (o .1 .1 .1 .0)))
+gcf-to-rows-tied x = promises (x .𝓤) (λ o. shows _ (converts _ _ _))
 
 -- ---- sense
 

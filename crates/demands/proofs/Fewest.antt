@@ -13,6 +13,7 @@ use Rattle.text.specs.Response.{feature0, all, wants, selected}
 use Rattle.text.specs.Packing.{size}
 use Rattle.layout.specs.Layout as layout
 use Rattle.profiles.specs.Profiles as profiles
+use Rattle.layout.specs.Layout.{Sheet, stored}
 use Rattle.sheet.specs.Check.{Accepted}
 use Rattle.sheet.specs.Meaning.{desc, meaning}
 use Rattle.sheet.proofs.Meaning.{meaning-fine}
@@ -24,27 +25,27 @@ use Rattle.bench.proofs.bench as bench
 use Rattle.demands.specs.Recorder.{sheetE}
 use Rattle.demands.proofs.Sweeping.{demand3, bytesE, acceptedE}
 
-pub no-shorter : (s : List ℕ) (rt a : ℕ) (b : Buffers) → Bytes s → Accepted s → Premises (meaning s) rt a b
+pub no-shorter : (s : Sheet) (rt a : ℕ) (b : Buffers) → Bytes (s .bytes) → Accepted s → Premises (meaning s) rt a b
     → Fewest (meaning s) rt a (benched s rt a b)
 no-shorter s rt a b w ok p = bench-fewest.fewest-commands (meaning-fine s w ok .sound) rt a (p .kind) (p .eight) p (demand3 s rt a b w ok p)
 
 -- The same of every outcome that the contract of `bench::bench` allows.
 pub bench-no-shorter : Promised bench.ended (λ M. bench.clauses) (λ M. bench.spec)
-    (λ x o. Bytes (x .args .0 .now) → Accepted (x .args .0 .now)
-    → Premises (meaning (x .args .0 .now)) (x .args .1 .0) (x .args .1 .1 .0) (buffers (x .args .1 .1 .1 .0 .now) (x .args .1 .1 .1 .1 .0 .now) (x .args .1 .1 .1 .1 .1 .0 .now))
-    → Fewest (meaning (x .args .0 .now)) (x .args .1 .0) (x .args .1 .1 .0) (ending (o .0) (buffers (o .1 .1 .1 .1 .0) (o .1 .1 .1 .1 .1 .0) (o .1 .1 .1 .1 .1 .1 .0))))
+    (λ x o. Bytes (x .args .1 .0 .now) → Accepted (stored (x .args .0) (x .args .1 .0 .now))
+    → Premises (meaning (stored (x .args .0) (x .args .1 .0 .now))) (x .args .1 .1 .0) (x .args .1 .1 .1 .0) (buffers (x .args .1 .1 .1 .1 .0 .now) (x .args .1 .1 .1 .1 .1 .0 .now) (x .args .1 .1 .1 .1 .1 .1 .0 .now))
+    → Fewest (meaning (stored (x .args .0) (x .args .1 .0 .now))) (x .args .1 .1 .0) (x .args .1 .1 .1 .0) (ending (o .0) (buffers (o .1 .1 .1 .1 .1 .0) (o .1 .1 .1 .1 .1 .1 .0) (o .1 .1 .1 .1 .1 .1 .1 .0))))
 bench-no-shorter x = promises (x .𝓤) (λ o e w ok p. by (Fewest _ _ _) (no-shorter _ _ _ _ w ok p) e)
 
 -- ---- that the premises matter
 
 -- A descriptor of more than C - 8 bytes is received by no list of starts at all.
-pub too-long : (s : List ℕ) (rt a : ℕ) → Bytes s → Accepted s → rt < 2 → 8 ≤ a
+pub too-long : (s : Sheet) (rt a : ℕ) → Bytes (s .bytes) → Accepted s → rt < 2 → 8 ≤ a
     → (d : Desc) → room a < size d → (starts : List ℕ) → ReceivedBy (meaning s) rt a starts d → ⊥
 too-long s rt a w ok two eight = bench-fewest.too-long (meaning-fine s w ok .sound) rt a two eight
 
 -- So with sheet E and allocation length 19: 0000h has 12 bytes, and C - 8 is 11.
 pub none-for-E : (starts : List ℕ) → ReceivesAll (meaning sheetE) 0 19 starts → ⊥
-unfolding each flat keep field spell profileBytes feature0 all wants selected layout.featureCount layout.profileCount layout.number layout.flags layout.bodyLength layout.offset layout.profilesPart profiles.profileNumber profiles.profileCurrent profiles.listed profiles.profilesOf desc meaning sheetE
+unfolding each flat keep field spell profileBytes feature0 all wants selected layout.features layout.profiles layout.numberPlace layout.flagsPlace layout.lengthPlace layout.offsetPlace layout.number layout.flags layout.bodyLength layout.offset layout.profilesIn profiles.profileNumber profiles.profileCurrent profiles.listed profiles.profilesOf desc meaning sheetE
 none-for-E starts c = too-long sheetE 0 19 bytesE acceptedE (omega arith) (omega arith) (feature0 (meaning sheetE .profiles)) (omega arith) starts (c .0)
 
 -- The manual's counts for sheet E: with allocation length 20 four commands, with 28 and 43 two, with 44 one.
@@ -52,5 +53,5 @@ pub fewestE : (fewest (room 20) (map size (selected 0 0 (meaning sheetE))) ≡ 4
     × (fewest (room 28) (map size (selected 0 0 (meaning sheetE))) ≡ 2)
     × (fewest (room 43) (map size (selected 0 0 (meaning sheetE))) ≡ 2)
     × (fewest (room 44) (map size (selected 0 0 (meaning sheetE))) ≡ 1)
-unfolding fewestFrom each flat keep field spell profileBytes feature0 all wants selected layout.featureCount layout.profileCount layout.number layout.flags layout.bodyLength layout.offset layout.profilesPart profiles.profileNumber profiles.profileCurrent profiles.listed profiles.profilesOf desc meaning sheetE
+unfolding fewestFrom each flat keep field spell profileBytes feature0 all wants selected layout.features layout.profiles layout.numberPlace layout.flagsPlace layout.lengthPlace layout.offsetPlace layout.number layout.flags layout.bodyLength layout.offset layout.profilesIn profiles.profileNumber profiles.profileCurrent profiles.listed profiles.profilesOf desc meaning sheetE
 fewestE = (refl, refl, refl, refl)

@@ -2,7 +2,7 @@
 use mathlib.Core.Path.{_≡_}
 use mathlib.Core.List.{[], _∷_}
 use lib.Dec.{eqb}
-use Prim.Native.Nat.{_+_}
+use Prim.Native.Nat.{_+_, _*_}
 use lib.ListN.{length, take, drop, getD, replicate}
 use Rattle.base.proofs.Promise.{Promised, promises}
 use Rattle.fields.specs.Field.{field, spell}
@@ -17,6 +17,7 @@ use Rattle.text.specs.Reading.{numberAt, flagsAt, lengthAt, descAt}
 use Rattle.reading.specs.Places.{nextAt}
 use Rattle.reading.specs.Completed.{completed}
 use Rattle.reading.specs.Judged.{judged}
+use Rattle.layout.specs.Layout.{stored}
 use Rattle.layout.specs.Layout as layout
 use Rattle.sheet.specs.Check.{flagsRule, endBefore}
 use Rattle.sheet.specs.inner.Search.{firstFrom, nextFrom}
@@ -48,13 +49,11 @@ use Rattle.layout.proofs.feature_count as feature-count
 use Rattle.layout.proofs.profile_count as profile-count
 use Rattle.layout.proofs.profiles_behind as profiles-behind
 use Rattle.layout.proofs.bodies_at as bodies-at
-use Rattle.layout.proofs.entry_end as entry-end
 use Rattle.layout.proofs.feature_at as feature-at
 use Rattle.layout.proofs.flags_at as flags-at
 use Rattle.layout.proofs.length_at as length-at
 use Rattle.layout.proofs.offset_at as offset-at
 use Rattle.layout.proofs.put_counts as put-counts
-use Rattle.layout.proofs.put_entry as put-entry
 use Rattle.layout.proofs.profiles_part as profiles-part
 use Rattle.sheet.proofs.end_before as end-before
 use Rattle.sheet.proofs.flags_rule as flags-rule
@@ -152,43 +151,36 @@ profiles-current-tied x = promises (x .𝓤) (λ o e. e)
 
 -- ---- layout
 
-pub feature-count-tied : Promised feature-count.ended (λ M. feature-count.clauses) (λ M. feature-count.spec) (λ x o. o .0 ≡ layout.featureCount (x .args .0 .now))
+pub feature-count-tied : Promised feature-count.ended (λ M. feature-count.clauses) (λ M. feature-count.spec) (λ x o. o .0 ≡ layout.features (x .args .0 .now))
 feature-count-tied x = promises (x .𝓤) (λ o e. e)
 
-pub profile-count-tied : Promised profile-count.ended (λ M. profile-count.clauses) (λ M. profile-count.spec) (λ x o. o .0 ≡ layout.profileCount (x .args .0 .now))
+pub profile-count-tied : Promised profile-count.ended (λ M. profile-count.clauses) (λ M. profile-count.spec) (λ x o. o .0 ≡ layout.profiles (x .args .0 .now))
 profile-count-tied x = promises (x .𝓤) (λ o e. e)
 
 pub profiles-behind-tied : Promised profiles-behind.ended (λ M. profiles-behind.clauses) (λ M. profiles-behind.spec) (λ x o. o .0 ≡ layout.profilesBehind (x .args .0))
 profiles-behind-tied x = promises (x .𝓤) (λ o e. e)
 
-pub bodies-at-tied : Promised bodies-at.ended (λ M. bodies-at.clauses) (λ M. bodies-at.spec) (λ x o. o .0 ≡ layout.bodiesAt (x .args .0 .now))
+pub bodies-at-tied : Promised bodies-at.ended (λ M. bodies-at.clauses) (λ M. bodies-at.spec) (λ x o. o .0 ≡ layout.profilesBehind (layout.features (x .args .0 .now)) + 4 * layout.profiles (x .args .0 .now))
 bodies-at-tied x = promises (x .𝓤) (λ o e. e)
 
-pub entry-end-tied : Promised entry-end.ended (λ M. entry-end.clauses) (λ M. entry-end.spec) (λ x o. o .0 ≡ layout.entryAt (x .args .0) + 8)
-entry-end-tied x = promises (x .𝓤) (λ o e. e)
-
-pub feature-at-tied : Promised feature-at.ended (λ M. feature-at.clauses) (λ M. feature-at.spec) (λ x o. o .0 .0 ≡ layout.number (x .args .0 .now) (x .args .1 .0))
+pub feature-at-tied : Promised feature-at.ended (λ M. feature-at.clauses) (λ M. feature-at.spec) (λ x o. o .0 .0 ≡ layout.number (stored (x .args .0) (x .args .1 .0 .now)) (x .args .1 .1 .0))
 feature-at-tied x = promises (x .𝓤) (λ o e. e)
 
-pub flags-at-tied : Promised flags-at.ended (λ M. flags-at.clauses) (λ M. flags-at.spec) (λ x o. o .0 .0 ≡ layout.flags (x .args .0 .now) (x .args .1 .0))
+pub flags-at-tied : Promised flags-at.ended (λ M. flags-at.clauses) (λ M. flags-at.spec) (λ x o. o .0 .0 ≡ layout.flags (stored (x .args .0) (x .args .1 .0 .now)) (x .args .1 .1 .0))
 flags-at-tied x = promises (x .𝓤) (λ o e. e)
 
-pub length-at-tied : Promised length-at.ended (λ M. length-at.clauses) (λ M. length-at.spec) (λ x o. o .0 ≡ layout.bodyLength (x .args .0 .now) (x .args .1 .0))
+pub length-at-tied : Promised length-at.ended (λ M. length-at.clauses) (λ M. length-at.spec) (λ x o. o .0 ≡ layout.bodyLength (stored (x .args .0) (x .args .1 .0 .now)) (x .args .1 .1 .0))
 length-at-tied x = promises (x .𝓤) (λ o e. e)
 
-pub offset-at-tied : Promised offset-at.ended (λ M. offset-at.clauses) (λ M. offset-at.spec) (λ x o. o .0 ≡ layout.offset (x .args .0 .now) (x .args .1 .0))
+pub offset-at-tied : Promised offset-at.ended (λ M. offset-at.clauses) (λ M. offset-at.spec) (λ x o. o .0 ≡ layout.offset (stored (x .args .0) (x .args .1 .0 .now)) (x .args .1 .1 .0))
 offset-at-tied x = promises (x .𝓤) (λ o e. e)
 
 pub put-counts-tied : Promised put-counts.ended (λ M. put-counts.clauses) (λ M. put-counts.spec)
     (λ x o. Wrote (x .args .0 .now) 0 (layout.countsBytes (x .args .1 .0) (x .args .1 .1 .0)) (o .0) (o .1 .0))
 put-counts-tied x = promises (x .𝓤) (λ o e. e)
 
-pub put-entry-tied : Promised put-entry.ended (λ M. put-entry.clauses) (λ M. put-entry.spec)
-    (λ x o. Wrote (x .args .0 .now) (x .args .1 .0) (layout.entryBytes (x .args .1 .1 .0 .0) (x .args .1 .1 .1 .0 .0) (x .args .1 .1 .1 .1 .0) (x .args .1 .1 .1 .1 .1 .0)) (o .0) (o .1 .0))
-put-entry-tied x = promises (x .𝓤) (λ o e. e)
-
 pub profiles-part-tied : Promised profiles-part.ended (λ M. profiles-part.clauses) (λ M. profiles-part.spec)
-    (λ x o. PartOf (x .args .0) (layout.profilesAt (x .args .0 .now)) (layout.profilesPart (x .args .0 .now)) (o .0))
+    (λ x o. PartOf (x .args .0) (layout.profilesBehind (layout.features (x .args .0 .now))) (layout.profilesIn (x .args .0 .now)) (o .0))
 profiles-part-tied x = promises (x .𝓤) (λ o e. e)
 
 -- ---- sheet
@@ -196,14 +188,14 @@ profiles-part-tied x = promises (x .𝓤) (λ o e. e)
 pub flags-rule-tied : Promised flags-rule.ended (λ M. flags-rule.clauses) (λ M. flags-rule.spec) (λ x o. o .0 ≡ flagsRule (x .args .0 .0))
 flags-rule-tied x = promises (x .𝓤) (λ o e. e)
 
-pub end-before-tied : Promised end-before.ended (λ M. end-before.clauses) (λ M. end-before.spec) (λ x o. o .0 ≡ endBefore (x .args .0 .now) (x .args .1 .0))
+pub end-before-tied : Promised end-before.ended (λ M. end-before.clauses) (λ M. end-before.spec) (λ x o. o .0 ≡ endBefore (stored (x .args .0) (x .args .1 .0 .now)) (x .args .1 .1 .0))
 end-before-tied x = promises (x .𝓤) (λ o e. e)
 
-pub first-from-tied : Promised first-from.ended (λ M. first-from.clauses) (λ M. first-from.spec) (λ x o. o .0 ≡ firstFrom (x .args .0 .now) (x .args .1 .0) (x .args .1 .1 .0 .0))
+pub first-from-tied : Promised first-from.ended (λ M. first-from.clauses) (λ M. first-from.spec) (λ x o. o .0 ≡ firstFrom (stored (x .args .0) (x .args .1 .0 .now)) (x .args .1 .1 .0) (x .args .1 .1 .1 .0 .0))
 first-from-tied x = promises (x .𝓤) (λ o e. e)
 
 pub next-from-tied : Promised next-from.ended (λ M. next-from.clauses) (λ M. next-from.spec)
-    (λ x o. o .0 ≡ nextFrom (x .args .0 .now) (x .args .1 .0) (x .args .1 .1 .0 .0) (x .args .1 .1 .1 .0))
+    (λ x o. o .0 ≡ nextFrom (stored (x .args .0) (x .args .1 .0 .now)) (x .args .1 .1 .0) (x .args .1 .1 .1 .0 .0) (x .args .1 .1 .1 .1 .0))
 next-from-tied x = promises (x .𝓤) (λ o e. e)
 
 -- ---- reading

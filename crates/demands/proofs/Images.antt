@@ -23,6 +23,9 @@ use Rattle.lent.proofs.Maker.{makes-fault, makes-number}
 use Rattle.text.specs.Command.{commandFault, rtOf, sfnOf, allocationOf}
 use Rattle.text.specs.Drive.{Drive}
 use Rattle.text.specs.Response.{sent}
+use Rattle.layout.specs.declared.Layout.the-variants.{Rows}
+use Rattle.layout.specs.Layout.{Sheet, sheetSize}
+use Rattle.layout.specs.Layout as layout
 use Rattle.sheet.specs.Check.{verdict}
 use Rattle.responder.specs.Answer.{commanded, answered}
 use Rattle.responder.proofs.Trusting as responder
@@ -91,19 +94,19 @@ pub record Agrees (imports : Refusal) (sheet image : maker.Outcome) : Type 0 whe
   pub same : imports .number ≡ 0 → image ≡ sheet
   pub refused : (imports .number ≡ 0 → ⊥) → (imports .number ≡ 42 → ⊥) → image .made .refusal ≡ imports
 
-agree : (i d c e : List ℕ) → Bytes i → (o : maker.Outcome) → o ≡ imported i d → (s : List ℕ) → s ≡ take (o .made .count) (o .buffer)
+agree : (i d c e : List ℕ) → Bytes i → (o : maker.Outcome) → o ≡ imported i d → (s : Sheet) → s ≡ layout.stored Rows (take (o .made .count) (o .buffer))
     → Agrees (o .made .refusal) (answered s c e) (imageAnswered i c e)
 unfolding imported maker.refusing _if_else_
 agree i d c e b o q s there = record {
   same = λ z.
       let w : imported i d .made .refusal .number ≡ 0 = sym (ap (λ (x : maker.Outcome). x .made .refusal .number) q) ∙ z in
-      let x : s ≡ sheetFrom i = there ∙ ap (λ (y : maker.Outcome). take (y .made .count) (y .buffer)) q ∙ stored i d b w .sheet in
+      let x : s ≡ sheetFrom i = there ∙ ap (λ (y : maker.Outcome). layout.stored Rows (take (y .made .count) (y .buffer))) q ∙ stored i d b w .sheet in
       rw x (images i c e .same b (imported-zero i d w .0));
   refused = λ h k. go (captureFault i .number) refl h k;
 }
   where
     go : (n : ℕ) → captureFault i .number ≡ n → (o .made .refusal .number ≡ 0 → ⊥) → (o .made .refusal .number ≡ 42 → ⊥) → imageAnswered i c e .made .refusal ≡ o .made .refusal
-    go zero z h k = absurd (only (ltb (length d) (length (sheetFrom i))) (ap (λ (x : maker.Outcome). x .made .refusal .number) q ∙ makes-number (captureFault i) 42 (sheetFrom i) d ∙ ap (λ (r : Refusal). r .number) (orElse-none (captureFault i) _ z)))
+    go zero z h k = absurd (only (ltb (length d) (sheetSize (sheetFrom i))) (ap (λ (x : maker.Outcome). x .made .refusal .number) q ∙ makes-number (captureFault i) 42 (sheetFrom i .bytes) d ∙ ap (λ (r : Refusal). r .number) (orElse-none (captureFault i) _ z)))
       where
         only : (x : Bool) → o .made .refusal .number ≡ (refuse 42 if x else accept) .number → ⊥
         only true p = k p
@@ -111,7 +114,7 @@ agree i d c e b o q s there = record {
     go (suc n) z h k =
         let f : captureFault i .number ≡ 0 → ⊥ = λ y. omega arith in
         ap (λ (x : maker.Outcome). x .made .refusal) (images i c e .refuses f)
-        ∙ sym (ap (λ (x : maker.Outcome). x .made .refusal) (q ∙ makes-fault (captureFault i) 42 (sheetFrom i) d f))
+        ∙ sym (ap (λ (x : maker.Outcome). x .made .refusal) (q ∙ makes-fault (captureFault i) 42 (sheetFrom i .bytes) d f))
 
 pair : {φ ψ : Type 0} → φ → ψ → φ × ψ
 pair f g = (f, g)
@@ -128,11 +131,11 @@ module _ (x : Call import.ended (λ M. import.clauses)) (κs : Lfts (respond.end
       (r : Outcome rom-respond.ended (λ M. rom-respond.clauses) by-image)
       → ent (x .𝓤) (conj (x .𝓤) (allowed import.ended (λ M. import.clauses) x o)
       (conj (x .𝓤) (allowed respond.ended (λ M. respond.clauses) by-sheet p) (allowed rom-respond.ended (λ M. rom-respond.clauses) by-image r))) (fact (x .𝓤) (
-      Bytes (x .args .0 .now) → args₂ .0 .now ≡ x .args .0 .now → args .0 .now ≡ take (o .0 .count) (o .1 .1 .0)
-      → args₂ .1 .0 .now ≡ args .1 .0 .now → args₂ .1 .1 .0 .now ≡ args .1 .1 .0 .now
-      → Agrees (o .0 .refusal) (maker.outcome (p .0) (p .1 .1 .1 .0)) (maker.outcome (r .0) (r .1 .1 .1 .0))))
+      Bytes (x .args .0 .now) → args₂ .0 .now ≡ x .args .0 .now → layout.stored (args .0) (args .1 .0 .now) ≡ layout.stored Rows (take (o .0 .count) (o .1 .1 .0))
+      → args₂ .1 .0 .now ≡ args .1 .1 .0 .now → args₂ .1 .1 .0 .now ≡ args .1 .1 .1 .0 .now
+      → Agrees (o .0 .refusal) (maker.outcome (p .0) (p .1 .1 .1 .1 .0)) (maker.outcome (r .0) (r .1 .1 .1 .0))))
   rom-end-to-end o p r =
       via (x .𝓤) _ (conj-mono (x .𝓤) (id⊢ (x .𝓤) _) (both (x .𝓤) pair))
       (both (x .𝓤) (λ q fg b is-image there is-command is-buffer.
-      let a = agree (x .args .0 .now) (x .args .1 .0 .now) (args .1 .0 .now) (args .1 .1 .0 .now) b (maker.outcome (o .0) (o .1 .1 .0)) q (args .0 .now) there in
+      let a = agree (x .args .0 .now) (x .args .1 .0 .now) (args .1 .1 .0 .now) (args .1 .1 .1 .0 .now) b (maker.outcome (o .0) (o .1 .1 .0)) q (layout.stored (args .0) (args .1 .0 .now)) there in
       rw (fg .0, rw (is-image, is-command, is-buffer) at (fg .1)) a))

@@ -20,10 +20,14 @@ use Rattle.text.specs.Reading as text
 use Rattle.text.proofs.Sent.{sent-whole}
 use Rattle.layout.specs.Layout as layout
 use Rattle.profiles.specs.Profiles as profiles
+use Rattle.layout.specs.declared.Layout.the-variants.{Rows}
+use Rattle.layout.specs.Layout.{Sheet, sheetSize}
+use Rattle.layout.specs.Contents.{rowBytes, contents, laid}
+use Rattle.layout.proofs.Laid.{laid-own, laid-length}
+use Rattle.sheet.proofs.Same.{accepted-room, laid-of}
 use Rattle.sheet.specs.Check.{flagsRule, Accepted}
-use Rattle.sheet.specs.Meaning.{desc, meaning, contents, sheetOf}
+use Rattle.sheet.specs.Meaning.{desc, meaning, entriesOf, sheetOf}
 use Rattle.sheet.proofs.Meaning.{meaning-fine}
-use Rattle.sheet.proofs.Build.{sheet-back}
 use Rattle.responder.specs.Answer as box
 use Rattle.bench.specs.Bench.{Buffers, benched}
 use Rattle.bench.specs.Swept.{Premises, Swept, Ended}
@@ -46,25 +50,29 @@ use Rattle.demands.proofs.Sending.{demand2}
 use Rattle.demands.proofs.Readings.{ReadBack, demand2-own}
 use Rattle.demands.proofs.Sweeping.{demand3, ends, bytesE, acceptedE}
 
+-- the sheet in rows that stands at the front of the buffer, of an outcome o
+abbrev pub leftIn : Outcome → Sheet
+leftIn o = layout.stored Rows (take (o .made .count) (o .buffer))
+
 -- The sheet that stands in the buffer where import answers 0, of an outcome o: it is the one made of the response r, it means the drive that r
 -- describes, Versions and all, it is accepted, and the box gives back the captured bytes from it.
 pub record Stored (r : List ℕ) (o : Outcome) : Type 0 where
-  pub sheet : take (o .made .count) (o .buffer) ≡ sheetFrom r
-  pub means : meaning (take (o .made .count) (o .buffer)) ≡ captured (descs r)
-  pub accepted : Accepted (take (o .made .count) (o .buffer))
-  pub back : (a : ℕ) → length r ≤ a → sent 0 0 a (meaning (take (o .made .count) (o .buffer))) ≡ r
+  pub sheet : leftIn o ≡ sheetFrom r
+  pub means : meaning (leftIn o) ≡ captured (descs r)
+  pub accepted : Accepted (leftIn o)
+  pub back : (a : ℕ) → length r ≤ a → sent 0 0 a (meaning (leftIn o)) ≡ r
 
 -- Of an outcome o of the response r and the buffer d: for a response that is not refused and a buffer with room for its sheet, exactly the sheet, and
 -- nothing behind it changes; for anything else the first refusal, in the paper's order, the count 0, "the buffer is unchanged". A sheet whose full
--- response fits 65,532 bytes comes back from it unchanged.
+-- response fits 65,532 bytes comes back from it unchanged, in rows.
 pub record Imports (r d : List ℕ) (o : Outcome) : Type 0 where
-  pub writes : captureFault r .number ≡ 0 → length (sheetFrom r) ≤ length d
-      → o ≡ making (sheetFrom r) d
+  pub writes : captureFault r .number ≡ 0 → sheetSize (sheetFrom r) ≤ length d
+      → o ≡ making (sheetFrom r .bytes) d
   pub refuses-capture : (captureFault r .number ≡ 0 → ⊥) → o ≡ refusing d (captureFault r)
-  pub refuses-room : captureFault r .number ≡ 0 → length d < length (sheetFrom r) → o ≡ refusing d (refuse 42)
+  pub refuses-room : captureFault r .number ≡ 0 → length d < sheetSize (sheetFrom r) → o ≡ refusing d (refuse 42)
   pub stores : Bytes r → o .made .refusal .number ≡ 0 → Stored r o
-  pub unchanged : (s : List ℕ) → Bytes s → Accepted s → length (full 0 0 (meaning s)) ≤ 65532 → length s ≤ length d → r ≡ full 0 0 (meaning s)
-      → o ≡ making s d
+  pub unchanged : (s : Sheet) → Bytes (s .bytes) → Accepted s → length (full 0 0 (meaning s)) ≤ 65532 → sheetSize s ≤ length d → r ≡ full 0 0 (meaning s)
+      → o ≡ making (laid Rows s .bytes) d
 
 -- ---- an imported sheet is a sheet
 
@@ -84,13 +92,18 @@ replayed r b e a l =
     let f : full 0 0 (meaning (sheetFrom r)) ≡ r = from-full r b e in
     sent-whole 0 0 a (meaning (sheetFrom r)) (rw f (captured-short r e)) (rw f l) ∙ f
 
+in-rows : (r : List ℕ) {b : List ℕ} → b ≡ sheetFrom r .bytes → layout.stored Rows b ≡ sheetFrom r
+unfolding sheetFrom sheetOf
+in-rows r e = ap (layout.stored Rows) e
+
 -- Such a sheet is what stands in the buffer when import answers 0.
 pub stored : (r d : List ℕ) → Bytes r → imported r d .made .refusal .number ≡ 0 → Stored r (imported r d)
 unfolding making
 stored r d b e =
     let z = imported-zero r d e in
-    let x : take (imported r d .made .count) (imported r d .buffer) ≡ sheetFrom r =
-    rw (imported-written r d (z .0) (z .1)) (take-append-seam (sheetFrom r) (drop (length (sheetFrom r)) d)) in
+    let t : take (imported r d .made .count) (imported r d .buffer) ≡ sheetFrom r .bytes =
+    rw (imported-written r d (z .0) (z .1)) (take-append-seam (sheetFrom r .bytes) (drop (sheetSize (sheetFrom r)) d)) in
+    let x : leftIn (imported r d) ≡ sheetFrom r = in-rows r t in
     record { sheet = x; means = rw x (imported-means r b (z .0)); accepted = rw x (imported-accepted r b (z .0)); back = rw x (replayed r b (z .0)) }
 
 -- So the box's answer to any such command, into a buffer with room for them, is no refusal, their count, and these bytes.
@@ -127,25 +140,25 @@ replayed-command r d b e a l m room =
 -- And so it does from the sheet that stands in the buffer when import answers 0.
 pub replayed-stored : (r d c e : List ℕ) → Bytes r → imported r d .made .refusal .number ≡ 0
     → commandFault c .number ≡ 0 → rtOf c ≡ 0 → sfnOf c ≡ 0 → length r ≤ allocationOf c → length r ≤ length e
-    → box.answered (take (imported r d .made .count) (imported r d .buffer)) c e ≡ making r e
+    → box.answered (leftIn (imported r d)) c e ≡ making r e
 replayed-stored r d c e b z = rw (stored r d b z .sheet) (replayed-answer r c e b (imported-zero r d z .0))
 
 -- ---- "a sheet whose full response fits 65,532 bytes must come back from its own response unchanged"
 
--- Its full response to RT 0 from 0 is not refused, and the sheet made of it is the sheet itself.
-pub unchanged : (s : List ℕ) → Bytes s → Accepted s → length (full 0 0 (meaning s)) ≤ 65532
-    → (captureFault (full 0 0 (meaning s)) ≡ accept) × (sheetFrom (full 0 0 (meaning s)) ≡ s)
+-- Its full response to RT 0 from 0 is not refused, and the sheet made of it is the sheet itself, in rows.
+pub unchanged : (s : Sheet) → Bytes (s .bytes) → Accepted s → length (full 0 0 (meaning s)) ≤ 65532
+    → (captureFault (full 0 0 (meaning s)) ≡ accept) × (sheetFrom (full 0 0 (meaning s)) ≡ laid Rows s)
 unchanged s b ok l =
     let f = meaning-fine s b ok in
-    (own-accepted f (omega arith), own-sheet f (omega arith) ∙ sheet-back s b ok)
+    (own-accepted f (omega arith), own-sheet f (omega arith) ∙ laid-of Rows s b ok)
 
 -- So import answers with no refusal and the sheet's length, and the sheet stands at the front of a buffer with room for it.
-pub unchanged-import : (s d : List ℕ) → Bytes s → Accepted s → length (full 0 0 (meaning s)) ≤ 65532 → length s ≤ length d
-    → imported (full 0 0 (meaning s)) d ≡ making s d
+pub unchanged-import : (s : Sheet) (d : List ℕ) → Bytes (s .bytes) → Accepted s → length (full 0 0 (meaning s)) ≤ 65532 → sheetSize s ≤ length d
+    → imported (full 0 0 (meaning s)) d ≡ making (laid Rows s .bytes) d
 unchanged-import s d b ok l room =
     let u = unchanged s b ok l in
-    imported-written (full 0 0 (meaning s)) d (ap (λ r. r .number) (u .0)) (rw (u .1) room)
-    ∙ ap (λ (x : List ℕ). making x d) (u .1)
+    imported-written (full 0 0 (meaning s)) d (ap (λ r. r .number) (u .0)) (rw (u .1) (omega (arith, laid-length Rows s b (accepted-room s b ok))))
+    ∙ ap (λ (x : Sheet). making (x .bytes) d) (u .1)
 
 -- ---- all of it
 
@@ -208,15 +221,17 @@ pub each-number :
     × (number (0 ∷ 0 ∷ 0 ∷ 12 ∷ 0 ∷ 0 ∷ 0 ∷ 0 ∷ 0 ∷ 0 ∷ 3 ∷ 0 ∷ 0 ∷ 1 ∷ 2 ∷ 0 ∷ []) [] ≡ 44)
     × (number (0 ∷ 0 ∷ 0 ∷ 8 ∷ 0 ∷ 0 ∷ 0 ∷ 0 ∷ 0 ∷ 0 ∷ 3 ∷ 0 ∷ []) (0 ∷ 0 ∷ 0 ∷ []) ≡ 42)
     × (number (0 ∷ 0 ∷ 0 ∷ 8 ∷ 0 ∷ 0 ∷ 0 ∷ 0 ∷ 0 ∷ 0 ∷ 3 ∷ 0 ∷ []) (0 ∷ 0 ∷ 0 ∷ 0 ∷ []) ≡ 0)
-unfolding each flat field spell _if_else_ pickZero _orElse_ firstOf placed profileBytes currentProfile text.statedLength text.statedProfile text.headerRule text.headRule text.numberAt text.flagsAt text.lengthAt text.descAt text.headFault text.walk text.walked text.readFault text.wholes profiles.profileNumber profiles.profileCurrent profiles.profileLast profiles.listed profiles.profilesOf profiles.lists profiles.recordRule profiles.recordFault profiles.recordsFault flagsRule flags.flagsGiving layout.entryBytes contents sheetOf capture.captured capture.ownRule capture.flagsFaults capture.sheetRule completed.completeFault capture.captureFault import.sheetFrom unless refusing making makes import.imported
+unfolding each flat field spell _if_else_ pickZero _orElse_ firstOf placed profileBytes currentProfile text.statedLength text.statedProfile text.headerRule text.headRule text.numberAt text.flagsAt text.lengthAt text.descAt text.headFault text.walk text.walked text.readFault text.wholes profiles.profileNumber profiles.profileCurrent profiles.profileLast profiles.listed profiles.profilesOf profiles.lists profiles.recordRule profiles.recordFault profiles.recordsFault flagsRule flags.flagsGiving rowBytes contents entriesOf sheetOf capture.captured capture.ownRule capture.flagsFaults capture.sheetRule completed.completeFault capture.captureFault import.sheetFrom unless refusing making makes import.imported
 each-number = (refl, refl, refl, refl, refl, refl, refl, refl, refl, refl, refl, refl, refl)
 
 -- ---- the premises can be met: the full response of sheet E, 44 bytes, and a buffer of 52
 
 fitsE : length (full 0 0 (meaning sheetE)) ≡ 44
-unfolding each flat keep field spell profileBytes bytes feature0 all wants selected currentProfile header dataLength full layout.featureCount layout.profileCount layout.number layout.flags layout.bodyLength layout.offset layout.profilesPart profiles.profileNumber profiles.profileCurrent profiles.listed profiles.profilesOf desc meaning sheetE
+unfolding each flat keep field spell profileBytes bytes feature0 all wants selected currentProfile header dataLength full layout.features layout.profiles layout.numberPlace layout.flagsPlace layout.lengthPlace layout.offsetPlace layout.number layout.flags layout.bodyLength layout.offset layout.profilesIn profiles.profileNumber profiles.profileCurrent profiles.listed profiles.profilesOf desc meaning sheetE
 fitsE = refl
 
-pub importedE : imported (full 0 0 (meaning sheetE)) (replicate 52 0) ≡ outcome (written 52) sheetE
+pub importedE : imported (full 0 0 (meaning sheetE)) (replicate 52 0) ≡ outcome (written 52) (sheetE .bytes)
 unfolding sheetE making
-importedE = unchanged-import sheetE (replicate 52 0) bytesE acceptedE (omega (arith, fitsE)) (omega arith)
+importedE =
+    unchanged-import sheetE (replicate 52 0) bytesE acceptedE (omega (arith, fitsE)) (omega arith)
+    ∙ ap (λ (x : Sheet). making (x .bytes) (replicate 52 0)) (laid-own sheetE bytesE (accepted-room sheetE bytesE acceptedE))

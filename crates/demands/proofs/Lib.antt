@@ -8,6 +8,7 @@ pub mod Sweeping
 pub mod Fewest
 pub mod Checking
 pub mod Capturing
+pub mod Converting
 pub mod Importing
 pub mod Images
 pub mod Senses

@@ -39,6 +39,7 @@ use Rattle.text.proofs.Sizes.{length-full}
 use Rattle.text.proofs.Walk.{readFault-header}
 use Rattle.layout.specs.Layout as layout
 use Rattle.profiles.specs.Profiles as profiles
+use Rattle.layout.specs.Layout.{Sheet, stored}
 use Rattle.sheet.specs.Check.{Accepted, numberBefore, endBefore, flagsRule, entryRule, entryFault, counted, verdict}
 use Rattle.sheet.specs.Meaning.{desc, meaning}
 use Rattle.sheet.proofs.Meaning.{meaning-fine}
@@ -60,7 +61,7 @@ pub record Narrows (ds : List Desc) : Type 0 where
   pub current-once : keptCurrent (keptCurrent ds) ≡ keptCurrent ds
   pub parts : (s : ℕ) → keptBelow s ds ++ keptFrom s ds ≡ ds
 
-pub narrows : (s : List ℕ) → Bytes s → Accepted s → (rt sfn : ℕ) → Narrows (selected rt sfn (meaning s))
+pub narrows : (s : Sheet) → Bytes (s .bytes) → Accepted s → (rt sfn : ℕ) → Narrows (selected rt sfn (meaning s))
 narrows s b ok rt sfn =
     let ds : List Desc = selected rt sfn (meaning s) in
     record {
@@ -81,27 +82,27 @@ hasE′ = selected 0 0 (meaning sheetE′)
 
 -- not the start that was asked for last: from 3 and then from 1 is from 3
 pub not-the-last : ((s t : ℕ) → keptFrom t (keptFrom s hasE) ≡ keptFrom t hasE) → ⊥
-unfolding keptFrom each flat keep field spell profileBytes feature0 all wants selected layout.featureCount layout.profileCount layout.number layout.flags layout.bodyLength layout.offset layout.profilesPart profiles.profileNumber profiles.profileCurrent profiles.listed profiles.profilesOf desc meaning sheetE
+unfolding keptFrom each flat keep field spell profileBytes feature0 all wants selected layout.features layout.profiles layout.numberPlace layout.flagsPlace layout.lengthPlace layout.offsetPlace layout.number layout.flags layout.bodyLength layout.offset layout.profilesIn profiles.profileNumber profiles.profileCurrent profiles.listed profiles.profilesOf desc meaning sheetE
 not-the-last h = absurd (omega (arith, ap length (h 3 1)))
 
 -- a cut counts: "current only" and "as many as fit into 32 bytes" are not to be swapped
 pub cut-counts : ((room : ℕ) → keptCurrent (whole room hasE′) ≡ whole room (keptCurrent hasE′)) → ⊥
-unfolding keptCurrent whole each flat keep field spell profileBytes feature0 all wants selected layout.featureCount layout.profileCount layout.number layout.flags layout.bodyLength layout.offset layout.profilesPart profiles.profileNumber profiles.profileCurrent profiles.listed profiles.profilesOf desc meaning sheetE sheetE′
+unfolding keptCurrent whole each flat keep field spell profileBytes feature0 all wants selected layout.features layout.profiles layout.numberPlace layout.flagsPlace layout.lengthPlace layout.offsetPlace layout.number layout.flags layout.bodyLength layout.offset layout.profilesIn profiles.profileNumber profiles.profileCurrent profiles.listed profiles.profilesOf desc meaning sheetE sheetE′
 cut-counts h = absurd (omega (arith, ap length (h 32)))
 
 -- the second time is the same start, not one higher
 pub not-one-higher : ((s : ℕ) → keptFrom (s + 1) (keptFrom s hasE) ≡ keptFrom s hasE) → ⊥
-unfolding keptFrom each flat keep field spell profileBytes feature0 all wants selected layout.featureCount layout.profileCount layout.number layout.flags layout.bodyLength layout.offset layout.profilesPart profiles.profileNumber profiles.profileCurrent profiles.listed profiles.profilesOf desc meaning sheetE
+unfolding keptFrom each flat keep field spell profileBytes feature0 all wants selected layout.features layout.profiles layout.numberPlace layout.flagsPlace layout.lengthPlace layout.offsetPlace layout.number layout.flags layout.bodyLength layout.offset layout.profilesIn profiles.profileNumber profiles.profileCurrent profiles.listed profiles.profilesOf desc meaning sheetE
 not-one-higher h = absurd (omega (arith, ap length (h 3)))
 
 -- those below s and those above s are not all: s itself is lost
 pub not-above : ((s : ℕ) → keptBelow s hasE ++ keptFrom (s + 1) hasE ≡ hasE) → ⊥
-unfolding keptBelow keptFrom each flat keep field spell profileBytes feature0 all wants selected layout.featureCount layout.profileCount layout.number layout.flags layout.bodyLength layout.offset layout.profilesPart profiles.profileNumber profiles.profileCurrent profiles.listed profiles.profilesOf desc meaning sheetE
+unfolding keptBelow keptFrom each flat keep field spell profileBytes feature0 all wants selected layout.features layout.profiles layout.numberPlace layout.flagsPlace layout.lengthPlace layout.offsetPlace layout.number layout.flags layout.bodyLength layout.offset layout.profilesIn profiles.profileNumber profiles.profileCurrent profiles.listed profiles.profilesOf desc meaning sheetE
 not-above h = absurd (omega (arith, ap length (h 3)))
 
 -- RT 2 of f is not the first of RT 0 from f: there is no 0002h, and the first from there is 0003h
 pub not-the-first : ((f : ℕ) → take 1 (selected 0 f (meaning sheetE)) ≡ selected 2 f (meaning sheetE)) → ⊥
-unfolding each flat keep field spell profileBytes feature0 all wants selected layout.featureCount layout.profileCount layout.number layout.flags layout.bodyLength layout.offset layout.profilesPart profiles.profileNumber profiles.profileCurrent profiles.listed profiles.profilesOf desc meaning sheetE
+unfolding each flat keep field spell profileBytes feature0 all wants selected layout.features layout.profiles layout.numberPlace layout.flagsPlace layout.lengthPlace layout.offsetPlace layout.number layout.flags layout.bodyLength layout.offset layout.profilesIn profiles.profileNumber profiles.profileCurrent profiles.listed profiles.profilesOf desc meaning sheetE
 not-the-first h = absurd (omega (arith, ap length (h 2)))
 
 -- the list has to ascend: 2 and then 1, parted at 2
@@ -132,7 +133,7 @@ pub record Exchanged (c : List ℕ) (made : Made) (buffer : List ℕ) (rt sfn : 
   pub complete : r .complete ≡ true
 
 -- What it gives: the sheet's descriptors that the command selects, and nothing else behind the header.
-pub record Holds (s : List ℕ) (rt sfn : ℕ) (received : List ℕ) : Type 0 where
+pub record Holds (s : Sheet) (rt sfn : ℕ) (received : List ℕ) : Type 0 where
   pub accepted : Accepted s
   pub descriptors : found rt sfn received ≡ selected rt sfn (meaning s)
   pub behind : drop 8 received ≡ flat bytes (selected rt sfn (meaning s))
@@ -160,7 +161,7 @@ abbrev ExchangedE : (rt sfn : ℕ) → Type 0
 ExchangedE rt sfn = Exchanged (command rt sfn 64) (asked rt sfn .made) (asked rt sfn .buffer) rt sfn (sentBy (asked rt sfn)) (text.reading 65534 rt sfn (sentBy (asked rt sfn)))
 
 pub exchangedE : ExchangedE 0 1 × ExchangedE 1 3
-unfolding each flat keep field spell _if_else_ pickZero _orElse_ firstOf placed opcodeOf rtOf sfnOf allocationOf commandFault profileBytes bytes feature0 all wants selected currentProfile header dataLength full sent layout.featureCount layout.profileCount layout.number layout.flags layout.bodyLength layout.offset layout.profilesPart profiles.profileNumber profiles.profileCurrent profiles.profileLast profiles.listed profiles.profilesOf profiles.lists profiles.recordRule profiles.recordFault profiles.recordsFault numberBefore endBefore flagsRule flags.flagsGiving entryRule entryFault counted verdict desc meaning unless maker.refusing maker.making maker.makes box.answered sheetE command text.statedLength text.statedProfile text.headerRule text.headRule text.numberAt text.flagsAt text.lengthAt text.descAt text.headFault text.walk text.walked text.readFault text.reading text.taken
+unfolding each flat keep field spell _if_else_ pickZero _orElse_ firstOf placed opcodeOf rtOf sfnOf allocationOf commandFault profileBytes bytes feature0 all wants selected currentProfile header dataLength full sent layout.features layout.profiles layout.numberPlace layout.flagsPlace layout.lengthPlace layout.offsetPlace layout.number layout.flags layout.bodyLength layout.offset layout.profilesIn profiles.profileNumber profiles.profileCurrent profiles.profileLast profiles.listed profiles.profilesOf profiles.lists profiles.recordRule profiles.recordFault profiles.recordsFault numberBefore endBefore flagsRule flags.flagsGiving entryRule entryFault counted verdict desc meaning unless maker.refusing maker.making maker.makes box.answered sheetE command text.statedLength text.statedProfile text.headerRule text.headRule text.numberAt text.flagsAt text.lengthAt text.descAt text.headFault text.walk text.walked text.readFault text.reading text.taken
 exchangedE = (
   record { answered = refl; asked-rt = refl; asked-sfn = refl; handed = refl; complete = refl },
   record { answered = refl; asked-rt = refl; asked-sfn = refl; handed = refl; complete = refl },
@@ -168,7 +169,7 @@ exchangedE = (
 
 -- ---- one exchange
 
-module _ {s c d : List ℕ} {made : Made} {buffer : List ℕ} {rt sfn : ℕ} {received : List ℕ} {r : Reading} (a : Answers s c d (maker.outcome made buffer)) (f : Reads 65534 rt sfn received r) (b : Bytes s) (e : Exchanged c made buffer rt sfn received r) where
+module _ {s : Sheet} {c d : List ℕ} {made : Made} {buffer : List ℕ} {rt sfn : ℕ} {received : List ℕ} {r : Reading} (a : Answers s c d (maker.outcome made buffer)) (f : Reads 65534 rt sfn received r) (b : Bytes (s .bytes)) (e : Exchanged c made buffer rt sfn received r) where
   -- a reading that is refused is not complete
   plain : readFault 65534 rt sfn received .number ≡ 0
   unfolding nothingRead
@@ -212,8 +213,8 @@ module _ (x : Call respond.ended (λ M. respond.clauses)) (κs : Lfts (read.ende
 
   pub complete-end-to-end : (o : Outcome respond.ended (λ M. respond.clauses) x) (p : Outcome read.ended (λ M. read.clauses) reading-of)
       → ent (x .𝓤) (conj (x .𝓤) (allowed respond.ended (λ M. respond.clauses) x o) (allowed read.ended (λ M. read.clauses) reading-of p)) (fact (x .𝓤) (
-      Bytes (x .args .0 .now) → Exchanged (x .args .1 .0 .now) (o .0) (o .1 .1 .1 .0) (args .0) (args .1 .0 .0) (args .1 .1 .0 .now) (p .0)
-      → Holds (x .args .0 .now) (args .0) (args .1 .0 .0) (args .1 .1 .0 .now)))
+      Bytes (x .args .1 .0 .now) → Exchanged (x .args .1 .1 .0 .now) (o .0) (o .1 .1 .1 .1 .0) (args .0) (args .1 .0 .0) (args .1 .1 .0 .now) (p .0)
+      → Holds (stored (x .args .0) (x .args .1 .0 .now)) (args .0) (args .1 .0 .0) (args .1 .1 .0 .now)))
   complete-end-to-end o p = both (x .𝓤) (λ e f. holds (by (Answers _ _ _) (demand2 _ _ _) e) (by (Reads _ _ _ _) (reads _ _ _ _) f))
 
 -- ---- two exchanges
@@ -226,7 +227,7 @@ combines {m} good rt s rt′ s′ = record {
   joins = λ e h l. rw (← e) (selected-joined good rt h s s′ l);
 }
 
-combined : {s s′ : List ℕ} {rt sfn rt′ sfn′ : ℕ} {received received′ : List ℕ} → Bytes s → s ≡ s′ → Holds s rt sfn received → Holds s′ rt′ sfn′ received′
+combined : {s s′ : Sheet} {rt sfn rt′ sfn′ : ℕ} {received received′ : List ℕ} → Bytes (s .bytes) → s ≡ s′ → Holds s rt sfn received → Holds s′ rt′ sfn′ received′
     → Combines rt sfn (found rt sfn received) rt′ sfn′ (found rt′ sfn′ received′)
 combined {s} {s′} {rt} {sfn} {rt′} {sfn′} b same h k = rw (h .descriptors, k .descriptors, ← same) (combines (meaning-fine s b (h .accepted) .sound) rt sfn rt′ sfn′)
 
@@ -242,10 +243,10 @@ module _ (x : Call respond.ended (λ M. respond.clauses)) (κs : Lfts (read.ende
       → ent (x .𝓤) (conj (x .𝓤)
       (conj (x .𝓤) (allowed respond.ended (λ M. respond.clauses) x o) (allowed read.ended (λ M. read.clauses) (reading-of x κs args) p))
       (conj (x .𝓤) (allowed respond.ended (λ M. respond.clauses) again o′) (allowed read.ended (λ M. read.clauses) (reading-of again κs₃ args₃) p′))) (fact (x .𝓤) (
-      Bytes (x .args .0 .now) → x .args .0 .now ≡ args₂ .0 .now
-      → Exchanged (x .args .1 .0 .now) (o .0) (o .1 .1 .1 .0) (args .0) (args .1 .0 .0) (args .1 .1 .0 .now) (p .0)
-      → Exchanged (args₂ .1 .0 .now) (o′ .0) (o′ .1 .1 .1 .0) (args₃ .0) (args₃ .1 .0 .0) (args₃ .1 .1 .0 .now) (p′ .0)
+      Bytes (x .args .1 .0 .now) → stored (x .args .0) (x .args .1 .0 .now) ≡ stored (args₂ .0) (args₂ .1 .0 .now)
+      → Exchanged (x .args .1 .1 .0 .now) (o .0) (o .1 .1 .1 .1 .0) (args .0) (args .1 .0 .0) (args .1 .1 .0 .now) (p .0)
+      → Exchanged (args₂ .1 .1 .0 .now) (o′ .0) (o′ .1 .1 .1 .1 .0) (args₃ .0) (args₃ .1 .0 .0) (args₃ .1 .1 .0 .now) (p′ .0)
       → Combines (args .0) (args .1 .0 .0) (found (args .0) (args .1 .0 .0) (args .1 .1 .0 .now)) (args₃ .0) (args₃ .1 .0 .0) (found (args₃ .0) (args₃ .1 .0 .0) (args₃ .1 .1 .0 .now))))
   combined-end-to-end o p o′ p′ =
       via (x .𝓤) _ (conj-mono (x .𝓤) (complete-end-to-end x κs args o p) (complete-end-to-end again κs₃ args₃ o′ p′))
-      (both (x .𝓤) (λ f g b same e h. combined b same (f b e) (g (by Bytes b (sym same)) h)))
+      (both (x .𝓤) (λ f g b same e h. combined b same (f b e) (g (by (λ (t : Sheet). Bytes (t .bytes)) b (sym same)) h)))

@@ -17,6 +17,7 @@ use Rattle.text.proofs.Sent.{bytes-sent}
 use Rattle.text.proofs.Own.{wholes-sent, reading-sent}
 use Rattle.text.proofs.Again.{readFault-cut, wholes-cut}
 use Rattle.text.proofs.Received.{reading-cases, wholes-flat}
+use Rattle.layout.specs.Layout.{Sheet}
 use Rattle.sheet.specs.Check.{Accepted}
 use Rattle.sheet.specs.Meaning.{meaning}
 use Rattle.sheet.proofs.Meaning.{meaning-fine}
@@ -47,7 +48,7 @@ pub record ReadBack (m : Drive) (limit rt sfn a : ℕ) (s : List ℕ) (r : Readi
 pub record Reads (limit rt sfn : ℕ) (s : List ℕ) (r : Reading) : Type 0 where
   pub refuses : (readFault limit rt sfn s .number ≡ 0 → ⊥) → r ≡ nothingRead (readFault limit rt sfn s)
   pub accepts : readFault limit rt sfn s .number ≡ 0 → r ≡ taken s (wholes limit rt sfn s)
-  pub own : (t : List ℕ) (a : ℕ) → Bytes t → Accepted t → rt ≤ 2 → 8 ≤ a → min a 65534 ≤ limit → s ≡ sent rt sfn a (meaning t)
+  pub own : (t : Sheet) (a : ℕ) → Bytes (t .bytes) → Accepted t → rt ≤ 2 → 8 ≤ a → min a 65534 ≤ limit → s ≡ sent rt sfn a (meaning t)
       → ReadBack (meaning t) limit rt sfn a s r
 
 pub reads : (limit rt sfn : ℕ) (s : List ℕ) → Reads limit rt sfn s (reading limit rt sfn s)
@@ -73,7 +74,7 @@ pub scans : (limit rt sfn : ℕ) (s : List ℕ) → Scans limit rt sfn s (scanne
 unfolding scanned
 scans limit rt sfn s = record { reads = reads limit rt sfn s; last = refl }
 
-pub demand2-own : (s : List ℕ) → Bytes s → Accepted s → (rt sfn a : ℕ) → rt ≤ 2 → 8 ≤ a
+pub demand2-own : (s : Sheet) → Bytes (s .bytes) → Accepted s → (rt sfn a : ℕ) → rt ≤ 2 → 8 ≤ a
     → ReadBack (meaning s) 65534 rt sfn a (sent rt sfn a (meaning s)) (reading 65534 rt sfn (sent rt sfn a (meaning s)))
 demand2-own s b ok rt sfn a two eight = reads 65534 rt sfn (sent rt sfn a (meaning s)) .own s a b ok two eight (omega arith) refl
 

@@ -12,31 +12,31 @@ use Rattle.refusal.specs.declared.Refusal.{Refusal}
 use Rattle.refusal.specs.First.{refuse, accept}
 use Rattle.text.specs.Command.{opcodeOf, rtOf, sfnOf, allocationOf, commandFault}
 use Rattle.text.specs.Response.{bytes, selected, currentProfile, dataLength, full, sent}
-use Rattle.refusal.proofs.First.{orElse-none, orElse-fault, unless-none}
+use Rattle.refusal.proofs.First.{orElse-none, orElse-fault}
 use Rattle.lent.specs.Maker.{Outcome, refusing, making, makes}
 use Rattle.lent.proofs.Maker.{makes-made, makes-short, makes-fault}
 use Rattle.text.proofs.Sizes.{length-full, dataLength-full, dataLength-low}
 use Rattle.text.proofs.Profiles.{Off, FirstOn, current-cases}
 use Rattle.text.proofs.Sent.{sent-prefix, length-sent, sent-dataLength, sent-field, sent-profile, sent-none, sent-65532, sent-65536}
-use Rattle.layout.specs.Layout.{featureCount}
+use Rattle.layout.specs.Layout.{Sheet, featureCount}
 use Rattle.sheet.specs.Check.{verdict, Accepted}
 use Rattle.sheet.specs.Meaning.{meaning}
 use Rattle.sheet.proofs.Accepted.{facts}
 use Rattle.sheet.proofs.Meaning.{meaning-fine}
 use Rattle.sheet.proofs.Bisection.{First, first-from}
 use Rattle.sheet.proofs.Passing.{first-once}
-use Rattle.responder.specs.Answer.{due, requested, commanded, answered}
+use Rattle.responder.specs.Answer.{due, requested, answered}
 use Rattle.responder.specs.Trusting.{trusting, trustingCommand}
 use Rattle.responder.specs.Sized.{sized}
 use Rattle.responder.specs.inner.Index.{takenFrom, takenSize}
 use Rattle.responder.proofs.Full.{found-length}
 use Rattle.responder.proofs.Sized.{sized-trusting}
-use Rattle.responder.proofs.Trusting.{trusting-accepted, trusting-commanded, answered-after}
+use Rattle.responder.proofs.Trusting.{trusting-accepted, answered-trusted}
 use Rattle.base.proofs.Promise.{by}
 
 -- Of an outcome o of the sheet s, the command c and the buffer d: for an accepted sheet and command and a buffer with room for them, exactly the
 -- bytes due, and nothing behind them changes; for anything else the first refusal, in the paper's order, with no byte sent and nothing changed.
-pub record Answers (s c d : List ℕ) (o : Outcome) : Type 0 where
+pub record Answers (s : Sheet) (c d : List ℕ) (o : Outcome) : Type 0 where
   pub sends : Accepted s → commandFault c .number ≡ 0 → length (due s c) ≤ length d → o ≡ making (due s c) d
   pub refuses-sheet : (verdict s .number ≡ 0 → ⊥) → o ≡ refusing d (verdict s)
   pub refuses-command : Accepted s → (commandFault c .number ≡ 0 → ⊥) → o ≡ refusing d (commandFault c)
@@ -47,13 +47,13 @@ pub record Sends (xs d : List ℕ) (o : Outcome) : Type 0 where
   pub sends : length xs ≤ length d → o ≡ making xs d
   pub refuses-room : length d < length xs → o ≡ refusing d (refuse 12)
 
-request : (s : List ℕ) (rt sfn a : ℕ) (d : List ℕ) → Sends (sent rt sfn a (meaning s)) d (requested s rt sfn a d)
+request : (s : Sheet) (rt sfn a : ℕ) (d : List ℕ) → Sends (sent rt sfn a (meaning s)) d (requested s rt sfn a d)
 unfolding requested
 request s rt sfn a d =
     let xs : List ℕ = sent rt sfn a (meaning s) in
     record { sends = λ h. makes-made accept 12 xs d refl h; refuses-room = λ h. makes-short accept 12 xs d refl (λ z. omega arith) h }
 
-pub demand2 : (s c d : List ℕ) → Answers s c d (answered s c d)
+pub demand2 : (s : Sheet) (c d : List ℕ) → Answers s c d (answered s c d)
 unfolding answered
 demand2 s c d =
     let made : Refusal → Outcome = λ r. makes r 12 (due s c) d in
@@ -66,43 +66,43 @@ demand2 s c d =
 
 -- ---- a box that does not check its sheet: from an accepted one the same, from any other what crates/responder/specs/Trusting.antt defines
 
-pub record Trusts (s c d : List ℕ) (o : Outcome) : Type 0 where
+pub record Trusts (s : Sheet) (c d : List ℕ) (o : Outcome) : Type 0 where
   pub exact : o ≡ trustingCommand s c d
-  pub answers : Bytes s → Accepted s → Answers s c d o
+  pub answers : Bytes (s .bytes) → Accepted s → Answers s c d o
 
-pub trusts : (s c d : List ℕ) → Trusts s c d (trustingCommand s c d)
+pub trusts : (s : Sheet) (c d : List ℕ) → Trusts s c d (trustingCommand s c d)
 trusts s c d = record {
   exact = refl;
-  answers = λ b ok. by (Answers s c d) (demand2 s c d) (trusting-commanded s b ok c d ∙ sym (answered-after s c d ∙ unless-none (verdict s) (refusing d) (commanded s c d) ok));
+  answers = λ b ok. by (Answers s c d) (demand2 s c d) (answered-trusted s b ok c d);
 }
 
-pub record Serves (s : List ℕ) (rt sfn a : ℕ) (d : List ℕ) (o : Outcome) : Type 0 where
+pub record Serves (s : Sheet) (rt sfn a : ℕ) (d : List ℕ) (o : Outcome) : Type 0 where
   pub exact : o ≡ trusting s rt sfn a d
-  pub sends : Bytes s → Accepted s → Sends (sent rt sfn a (meaning s)) d o
+  pub sends : Bytes (s .bytes) → Accepted s → Sends (sent rt sfn a (meaning s)) d o
 
-pub serves : (s : List ℕ) (rt sfn a : ℕ) (d : List ℕ) → Serves s rt sfn a d (trusting s rt sfn a d)
+pub serves : (s : Sheet) (rt sfn a : ℕ) (d : List ℕ) → Serves s rt sfn a d (trusting s rt sfn a d)
 serves s rt sfn a d = record {
   exact = refl;
   sends = λ b ok. by (Sends (sent rt sfn a (meaning s)) d) (request s rt sfn a d) (trusting-accepted s b ok rt sfn a d);
 }
 
 -- How many bytes stand behind the header: from an accepted sheet those of the descriptors that are wanted.
-pub record Sizes (s : List ℕ) (rt sfn n : ℕ) : Type 0 where
+pub record Sizes (s : Sheet) (rt sfn n : ℕ) : Type 0 where
   pub exact : n ≡ takenSize s rt sfn
-  pub wanted : Bytes s → Accepted s → n ≡ length (flat bytes (selected rt sfn (meaning s)))
+  pub wanted : Bytes (s .bytes) → Accepted s → n ≡ length (flat bytes (selected rt sfn (meaning s)))
 
-pub sizes : (s : List ℕ) (rt sfn : ℕ) → Sizes s rt sfn (takenSize s rt sfn)
+pub sizes : (s : Sheet) (rt sfn : ℕ) → Sizes s rt sfn (takenSize s rt sfn)
 sizes s rt sfn = record {
   exact = refl;
   wanted = λ b ok. omega (arith, length-full rt sfn (meaning s), found-length s rt sfn b ok);
 }
 
 -- Told at which entry the wanted ones start, and that number, the same is sent.
-pub record ServesSized (s : List ℕ) (rt sfn a from n : ℕ) (d : List ℕ) (o : Outcome) : Type 0 where
+pub record ServesSized (s : Sheet) (rt sfn a from n : ℕ) (d : List ℕ) (o : Outcome) : Type 0 where
   pub exact : o ≡ sized s rt sfn a from n d
-  pub sends : Bytes s → Accepted s → First s (featureCount s) sfn from → n ≡ length (flat bytes (selected rt sfn (meaning s))) → Sends (sent rt sfn a (meaning s)) d o
+  pub sends : Bytes (s .bytes) → Accepted s → First s (featureCount s) sfn from → n ≡ length (flat bytes (selected rt sfn (meaning s))) → Sends (sent rt sfn a (meaning s)) d o
 
-pub serves-sized : (s : List ℕ) (rt sfn a from n : ℕ) (d : List ℕ) → ServesSized s rt sfn a from n d (sized s rt sfn a from n d)
+pub serves-sized : (s : Sheet) (rt sfn a from n : ℕ) (d : List ℕ) → ServesSized s rt sfn a from n d (sized s rt sfn a from n d)
 unfolding takenFrom
 serves-sized s rt sfn a from n d = record {
   exact = refl;
@@ -115,40 +115,40 @@ serves-sized s rt sfn a from n d = record {
 
 -- Every ignored bit is really ignored: commands that agree on length, operation code, RT, Starting Feature Number and allocation length are
 -- answered alike.
-pub ignored : (s c c′ d : List ℕ) → length c ≡ length c′ → opcodeOf c ≡ opcodeOf c′ → rtOf c ≡ rtOf c′ → sfnOf c ≡ sfnOf c′ → allocationOf c ≡ allocationOf c′
+pub ignored : (s : Sheet) (c c′ d : List ℕ) → length c ≡ length c′ → opcodeOf c ≡ opcodeOf c′ → rtOf c ≡ rtOf c′ → sfnOf c ≡ sfnOf c′ → allocationOf c ≡ allocationOf c′
     → answered s c d ≡ answered s c′ d
 unfolding answered commandFault
 ignored s c c′ d l o r f a = cc
 
 -- What is sent is a prefix of the full response, as long as the smallest of allocation length, 65,534 and its length.
-pub prefix : (rt sfn a : ℕ) (s : List ℕ)
+pub prefix : (rt sfn a : ℕ) (s : Sheet)
     → (sent rt sfn a (meaning s) ≡ take (length (sent rt sfn a (meaning s))) (full rt sfn (meaning s)))
     × (length (sent rt sfn a (meaning s)) ≡ min (min a 65534) (length (full rt sfn (meaning s))))
 prefix rt sfn a s = (sent-prefix rt sfn a (meaning s), length-sent rt sfn a (meaning s))
 
 -- Data Length is the full length less 4, and stands in the first four bytes whatever the allocation length that lets them through.
-pub data-length : (rt sfn a : ℕ) (s : List ℕ) → 4 ≤ a
+pub data-length : (rt sfn a : ℕ) (s : Sheet) → 4 ≤ a
     → (take 4 (sent rt sfn a (meaning s)) ≡ spell 4 (dataLength (selected rt sfn (meaning s))))
     × (dataLength (selected rt sfn (meaning s)) ≡ length (full rt sfn (meaning s)) - 4)
 data-length rt sfn a s h = (sent-dataLength rt sfn a (meaning s) h, dataLength-full rt sfn (meaning s))
 
 -- For an accepted sheet it is a number below 2^32, and the first four bytes sent say it.
-pub data-length-number : (s : List ℕ) → Bytes s → Accepted s → (rt sfn a : ℕ)
+pub data-length-number : (s : Sheet) → Bytes (s .bytes) → Accepted s → (rt sfn a : ℕ)
     → (dataLength (selected rt sfn (meaning s)) < 2 ^ 32) × (4 ≤ a → field 4 (sent rt sfn a (meaning s)) 0 ≡ dataLength (selected rt sfn (meaning s)))
 data-length-number s b ok rt sfn a =
     let good = meaning-fine s b ok .sound in
     (dataLength-low good rt sfn, sent-field rt sfn a (meaning s) good)
 
 -- An allocation length of 0 sends nothing; a full length of 65,532 is sent whole at 65,535, and one of 65,536 as 65,534 bytes.
-pub limits : (rt sfn : ℕ) (s : List ℕ)
+pub limits : (rt sfn : ℕ) (s : Sheet)
     → (sent rt sfn 0 (meaning s) ≡ [])
     × (length (full rt sfn (meaning s)) ≡ 65532 → sent rt sfn 65535 (meaning s) ≡ full rt sfn (meaning s))
     × (length (full rt sfn (meaning s)) ≡ 65536 → length (sent rt sfn 65535 (meaning s)) ≡ 65534)
 limits rt sfn s = (sent-none rt sfn (meaning s), sent-65532 rt sfn (meaning s), sent-65536 rt sfn (meaning s))
 
 -- The Current Profile is the first listed profile that is current, 0 if none is, and stands in bytes 6 and 7 of what is sent.
-pub current-profile : (s : List ℕ) → (Off (meaning s .profiles) × (currentProfile (meaning s .profiles) ≡ 0)) ⊎ FirstOn (meaning s .profiles)
+pub current-profile : (s : Sheet) → (Off (meaning s .profiles) × (currentProfile (meaning s .profiles) ≡ 0)) ⊎ FirstOn (meaning s .profiles)
 current-profile s = current-cases (meaning s .profiles)
 
-pub current-sent : (rt sfn a : ℕ) (s : List ℕ) → Bytes s → Accepted s → 8 ≤ a → field 2 (sent rt sfn a (meaning s)) 6 ≡ currentProfile (meaning s .profiles)
+pub current-sent : (rt sfn a : ℕ) (s : Sheet) → Bytes (s .bytes) → Accepted s → 8 ≤ a → field 2 (sent rt sfn a (meaning s)) 6 ≡ currentProfile (meaning s .profiles)
 current-sent rt sfn a s b ok h = sent-profile rt sfn a (meaning s) (meaning-fine s b ok .sound) h

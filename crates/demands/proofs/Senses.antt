@@ -17,6 +17,8 @@ use Rattle.text.specs.Drive.{profileBytes}
 use Rattle.text.specs.Response.{bytes, feature0, all, wants, selected, currentProfile, header, dataLength, full, sent}
 use Rattle.layout.specs.Layout as layout
 use Rattle.profiles.specs.Profiles as profiles
+use Rattle.layout.specs.declared.Layout.the-variants.{Rows}
+use Rattle.layout.specs.Layout.{Sheet, stored}
 use Rattle.sheet.specs.Check.{numberBefore, endBefore, flagsRule, entryRule, entryFault, counted, verdict}
 use Rattle.sheet.specs.Meaning.{desc, meaning}
 use Rattle.lent.specs.Maker.{Outcome, refusing, making, makes}
@@ -79,7 +81,7 @@ unfolding flagsRule flags.flagsGiving pick given kindOf
 flags-taken f =
     orElse-holds Taken _ _ (if-holds Taken (refuse 5) _ accept refl refl) (if-holds Taken (refuse 44) _ accept refl refl)
 
-entry-taken : (s : List ℕ) (i : ℕ) → Taken (entryFault s i .number)
+entry-taken : (s : Sheet) (i : ℕ) → Taken (entryFault s i .number)
 unfolding entryRule entryFault pick given kindOf
 entry-taken s i =
     placed-holds Taken _ (suc i)
@@ -95,7 +97,7 @@ record-taken b i =
     (if-holds Taken (refuse 3) _ _ refl
     (if-holds Taken (refuse 3) _ _ refl (if-holds Taken (refuse 3) _ _ refl (if-holds Taken (refuse 3) _ accept refl refl))))
 
-verdict-taken : (s : List ℕ) → Taken (verdict s .number)
+verdict-taken : (s : Sheet) → Taken (verdict s .number)
 unfolding profiles.recordsFault counted verdict pick given kindOf
 verdict-taken s =
     if-holds Taken (refuse 1) _ _ refl
@@ -110,7 +112,7 @@ unfolding commandFault pick given kindOf
 command-taken c = if-holds Taken (refuse 9) _ _ refl (if-holds Taken (refuse 10) _ _ refl (if-holds Taken (refuse 11) _ accept refl refl))
 
 -- Whatever number a command gives, the maker takes it.
-pub answered-taken : (s c d : List ℕ) → Taken (answered s c d .made .refusal .number)
+pub answered-taken : (s : Sheet) (c d : List ℕ) → Taken (answered s c d .made .refusal .number)
 unfolding answered pick given kindOf
 answered-taken s c d =
     subst Taken (sym (makes-number (verdict s orElse commandFault c) 12 (due s c) d))
@@ -142,15 +144,15 @@ gcf-respond-image-taken x = promises (x .𝓤) (λ o. by (λ (z : Left (List ℕ
 
 -- A command gives the number n: from this sheet or this image, for these bytes, with this buffer.
 pub data Occurs (n : ℕ) : Type 0 where
-  occurs-in : (sheet asked buffer : List ℕ) → answered sheet asked buffer .made .refusal .number ≡ n → Occurs n
+  occurs-in : (sheet : Sheet) (asked buffer : List ℕ) → answered sheet asked buffer .made .refusal .number ≡ n → Occurs n
   occurs-with : (image asked buffer : List ℕ) → imageAnswered image asked buffer .made .refusal .number ≡ n → Occurs n
 
 -- a sheet with nothing; one with a single entry
-abbrev none : List ℕ
-none = 0 ∷ 0 ∷ 0 ∷ 0 ∷ []
+abbrev none : Sheet
+none = stored Rows (0 ∷ 0 ∷ 0 ∷ 0 ∷ [])
 
-abbrev one : (number flags len offset : ℕ) → List ℕ
-one number flags len offset = 0 ∷ 1 ∷ 0 ∷ 0 ∷ 0 ∷ number ∷ flags ∷ len ∷ 0 ∷ 0 ∷ 0 ∷ offset ∷ []
+abbrev one : (number flags len offset : ℕ) → Sheet
+one number flags len offset = stored Rows (0 ∷ 1 ∷ 0 ∷ 0 ∷ 0 ∷ number ∷ flags ∷ len ∷ 0 ∷ 0 ∷ 0 ∷ offset ∷ [])
 
 -- an image with this Data Length, and these bytes behind its header
 abbrev image : (stated : ℕ) → List ℕ → List ℕ
@@ -162,8 +164,8 @@ head number len behind = 0 ∷ number ∷ 3 ∷ len ∷ behind
 
 -- Each number of the table is given: 0 to 12, 44 from a sheet, 14 to 18, 20, 29, 41 with an image.
 pub each-given : All Occurs taken
-unfolding each flat keep field spell _if_else_ pickZero _orElse_ firstOf placed opcodeOf rtOf sfnOf allocationOf commandFault profileBytes bytes feature0 all wants selected currentProfile header dataLength full sent layout.featureCount layout.profileCount layout.number layout.flags layout.bodyLength layout.offset layout.profilesPart profiles.profileNumber profiles.profileCurrent profiles.profileLast profiles.listed profiles.profilesOf profiles.lists profiles.recordRule profiles.recordFault profiles.recordsFault numberBefore endBefore flagsRule flags.flagsGiving entryRule entryFault counted verdict desc meaning unless refusing making makes answered command captureFault ownRule flagsFaults sheetRule completeFault text.statedLength text.statedProfile text.headerRule text.headRule text.numberAt text.flagsAt text.lengthAt text.descAt text.headFault text.walk text.walked text.readFault text.wholes imageAnswered
-each-given = (occurs-in none (command 0 0 0) [] refl, (occurs-in [] [] [] refl, (occurs-in (0 ∷ 0 ∷ 0 ∷ 64 ∷ replicate 256 0) [] [] refl, (occurs-in (0 ∷ 0 ∷ 0 ∷ 1 ∷ 0 ∷ 0 ∷ 0 ∷ 0 ∷ []) [] [] refl, (occurs-in (one 0 0 0 12) [] [] refl, (occurs-in (one 1 0x40 0 12) [] [] refl, (occurs-in (one 1 0 1 12) [] [] refl, (occurs-in (one 1 0 0 0) [] [] refl, (occurs-in (0 ∷ none) [] [] refl, (occurs-in none [] [] refl, (occurs-in none (replicate 10 0) [] refl, (occurs-in none (command 3 0 0) [] refl, (occurs-in none (command 0 0 1) [] refl, (occurs-with [] [] [] refl, (occurs-with (image 0 []) [] [] refl, (occurs-with (image 4 (head 0 0 [])) [] [] refl, (occurs-with (image 8 (head 0 1 [])) [] [] refl, (occurs-with (image 12 (head 0 0 (head 0 0 []))) [] [] refl, (occurs-with (image 8 (head 0 4 [])) [] [] refl, (occurs-with (image 8 []) [] [] refl, (occurs-with (image 4 []) [] [] refl, (occurs-in (one 1 2 0 12) [] [] refl, tt))))))))))))))))))))))
+unfolding each flat keep field spell _if_else_ pickZero _orElse_ firstOf placed opcodeOf rtOf sfnOf allocationOf commandFault profileBytes bytes feature0 all wants selected currentProfile header dataLength full sent layout.features layout.profiles layout.numberPlace layout.flagsPlace layout.lengthPlace layout.offsetPlace layout.number layout.flags layout.bodyLength layout.offset layout.profilesIn profiles.profileNumber profiles.profileCurrent profiles.profileLast profiles.listed profiles.profilesOf profiles.lists profiles.recordRule profiles.recordFault profiles.recordsFault numberBefore endBefore flagsRule flags.flagsGiving entryRule entryFault counted verdict desc meaning unless refusing making makes answered command captureFault ownRule flagsFaults sheetRule completeFault text.statedLength text.statedProfile text.headerRule text.headRule text.numberAt text.flagsAt text.lengthAt text.descAt text.headFault text.walk text.walked text.readFault text.wholes imageAnswered
+each-given = (occurs-in none (command 0 0 0) [] refl, (occurs-in (stored Rows []) [] [] refl, (occurs-in (stored Rows (0 ∷ 0 ∷ 0 ∷ 64 ∷ replicate 256 0)) [] [] refl, (occurs-in (stored Rows (0 ∷ 0 ∷ 0 ∷ 1 ∷ 0 ∷ 0 ∷ 0 ∷ 0 ∷ [])) [] [] refl, (occurs-in (one 0 0 0 12) [] [] refl, (occurs-in (one 1 0x40 0 12) [] [] refl, (occurs-in (one 1 0 1 12) [] [] refl, (occurs-in (one 1 0 0 0) [] [] refl, (occurs-in (stored Rows (0 ∷ 0 ∷ 0 ∷ 0 ∷ 0 ∷ [])) [] [] refl, (occurs-in none [] [] refl, (occurs-in none (replicate 10 0) [] refl, (occurs-in none (command 3 0 0) [] refl, (occurs-in none (command 0 0 1) [] refl, (occurs-with [] [] [] refl, (occurs-with (image 0 []) [] [] refl, (occurs-with (image 4 (head 0 0 [])) [] [] refl, (occurs-with (image 8 (head 0 1 [])) [] [] refl, (occurs-with (image 12 (head 0 0 (head 0 0 []))) [] [] refl, (occurs-with (image 8 (head 0 4 [])) [] [] refl, (occurs-with (image 8 []) [] [] refl, (occurs-with (image 4 []) [] [] refl, (occurs-in (one 1 2 0 12) [] [] refl, tt))))))))))))))))))))))
 
 -- So the maker takes no other number than a command gives.
 pub taken-occurs : (n : ℕ) → Taken n → Occurs n

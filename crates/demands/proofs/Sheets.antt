@@ -4,14 +4,14 @@ use mathlib.Core.Bool.{Bool, true, false, _||_}
 use mathlib.Core.List.{List, [], _∷_}
 use Prim.Native.Nat.{ℕ, suc, _≤_}
 use lib.Dec.{eqb}
-use lib.ListN.{length}
 use Rattle.base.specs.Lists.{Bytes}
 use Rattle.refusal.specs.declared.Refusal.{Refusal}
 use Rattle.refusal.specs.First.{accept}
 use Rattle.refusal.specs.Lines.{old}
 use Rattle.refusal.proofs.First.{placed-number}
 use Rattle.profiles.specs.Profiles.{recordsFault}
-use Rattle.layout.specs.Layout.{flags, profilesPart}
+use Rattle.layout.specs.declared.Layout.{Layout}
+use Rattle.layout.specs.Layout.{Sheet, sheetSize, flags, profilesPart}
 use Rattle.sheet.specs.Check.{entryRule, entryFault, counted, verdict, Accepted}
 use Rattle.sheet.specs.Facts.{Facts}
 use Rattle.sheet.specs.Lines.{LocatedIn, NoVersions, oldVerdict}
@@ -32,7 +32,7 @@ abbrev pub sheetNumbers : List ℕ
 sheetNumbers = 0 ∷ 1 ∷ 2 ∷ 3 ∷ 4 ∷ 5 ∷ 44 ∷ 6 ∷ 7 ∷ 8 ∷ []
 
 -- what holds of each number of the rules holds of the number given
-module _ (P : ℕ → Type 0) (p0 : P 0) (p1 : P 1) (p2 : P 2) (p3 : P 3) (p4 : P 4) (p5 : P 5) (p44 : P 44) (p6 : P 6) (p7 : P 7) (p8 : P 8) (s : List ℕ) where
+module _ (P : ℕ → Type 0) (p0 : P 0) (p1 : P 1) (p2 : P 2) (p3 : P 3) (p4 : P 4) (p5 : P 5) (p44 : P 44) (p6 : P 6) (p7 : P 7) (p8 : P 8) (s : Sheet) where
   entry-is : (i : ℕ) → P (entryFault s i .number)
   unfolding entryFault entryRule
   entry-is i =
@@ -47,22 +47,22 @@ module _ (P : ℕ → Type 0) (p0 : P 0) (p1 : P 1) (p2 : P 2) (p3 : P 3) (p4 : 
       (orElse-is P _ _ (first-is P _ 0 _ p0 entry-is)
       (if-is P 8 _ _ p8 p0)))))
 
-verdict-numbers : (s : List ℕ) → oneOf sheetNumbers (verdict s .number) ≡ true
+verdict-numbers : (s : Sheet) → oneOf sheetNumbers (verdict s .number) ≡ true
 unfolding oneOf
 verdict-numbers = verdict-is (λ n. oneOf sheetNumbers n ≡ true) refl refl refl refl refl refl refl refl refl refl
 
 -- Of the answer r to the sheet s: it is the first refusal in the paper's order, and none is given exactly where all that the format asks for holds. Its
 -- number is one of ten. Its place is that of the first profile or entry at fault, 0 where its number has none; where no entry has a Version above 0,
 -- document 01's number is a function of its number.
-pub record Checks (s : List ℕ) (r : Refusal) : Type 0 where
+pub record Checks (s : Sheet) (r : Refusal) : Type 0 where
   pub exact : r ≡ verdict s
-  pub sound : r .number ≡ 0 → Bytes s → Facts s
+  pub sound : r .number ≡ 0 → Bytes (s .bytes) → Facts s
   pub complete : Facts s → r ≡ accept
   pub numbers : oneOf sheetNumbers (r .number) ≡ true
   pub located : LocatedIn s r
   pub old-number : NoVersions s → oldVerdict s .number ≡ old (r .number)
 
-pub checks : (s : List ℕ) → Checks s (verdict s)
+pub checks : (s : Sheet) → Checks s (verdict s)
 checks s = record {
   exact = refl;
   sound = λ e b. facts s b e;
@@ -72,19 +72,25 @@ checks s = record {
   old-number = verdict-old s;
 }
 
--- An accepted sheet of 17,039,356 bytes, and none is longer.
+-- In each layout an accepted sheet of 17,039,356 bytes, and none is longer.
 pub record Longest : Type 0 where
-  pub sheet : List ℕ
-  pub bytes : Bytes sheet
-  pub accepted : Accepted sheet
-  pub long : length sheet ≡ 17039356
-  pub most : (s : List ℕ) → Bytes s → Accepted s → length s ≤ 17039356
+  pub sheet : Layout → Sheet
+  pub layout : (l : Layout) → sheet l .layout ≡ l
+  pub bytes : (l : Layout) → Bytes (sheet l .bytes)
+  pub accepted : (l : Layout) → Accepted (sheet l)
+  pub long : (l : Layout) → sheetSize (sheet l) ≡ 17039356
+  pub most : (s : Sheet) → Bytes (s .bytes) → Accepted s → sheetSize s ≤ 17039356
+
+sheet-layout : (l : Layout) → sheetOf l longestDrive .layout ≡ l
+unfolding sheetOf
+sheet-layout l = refl
 
 pub longest-sheet : Longest
 longest-sheet = record {
-  sheet = sheetOf longestDrive;
-  bytes = sheet-bytes longest-fine;
-  accepted = sheet-accepted longestDrive longest-fine;
+  sheet = λ l. sheetOf l longestDrive;
+  layout = sheet-layout;
+  bytes = λ l. sheet-bytes l longest-fine;
+  accepted = λ l. sheet-accepted l longestDrive longest-fine;
   long = longest-reached;
   most = longest;
 }

@@ -20,6 +20,7 @@ use Rattle.text.specs.Response.{headerLength, feature0, all, wants, selected}
 use Rattle.text.specs.Packing.{total, whole, rest, groups}
 use Rattle.layout.specs.Layout as layout
 use Rattle.profiles.specs.Profiles as profiles
+use Rattle.layout.specs.Layout.{Sheet}
 use Rattle.sheet.specs.Check.{Accepted, numberBefore, endBefore, flagsRule, entryRule, entryFault, counted, verdict}
 use Rattle.sheet.specs.Meaning.{desc, meaning}
 use Rattle.sweep.specs.Sweep.{startRule, fresh}
@@ -28,18 +29,18 @@ use Rattle.bench.specs.Swept.{Premises, Swept, Ended, swept, short, long, narro
 use Rattle.bench.proofs.Demand as bench
 use Rattle.demands.specs.Recorder.{sheetE}
 
-pub demand3 : (s : List ℕ) (rt a : ℕ) (b : Buffers) → Bytes s → Accepted s → Premises (meaning s) rt a b
+pub demand3 : (s : Sheet) (rt a : ℕ) (b : Buffers) → Bytes (s .bytes) → Accepted s → Premises (meaning s) rt a b
     → Swept (meaning s) rt a b (benched s rt a b)
 demand3 = bench.demand3
 
 -- Without the premises on size and room, the sweep of an accepted sheet with RT 0 or 1 and an allocation length of 8 or more ends with success
 -- or with 12, 23, 24 or 25, each with its ground: with 23, the first wanted descriptor not collected yet is too long.
-pub ends : (s : List ℕ) (rt a : ℕ) (b : Buffers) → Bytes s → Accepted s → rt < 2 → 8 ≤ a
+pub ends : (s : Sheet) (rt a : ℕ) (b : Buffers) → Bytes (s .bytes) → Accepted s → rt < 2 → 8 ≤ a
     → Ended (meaning s) rt a b (benched s rt a b)
 ends = bench.ended
 
 -- A sheet that is refused: its number and its place, both counts 0, all three buffers zero throughout.
-pub refuses-sheet : (s : List ℕ) (rt a : ℕ) (b : Buffers) → (verdict s .number ≡ 0 → ⊥) → benched s rt a b ≡ failing b (verdict s)
+pub refuses-sheet : (s : Sheet) (rt a : ℕ) (b : Buffers) → (verdict s .number ≡ 0 → ⊥) → benched s rt a b ≡ failing b (verdict s)
 unfolding benched firstFault
 refuses-sheet s rt a b h =
     let rest : Ending = rounds 65537 (meaning s) b (state (fresh rt a) b) in
@@ -64,7 +65,7 @@ start-same rt a = go (ltb 1 rt) (ltb a headerLength)
     go false true e = omega arith
     go false false e = omega arith
 
-pub never-changed : (s : List ℕ) (rt a : ℕ) (b : Buffers) → Bytes s → Accepted s → benched s rt a b .reply .refusal .number ≡ 45 → ⊥
+pub never-changed : (s : Sheet) (rt a : ℕ) (b : Buffers) → Bytes (s .bytes) → Accepted s → benched s rt a b .reply .refusal .number ≡ 45 → ⊥
 unfolding startRule benched firstFault failing
 never-changed s rt a b y accepted = go (startRule rt a .number) refl
   where
@@ -82,14 +83,14 @@ never-changed s rt a b y accepted = go (startRule rt a .number) refl
         start-same rt a (sym (ap (λ (o : Ending). o .reply .refusal .number) q) ∙ h)
 
 -- All of it, of an outcome o.
-pub record Benches (s : List ℕ) (rt a : ℕ) (b : Buffers) (o : Ending) : Type 0 where
+pub record Benches (s : Sheet) (rt a : ℕ) (b : Buffers) (o : Ending) : Type 0 where
   pub exact : o ≡ benched s rt a b
-  pub sweeps : Bytes s → Accepted s → Premises (meaning s) rt a b → Swept (meaning s) rt a b o
-  pub finishes : Bytes s → Accepted s → rt < 2 → 8 ≤ a → Ended (meaning s) rt a b o
+  pub sweeps : Bytes (s .bytes) → Accepted s → Premises (meaning s) rt a b → Swept (meaning s) rt a b o
+  pub finishes : Bytes (s .bytes) → Accepted s → rt < 2 → 8 ≤ a → Ended (meaning s) rt a b o
   pub refuses-sheet : (verdict s .number ≡ 0 → ⊥) → o ≡ failing b (verdict s)
-  pub one-disc : Bytes s → Accepted s → o .reply .refusal .number ≡ 45 → ⊥
+  pub one-disc : Bytes (s .bytes) → Accepted s → o .reply .refusal .number ≡ 45 → ⊥
 
-pub benches : (s : List ℕ) (rt a : ℕ) (b : Buffers) → Benches s rt a b (benched s rt a b)
+pub benches : (s : Sheet) (rt a : ℕ) (b : Buffers) → Benches s rt a b (benched s rt a b)
 benches s rt a b =
     record { exact = refl; sweeps = demand3 s rt a b; finishes = ends s rt a b; refuses-sheet = refuses-sheet s rt a b; one-disc = never-changed s rt a b }
 
@@ -109,19 +110,19 @@ bytes-low [] e i = omega arith
 bytes-low (b ∷ s) e zero = ltb-true b 256 (both (ltb b 256) (low s) e .0)
 bytes-low (b ∷ s) e (suc i) = bytes-low s (both (ltb b 256) (low s) e .1) i
 
-pub bytesE : Bytes sheetE
+pub bytesE : Bytes (sheetE .bytes)
 unfolding sheetE low
-bytesE = bytes-low sheetE refl
+bytesE = bytes-low (sheetE .bytes) refl
 
 pub acceptedE : Accepted sheetE
-unfolding each field _if_else_ pickZero _orElse_ firstOf placed layout.featureCount layout.profileCount layout.number layout.flags layout.bodyLength layout.offset layout.profilesPart profiles.profileNumber profiles.profileCurrent profiles.profileLast profiles.lists profiles.recordRule profiles.recordFault profiles.recordsFault numberBefore endBefore flagsRule flags.flagsGiving entryRule entryFault counted verdict sheetE
+unfolding each field _if_else_ pickZero _orElse_ firstOf placed layout.features layout.profiles layout.numberPlace layout.flagsPlace layout.lengthPlace layout.offsetPlace layout.number layout.flags layout.bodyLength layout.offset layout.profilesIn profiles.profileNumber profiles.profileCurrent profiles.profileLast profiles.lists profiles.recordRule profiles.recordFault profiles.recordsFault numberBefore endBefore flagsRule flags.flagsGiving entryRule entryFault counted verdict sheetE
 acceptedE = refl
 
 abbrev buffersE : Buffers
 buffersE = buffers (replicate 20 0) (replicate 36 0) (replicate 4 0)
 
 premisesE : Premises (meaning sheetE) 0 20 buffersE
-unfolding each flat keep field spell profileBytes feature0 all wants selected total whole rest groups layout.featureCount layout.profileCount layout.number layout.flags layout.bodyLength layout.offset layout.profilesPart profiles.profileNumber profiles.profileCurrent profiles.listed profiles.profilesOf desc meaning sheetE
+unfolding each flat keep field spell profileBytes feature0 all wants selected total whole rest groups layout.features layout.profiles layout.numberPlace layout.flagsPlace layout.lengthPlace layout.offsetPlace layout.number layout.flags layout.bodyLength layout.offset layout.profilesIn profiles.profileNumber profiles.profileCurrent profiles.listed profiles.profilesOf desc meaning sheetE
 premisesE = record {
   kind = omega arith;
   eight = omega arith;

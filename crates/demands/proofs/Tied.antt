@@ -6,8 +6,10 @@ use Prim.Native.Nat.{min}
 use Rattle.base.proofs.Promise.{Promised, promises, by}
 use Rattle.reading.proofs.Lies.{Lies}
 use Rattle.reading.proofs.Promised as reading-promised
+use Rattle.layout.specs.Layout.{stored}
 use Rattle.sheet.proofs.check as check
 use Rattle.lent.specs.Maker.{outcome}
+use Rattle.convert.proofs.convert as convert
 use Rattle.responder.proofs.send as send
 use Rattle.responder.proofs.size as size
 use Rattle.responder.proofs.send_sized as send-sized
@@ -47,33 +49,40 @@ use Rattle.demands.proofs.Sweeping.{Benches, benches}
 use Rattle.demands.proofs.Checking.{Finds, finds, Judges, judges}
 use Rattle.demands.proofs.Capturing.{Captures, captures}
 use Rattle.demands.proofs.Importing.{Imports, imports}
+use Rattle.demands.proofs.Converting.{Converts, converts}
 use Rattle.demands.proofs.Senses.{Makes, makes-sense, Senses, senses}
 
 -- ---- sheet
 
-pub check-tied : Promised check.ended (λ M. check.clauses) (λ M. check.spec) (λ x o. Checks (x .args .0 .now) (o .0))
+pub check-tied : Promised check.ended (λ M. check.clauses) (λ M. check.spec) (λ x o. Checks (stored (x .args .0) (x .args .1 .0 .now)) (o .0))
 check-tied x = promises (x .𝓤) (λ o. by (Checks _) (checks _))
+
+-- ---- convert
+
+pub convert-tied : Promised convert.ended (λ M. convert.clauses) (λ M. convert.spec)
+    (λ x o. Converts (x .args .0) (stored (x .args .1 .0) (x .args .1 .1 .0 .now)) (x .args .1 .1 .1 .0 .now) (outcome (o .0) (o .1 .1 .1 .1 .0)))
+convert-tied x = promises (x .𝓤) (λ o. by (Converts _ _ _) (converts _ _ _))
 
 -- ---- responder
 
 pub send-tied : Promised send.ended (λ M. send.clauses) (λ M. send.spec)
-    (λ x o. Serves (x .args .0 .now) (x .args .1 .0) (x .args .1 .1 .0 .0) (x .args .1 .1 .1 .0) (x .args .1 .1 .1 .1 .0 .now) (outcome (o .0) (o .1 .1 .1 .1 .1 .0)))
+    (λ x o. Serves (stored (x .args .0) (x .args .1 .0 .now)) (x .args .1 .1 .0) (x .args .1 .1 .1 .0 .0) (x .args .1 .1 .1 .1 .0) (x .args .1 .1 .1 .1 .1 .0 .now) (outcome (o .0) (o .1 .1 .1 .1 .1 .1 .0)))
 send-tied x = promises (x .𝓤) (λ o. by (Serves _ _ _ _ _) (serves _ _ _ _ _))
 
-pub size-tied : Promised size.ended (λ M. size.clauses) (λ M. size.spec) (λ x o. Sizes (x .args .0 .now) (x .args .1 .0) (x .args .1 .1 .0 .0) (o .0))
+pub size-tied : Promised size.ended (λ M. size.clauses) (λ M. size.spec) (λ x o. Sizes (stored (x .args .0) (x .args .1 .0 .now)) (x .args .1 .1 .0) (x .args .1 .1 .1 .0 .0) (o .0))
 size-tied x = promises (x .𝓤) (λ o. by (Sizes _ _ _) (sizes _ _ _))
 
 pub send-sized-tied : Promised send-sized.ended (λ M. send-sized.clauses) (λ M. send-sized.spec)
-    (λ x o. ServesSized (x .args .0 .now) (x .args .1 .0) (x .args .1 .1 .0 .0) (x .args .1 .1 .1 .0) (x .args .1 .1 .1 .1 .0) (x .args .1 .1 .1 .1 .1 .0) (x .args .1 .1 .1 .1 .1 .1 .0 .now)
-    (outcome (o .0) (o .1 .1 .1 .1 .1 .1 .1 .0)))
+    (λ x o. ServesSized (stored (x .args .0) (x .args .1 .0 .now)) (x .args .1 .1 .0) (x .args .1 .1 .1 .0 .0) (x .args .1 .1 .1 .1 .0) (x .args .1 .1 .1 .1 .1 .0) (x .args .1 .1 .1 .1 .1 .1 .0) (x .args .1 .1 .1 .1 .1 .1 .1 .0 .now)
+    (outcome (o .0) (o .1 .1 .1 .1 .1 .1 .1 .1 .0)))
 send-sized-tied x = promises (x .𝓤) (λ o. by (ServesSized _ _ _ _ _ _ _) (serves-sized _ _ _ _ _ _ _))
 
 pub respond-accepted-tied : Promised respond-accepted.ended (λ M. respond-accepted.clauses) (λ M. respond-accepted.spec)
-    (λ x o. Trusts (x .args .0 .now) (x .args .1 .0 .now) (x .args .1 .1 .0 .now) (outcome (o .0) (o .1 .1 .1 .0)))
+    (λ x o. Trusts (stored (x .args .0) (x .args .1 .0 .now)) (x .args .1 .1 .0 .now) (x .args .1 .1 .1 .0 .now) (outcome (o .0) (o .1 .1 .1 .1 .0)))
 respond-accepted-tied x = promises (x .𝓤) (λ o. by (Trusts _ _ _) (trusts _ _ _))
 
 pub respond-tied : Promised respond.ended (λ M. respond.clauses) (λ M. respond.spec)
-    (λ x o. Answers (x .args .0 .now) (x .args .1 .0 .now) (x .args .1 .1 .0 .now) (outcome (o .0) (o .1 .1 .1 .0)))
+    (λ x o. Answers (stored (x .args .0) (x .args .1 .0 .now)) (x .args .1 .1 .0 .now) (x .args .1 .1 .1 .0 .now) (outcome (o .0) (o .1 .1 .1 .1 .0)))
 respond-tied x = promises (x .𝓤) (λ o. by (Answers _ _ _) (demand2 _ _ _))
 
 -- ---- reading
@@ -112,8 +121,8 @@ list-tied x = promises (x .𝓤) (λ o. lists)
 -- ---- bench
 
 pub bench-tied : Promised bench.ended (λ M. bench.clauses) (λ M. bench.spec)
-    (λ x o. Benches (x .args .0 .now) (x .args .1 .0) (x .args .1 .1 .0) (bench-specs.buffers (x .args .1 .1 .1 .0 .now) (x .args .1 .1 .1 .1 .0 .now) (x .args .1 .1 .1 .1 .1 .0 .now))
-    (bench-specs.ending (o .0) (bench-specs.buffers (o .1 .1 .1 .1 .0) (o .1 .1 .1 .1 .1 .0) (o .1 .1 .1 .1 .1 .1 .0))))
+    (λ x o. Benches (stored (x .args .0) (x .args .1 .0 .now)) (x .args .1 .1 .0) (x .args .1 .1 .1 .0) (bench-specs.buffers (x .args .1 .1 .1 .1 .0 .now) (x .args .1 .1 .1 .1 .1 .0 .now) (x .args .1 .1 .1 .1 .1 .1 .0 .now))
+    (bench-specs.ending (o .0) (bench-specs.buffers (o .1 .1 .1 .1 .1 .0) (o .1 .1 .1 .1 .1 .1 .0) (o .1 .1 .1 .1 .1 .1 .1 .0))))
 bench-tied x = promises (x .𝓤) (λ o. by (Benches _ _ _ _) (benches _ _ _ _))
 
 -- ---- checks

@@ -3,9 +3,11 @@ use mathlib.Core.List.{List, [], _∷_, _++_}
 use Prim.Native.Nat.{ℕ}
 use lib.ListN.{set}
 use Rattle.fields.specs.Field.{spell}
+use Rattle.layout.specs.declared.Layout.the-variants.{Rows}
+use Rattle.layout.specs.Layout.{Sheet, stored}
 
-unfoldable pub sheetE : List ℕ
-sheetE =
+unfoldable pub sheetE : Sheet
+sheetE = stored Rows (
     (0x00 ∷ 0x04 ∷ 0x00 ∷ 0x02 ∷ [])
     ++ (0x00 ∷ 0x01 ∷ 0x03 ∷ 0x04 ∷ 0x00 ∷ 0x00 ∷ 0x00 ∷ 0x2C ∷ [])
     ++ (0x00 ∷ 0x03 ∷ 0x03 ∷ 0x04 ∷ 0x00 ∷ 0x00 ∷ 0x00 ∷ 0x30 ∷ [])
@@ -14,11 +16,11 @@ sheetE =
     ++ (0x00 ∷ 0x12 ∷ 0x01 ∷ 0x00 ∷ [])
     ++ (0x00 ∷ 0x10 ∷ 0x00 ∷ 0x00 ∷ [])
     ++ (0x00 ∷ 0x00 ∷ 0x00 ∷ 0x02 ∷ [])
-    ++ (0x29 ∷ 0x00 ∷ 0x00 ∷ 0x00 ∷ [])
+    ++ (0x29 ∷ 0x00 ∷ 0x00 ∷ 0x00 ∷ []))
 
 -- sheet E with the flags of 001Fh made 00h
-unfoldable pub sheetE′ : List ℕ
-sheetE′ = set sheetE 22 0x00
+unfoldable pub sheetE′ : Sheet
+sheetE′ = stored Rows (set (sheetE .bytes) 22 0x00)
 
 -- the command with this RT, Starting Feature Number and allocation length, every other bit 0
 unfoldable pub command : (rt sfn a : ℕ) → List ℕ

@@ -4,6 +4,7 @@ use Prim.Native.Nat.{ℕ}
 use lib.ListN.{take, replicate}
 use Rattle.text.specs.Drive.{bit}
 use Rattle.text.specs.Response.{sent}
+use Rattle.layout.specs.Layout.{Sheet}
 use Rattle.sheet.specs.Meaning.{meaning}
 use Rattle.lent.specs.Maker.{Outcome}
 use Rattle.responder.specs.Answer.{answered}
@@ -22,7 +23,7 @@ unfoldable pub shown : Outcome → List ℕ
 shown o = o .made .refusal .number ∷ o .made .count ∷ take (o .made .count) (o .buffer)
 
 -- the box's answer to RT, SFN and allocation length, in a buffer of 64 bytes
-unfoldable pub asked : (s : List ℕ) (rt sfn a : ℕ) → List ℕ
+unfoldable pub asked : (s : Sheet) (rt sfn a : ℕ) → List ℕ
 asked s rt sfn a = shown (answered s (command rt sfn a) (replicate 64 0xEE))
 
 -- a bench sweep in numbers: the refusal, and the starts that were written
@@ -30,7 +31,7 @@ unfoldable pub sweptNumbers : Swept.Ending → List ℕ
 sweptNumbers o = o .reply .refusal .number ∷ take (o .reply .commands) (o .buffers .starts)
 
 -- the bench sweep of a sheet with RT 0, with room for 64 bytes and 8 starts
-unfoldable pub swept : (s : List ℕ) (a : ℕ) → List ℕ
+unfoldable pub swept : (s : Sheet) (a : ℕ) → List ℕ
 swept s a = sweptNumbers (benched s 0 a (buffers (replicate 64 0xEE) (replicate 64 0xEE) (replicate 8 0xEE)))
 
 -- a judgement in numbers: the number, whether it conforms, and the missing feature if one is named

@@ -1,12 +1,15 @@
 -- What holds of big-endian fields at every width. Assumes nothing.
 use mathlib.Core.Path.{_≡_, refl, sym, ap, _∙_}
+use mathlib.Core.Bool.{Bool, true, false}
 use mathlib.Core.List.{List, [], _∷_, _++_, append-assoc, append-nil}
 use Prim.Native.Nat.{ℕ, zero, suc, _+_, _-_, _*_, _/_, _%_, _^_, _≤_, _<_}
 use native.Mathlib.Nat.{add-zero, add-suc, add-assoc, pow-suc, pow-succ', mod-one, mod-lt, mod-eq-of-lt, div-one, div-div-eq-div-mul}
 use native.Mathlib.Omega.{arith}
+use lib.Dec.{leb}
 use lib.ListN.{length, take, drop, getD, length-drop, length-append, drop-of-length-le, List·getD-eq-default}
 use lib.Seq.{take-suc, take-all, take-nil, getD-take, getD-drop, getD-at, append-snoc}
 use lib.Arith.{digits-lt, digits-div, digits-mod, mod-mul}
+use borrow.Author.Tests.{leb-true, leb-false, le-leb, lt-leb}
 use Rattle.base.specs.Lists.{Bytes}
 use Rattle.base.proofs.Lists.{bytes-one, bytes-append}
 use Rattle.fields.specs.Field.{field, spell}
@@ -95,6 +98,14 @@ spell-mod w v =
     ∙ take-all w (spell w v) (omega arith)
 
 -- ---- a part of a slice
+
+-- whether it has k elements from an index on, asked of the index alone
+pub shifted : (at k n : ℕ) → k ≤ n → leb at (n - k) ≡ leb (at + k) n
+shifted at k n h = same (leb (at + k) n) refl
+  where
+    same : (b : Bool) → leb (at + k) n ≡ b → leb at (n - k) ≡ b
+    same true e = le-leb at (n - k) (omega (arith, leb-true (at + k) n e))
+    same false e = lt-leb at (n - k) (omega (arith, leb-false (at + k) n e))
 
 pub part-none : (k n at : ℕ) (s : List ℕ) → length s ≤ at → take (k - k) (drop k s) ≡ take n (drop at s)
 part-none k n at s h =

@@ -1,6 +1,7 @@
 // Big-endian fields of a slice, read. A byte behind the end reads as 0; the accessors named `inside` are for a slice that has the bytes, and look at no end.
 ghost use mathlib.Core.Path.{_≡_};
 ghost use Prim.Native.Nat.{_+_, _-_, _≤_, _<_};
+ghost use lib.Dec.{leb};
 ghost use lib.ListN.{length, getD, take, drop};
 ghost use Rattle.fields.specs.Field.{field};
 ghost use Rattle.fields.specs.Part.{PartOf};
@@ -56,11 +57,21 @@ fn left(s: &[u8], at: usize) -> usize
     s.len() - at
 }
 
+// Whether the slice has two bytes at an index. The index is looked at last, so that a search, which reads in a loop, looks at the length once.
+fn has2(s: &[u8], at: usize) -> bool
+    ensures { λ r. ⌜ r ≡ leb (at + 2) (length (now (s .entry))) ⌝ }
+{
+    if s.len() < 2 {
+        return false;
+    }
+    at <= s.len() - 2
+}
+
 // The two bytes at an index.
 pub fn get2(s: &[u8], at: usize) -> u16
     ensures { λ r. ⌜ r ≡ field 2 (now (s .entry)) at ⌝ }
 {
-    if 2 <= left(s, at) {
+    if has2(s, at) {
         return inside2(s, at);
     }
     // the last byte lies behind the end, and so in the wider fields

@@ -21,12 +21,15 @@ use Rattle.reading.specs.Places.{nextAt}
 use Rattle.reading.specs.inner.Between.{from}
 use Rattle.reading.proofs.At.{next-inside}
 use Rattle.reading.proofs.Places.{from-step, from-end}
-use Rattle.layout.specs.Layout.{countsBytes, entryBytes, profilesBehind}
-use Rattle.sheet.specs.Meaning.{contents}
+use Rattle.layout.specs.declared.Layout.the-variants.{Rows}
+use Rattle.layout.specs.Layout.{countsBytes, profilesBehind}
+use Rattle.layout.specs.Contents.{rowBytes, contents}
+use Rattle.layout.proofs.Contents.{length-row, length-contents}
+use Rattle.sheet.specs.Meaning.{entriesOf}
 use Rattle.sheet.specs.Meaning as sheet
-use Rattle.sheet.proofs.Pieces.{length-entry, length-contents}
+use Rattle.sheet.proofs.Pieces.{length-entries}
 use Rattle.capture.specs.inner.Behind.{behind}
-use Rattle.import.specs.inner.Pieces.{bodies, Standing, HasSpace, Filled, sheetBytes, Whole}
+use Rattle.import.specs.inner.Pieces.{rowAt, rows, bodies, Standing, HasSpace, Filled, sheetBytes, Whole}
 
 -- ---- stores that do not meet
 
@@ -52,10 +55,13 @@ two-runs d x xs y ys i j h =
     ∙ sets-append (sets (sets d i x) (i + length x) xs) j y ys
     ∙ ap (λ (l : List ℕ). sets l (j + length y) ys) (sets-comm (sets d i x) (i + length x) xs j y h)
 
--- one descriptor more at the front of the contents
-contents-step : (at : ℕ) (d : Desc) (ds : List Desc) → contents at (d ∷ ds) ≡ sheet.entry at d ++ contents (at + length (d .body)) ds
-unfolding contents
-contents-step at d ds = refl
+-- one descriptor more at the front of the rows
+rows-step : (at : ℕ) (d : Desc) (ds : List Desc) → rows at (d ∷ ds) ≡ rowAt at d ++ rows (at + length (d .body)) ds
+unfolding contents entriesOf flat
+rows-step at d ds = refl
+
+length-rows : (at : ℕ) (ds : List Desc) → length (rows at ds) ≡ 8 * length ds
+length-rows at ds = length-contents Rows (entriesOf at ds) ∙ ap (λ (k : ℕ). 8 * k) (length-entries at ds)
 
 -- ---- a descriptor that is whole
 
@@ -63,8 +69,8 @@ pub body-length : (s : List ℕ) (at : ℕ) → at + 4 + lengthAt s at ≤ lengt
 body-length s at h = omega (arith, length-descAt s at h, length-bytes (descAt s at))
 
 -- its entry starts with its header bytes
-pub entry-head : (s : List ℕ) (at offset : ℕ) → Bytes s → at + 4 + lengthAt s at ≤ length s → sheet.entry offset (descAt s at) ≡ take (at + 4 - at) (drop at s) ++ spell 4 offset
-unfolding bytes entryBytes
+pub entry-head : (s : List ℕ) (at offset : ℕ) → Bytes s → at + 4 + lengthAt s at ≤ length s → rowAt offset (descAt s at) ≡ take (at + 4 - at) (drop at s) ++ spell 4 offset
+unfolding bytes rowBytes
 entry-head s at offset bs h =
     let x : Desc = descAt s at in
     let n : at + 4 - at ≡ 4 = omega arith in
@@ -99,11 +105,11 @@ pub record Passed (s : List ℕ) (r : ℕ) (f : List ℕ) (entry next place : �
 
 module _ {s : List ℕ} {entry next place : ℕ} {d : List ℕ} where
   pub passed-start : HasSpace s entry next place d
-      → Passed s (next + length (bodies (from s place))) (sets (sets d entry (contents next (from s place))) next (bodies (from s place))) entry next place d
+      → Passed s (next + length (bodies (from s place))) (sets (sets d entry (rows next (from s place))) next (bodies (from s place))) entry next place d
   passed-start h = record { fits = h; filled = record { next = refl; holds = refl } }
 
   pub passed-end : {r : ℕ} {f : List ℕ} → Passed s r f entry next place d → length s ≤ place → (next ≡ r) × (d ≡ f)
-  unfolding contents flat
+  unfolding contents entriesOf flat
   passed-end p h =
       let e : from s place ≡ [] = from-end s place h in
       (sym (p .filled .next ∙ rw e (omega arith)), sym (p .filled .holds ∙ rw e))
@@ -132,22 +138,22 @@ module _ {s : List ℕ} {r : ℕ} {f : List ℕ} {entry next place : ℕ} {d : L
   here-body v = omega (arith, here-sizes, kept v)
 
   pub passed-more : {entry′ next′ place′ : ℕ} {d′ d″ : List ℕ}
-      → Wrote d entry (sheet.entry next (descAt s place)) entry′ d′ → Wrote d′ next (descAt s place .body) next′ d″ → place′ ≡ place + 4 + lengthAt s place
+      → Wrote d entry (rowAt next (descAt s place)) entry′ d′ → Wrote d′ next (descAt s place .body) next′ d″ → place′ ≡ place + 4 + lengthAt s place
       → Passed s r f entry′ next′ place′ d″
   unfolding flat
   passed-more {entry′} {next′} {place′} {d′} {d″} v w n =
       let x : Desc = descAt s place in
       let ds : List Desc = from s place′ in
       let e : from s place ≡ x ∷ ds = there ∙ ap (λ (k : ℕ). x ∷ from s k) (sym (n ∙ next-inside s place (lengthAt s place) h refl)) in
-      let m : length (sheet.entry next x) ≡ 8 = length-entry next x in
-      let lc : length (contents (next + length (x .body)) ds) ≡ 8 * length ds = length-contents (next + length (x .body)) ds in
+      let m : length (rowAt next x) ≡ 8 = length-row (sheet.entry next x) in
+      let lc : length (rows (next + length (x .body)) ds) ≡ 8 * length ds = length-rows (next + length (x .body)) ds in
       let l : length (bodies (x ∷ ds)) ≡ length (x .body) + length (bodies ds) = length-append (x .body) (bodies ds) in
       let apart : entry + 8 * suc (length ds) ≤ next = rw e at (p .fits .apart) in
       let room : next + length (bodies (x ∷ ds)) ≤ length d = rw e at (p .fits .room) in
       let low : next + length (bodies (x ∷ ds)) < 4294967296 = rw e at (p .fits .low) in
       let all : r ≡ next + length (bodies (x ∷ ds)) = rw e at (p .filled .next) in
       let k : length d″ ≡ length d = kept w ∙ kept v in
-      let a : entry′ ≡ entry + length (sheet.entry next x) = omega (arith, v .next) in
+      let a : entry′ ≡ entry + length (rowAt next x) = omega (arith, v .next) in
       let c : next′ ≡ next + length (x .body) = omega (arith, w .next, kept v) in
       record {
         fits = record { whole = subst (λ (k : ℕ). Standing s k ds) (sym n) ((rw e at (p .fits .whole)) .1); apart = omega arith; room = omega arith; low = omega arith };
@@ -155,9 +161,9 @@ module _ {s : List ℕ} {r : ℕ} {f : List ℕ} {entry next place : ℕ} {d : L
           next = omega arith;
           holds =
               p .filled .holds
-              ∙ ap (λ (l : List Desc). sets (sets d entry (contents next l)) next (bodies l)) e
-              ∙ ap (λ (l : List ℕ). sets (sets d entry l) next (bodies (x ∷ ds))) (contents-step next x ds)
-              ∙ two-runs d (sheet.entry next x) (contents (next + length (x .body)) ds) (x .body) (bodies ds) entry next (omega arith)
+              ∙ ap (λ (l : List Desc). sets (sets d entry (rows next l)) next (bodies l)) e
+              ∙ ap (λ (l : List ℕ). sets (sets d entry l) next (bodies (x ∷ ds))) (rows-step next x ds)
+              ∙ two-runs d (rowAt next x) (rows (next + length (x .body)) ds) (x .body) (bodies ds) entry next (omega arith)
               ∙ rw (w .holds, v .holds, a, c);
         };
       }
@@ -169,7 +175,7 @@ length-counts n p = simp (length-append, length-spell)
 
 pub length-sheetBytes : (b : List ℕ) (ds : List Desc) → length (sheetBytes b ds) ≡ 4 + 8 * length ds + length b + length (bodies ds)
 unfolding sheetBytes
-length-sheetBytes b ds = simp (length-append, length-spell, length-contents) (omega arith)
+length-sheetBytes b ds = simp (length-append, length-spell, length-rows) (omega arith)
 
 module _ {s : List ℕ} {n : ℕ} {d : List ℕ} (w : Whole s n d) where
   -- its pieces, each in its turn: the counts, the profile list, then contents and bodies
@@ -196,8 +202,8 @@ module _ {s : List ℕ} {n : ℕ} {d : List ℕ} (w : Whole s n d) where
     unfolding sheetBytes
     whole-written {first} {r} {e} f g =
         let ds : List Desc = behind s in
-        let c : List ℕ = contents body ds in
-        let lc : length c ≡ 8 * length ds = length-contents body ds in
+        let c : List ℕ = rows body ds in
+        let lc : length c ≡ 8 * length ds = length-rows body ds in
         let room : 4 + 8 * n + length b + length (bodies ds) ≤ length d = omega (arith, sizes, w .room) in
         let k : length d₁ ≡ length d = kept v₁ in
         let w₁ : Wrote d₁ entries c at (sets d₁ entries c) = wrote-sets d₁ entries c at (omega (arith, entries-at, w .count)) (omega (arith, p, entries-at, w .count)) in

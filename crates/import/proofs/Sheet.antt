@@ -7,6 +7,7 @@ use Rattle.base.specs.Lists.{Bytes}
 use Rattle.text.specs.Drive.{Drive}
 use Rattle.text.specs.Response.{full}
 use Rattle.reading.specs.Places.{descs}
+use Rattle.layout.specs.declared.Layout.the-variants.{Rows}
 use Rattle.sheet.specs.Check.{Accepted}
 use Rattle.sheet.specs.Meaning.{meaning, Fine, sheetOf}
 use Rattle.sheet.proofs.Build.{sheet-accepted, sheet-means, sheet-bytes}
@@ -18,19 +19,19 @@ use Rattle.import.specs.Import.{sheetFrom}
 module _ (r : List ℕ) (bs : Bytes r) (e : captureFault r .number ≡ 0) where
   pub from-accepted : Accepted (sheetFrom r)
   unfolding sheetFrom
-  from-accepted = sheet-accepted (captured (descs r)) (captured-fine r bs e)
+  from-accepted = sheet-accepted Rows (captured (descs r)) (captured-fine r bs e)
 
-  pub from-bytes : Bytes (sheetFrom r)
+  pub from-bytes : Bytes (sheetFrom r .bytes)
   unfolding sheetFrom
-  from-bytes = sheet-bytes (captured-fine r bs e)
+  from-bytes = sheet-bytes Rows (captured-fine r bs e)
 
   pub from-means : meaning (sheetFrom r) ≡ captured (descs r)
   unfolding sheetFrom
-  from-means = sheet-means (captured (descs r)) (captured-fine r bs e)
+  from-means = sheet-means Rows (captured (descs r)) (captured-fine r bs e)
 
   pub from-full : full 0 0 (meaning (sheetFrom r)) ≡ r
   from-full = ap (full 0 0) from-means ∙ captured-full r bs e
 
-pub own-sheet : {m : Drive} → Fine m → length (full 0 0 m) ≤ 65534 → sheetFrom (full 0 0 m) ≡ sheetOf m
+pub own-sheet : {m : Drive} → Fine m → length (full 0 0 m) ≤ 65534 → sheetFrom (full 0 0 m) ≡ sheetOf Rows m
 unfolding sheetFrom
-own-sheet f small = ap sheetOf (own-drive f small)
+own-sheet f small = ap (sheetOf Rows) (own-drive f small)

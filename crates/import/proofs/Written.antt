@@ -14,7 +14,8 @@ use Rattle.text.specs.Reading.{lengthAt, descAt}
 use Rattle.text.proofs.Received.{Stand, wholes-stand}
 use Rattle.reading.specs.Places.{nextAt}
 use Rattle.reading.proofs.At.{next-is}
-use Rattle.layout.specs.Layout.{profilesBehind}
+use Rattle.layout.specs.declared.Layout.the-variants.{Rows}
+use Rattle.layout.specs.Layout.{sheetSize, profilesBehind}
 use Rattle.profiles.specs.Profiles.{profilesOf}
 use Rattle.profiles.proofs.Kept.{fault-kept, length-profilesOf}
 use Rattle.profiles.proofs.Again.{profiles-back}
@@ -34,14 +35,14 @@ use Rattle.import.proofs.Beside.{all-standing, length-sheetBytes}
 
 -- a sheet whose profile list is b
 sheet-parts : (b : List ℕ) (ds : List Desc) → length b % 4 ≡ 0 → flat profileBytes (profilesOf b) ≡ b
-    → sheetOf record { profiles = profilesOf b; features = ds } ≡ sheetBytes b ds
+    → sheetOf Rows record { profiles = profilesOf b; features = ds } .bytes ≡ sheetBytes b ds
 unfolding sheetOf sheetBytes
 sheet-parts b ds four e =
     let n : 4 * (length b / 4) ≡ length b = omega (arith, div-add-mod (length b) 4) in
     rw (e, length-profilesOf b, n)
 
 module _ (s : List ℕ) (k : captureFault s .number ≡ 0) (bs : Bytes s) where
-  sheet-is : sheetFrom s ≡ sheetBytes (descAt s 8 .body) (behind s)
+  sheet-is : sheetFrom s .bytes ≡ sheetBytes (descAt s 8 .body) (behind s)
   unfolding sheetFrom captured
   sheet-is =
       let c = describes s k in
@@ -56,7 +57,7 @@ module _ (s : List ℕ) (k : captureFault s .number ≡ 0) (bs : Bytes s) where
       let t : Stand s 8 (descAt s 8 ∷ behind s) = rw (c .found) at (wholes-stand 65534 0 0 s) in
       subst (λ (at : ℕ). Standing s at (behind s)) (sym (next-is s 8 (nextAt s 8) (length-first s k) refl)) (all-standing s (8 + 4 + lengthAt s 8) (behind s) (t .2))
 
-  length-sheet : length (sheetFrom s) ≡ length s - 8 + 4 * length (behind s)
+  length-sheet : sheetSize (sheetFrom s) ≡ length s - 8 + 4 * length (behind s)
   length-sheet = omega (arith, ap length sheet-is, length-sheetBytes (descAt s 8 .body) (behind s), sizes s k)
 
 -- ---- the answer, by what the check answers
@@ -81,7 +82,7 @@ module _ (s : List ℕ) (c : Capture) (e : c ≡ captureOf s) where
 
     -- with room for the sheet or not, where the profiles start at `at`
     module _ (bs : Bytes s) (d : List ℕ) (at : ℕ) (a : at ≡ profilesBehind (c .features)) where
-      needed : length (sheetFrom s) ≡ at + (length s - (8 + 4 * (c .features + 1)))
+      needed : sheetSize (sheetFrom s) ≡ at + (length s - (8 + 4 * (c .features + 1)))
       needed = omega (arith, a, length-sheet s none bs, count, import-heads)
 
       pub import-short : length d < at + (length s - (8 + 4 * (c .features + 1))) → (m : Made) → m ≡ refused (refuse 42) → outcome m d ≡ imported s d
@@ -100,6 +101,6 @@ module _ (s : List ℕ) (c : Capture) (e : c ≡ captureOf s) where
 
         pub import-written : {n : ℕ} {f : List ℕ} (m : Made) → m ≡ written n → Wrote d 0 (sheetBytes (descAt s 8 .body) (behind s)) n f → outcome m f ≡ imported s d
         import-written {n} {f} m q w =
-            let v : Wrote d 0 (sheetFrom s) n f = rw (sheet-is s none bs) w in
-            let k : length (sheetFrom s) ≤ length d = omega (arith, needed) in
+            let v : Wrote d 0 (sheetFrom s .bytes) n f = rw (sheet-is s none bs) w in
+            let k : sheetSize (sheetFrom s) ≤ length d = omega (arith, needed) in
             ap (λ (n : Made). outcome n f) q ∙ written-making k v ∙ sym (imported-written s d none k)

@@ -5,11 +5,10 @@ ghost use lib.ListN.{length};
 ghost use Rattle.lent.specs.Wrote.{Wrote};
 ghost use Rattle.text.specs.Response.{headerLength};
 ghost use Rattle.text.specs.Reading.{lengthAt, descAt};
-ghost use Rattle.sheet.specs.Meaning.{entry};
 ghost use Rattle.capture.specs.inner.Behind.{behind};
 ghost use Rattle.import.specs.Import.{imported};
 ghost use Rattle.lent.specs.Maker.{outcome};
-ghost use Rattle.import.specs.inner.Pieces.{HasSpace, Filled, sheetBytes, Whole};
+ghost use Rattle.import.specs.inner.Pieces.{rowAt, HasSpace, Filled, sheetBytes, Whole};
 use lent::Made;
 use text::Header;
 
@@ -28,10 +27,10 @@ fn length_in(s: &[u8], place: usize) -> usize
 // Asks: a descriptor that the response has whole, which the check has read, and room for the entry, which 42 has shown before.
 fn put_entry(sheet: &mut [u8], at: usize, s: &[u8], place: usize, offset: u32) -> usize
     requires { ⌜ (place + 4 + lengthAt (now s) place ≤ length (now s)) × (at + 8 ≤ length (now sheet)) ⌝ }
-    ensures { λ r. ⌜ Wrote (now (sheet .entry)) at (entry offset (descAt (now (s .entry)) place)) r (now (sheet .exit)) ⌝ }
+    ensures { λ r. ⌜ Wrote (now (sheet .entry)) at (rowAt offset (descAt (now (s .entry)) place)) r (now (sheet .exit)) ⌝ }
 {
     let behind = place + 4;
-    layout::place_entry(sheet, at, &s[place..behind], offset)
+    layout::place_row(sheet, at, &s[place..behind], offset)
 }
 
 // Its body. Many features have none.

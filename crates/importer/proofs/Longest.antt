@@ -16,6 +16,7 @@ use Rattle.sheet.proofs.Longest.{length-sheet}
 use Rattle.capture.specs.Capture.{captured, captureFault}
 use Rattle.capture.proofs.Describes.{captured-fine, captured-full, captured-short}
 use Rattle.capture.proofs.Checked.{length-bodies}
+use Rattle.layout.specs.declared.Layout.the-variants.{Rows}
 use Rattle.import.specs.Import.{sheetFrom, imported}
 use Rattle.refusal.specs.First.{unless}
 use Rattle.refusal.proofs.First.{unless-none, unless-fault}
@@ -39,18 +40,18 @@ length-all m f =
 
 -- what import answers with memory of that length: no 42, and a count of bytes that are there
 pub record Answered (s d : List ℕ) : Type 0 where
-  pub whole : imported s d ≡ unless (captureFault s) (refusing d) (making (sheetFrom s) d)
+  pub whole : imported s d ≡ unless (captureFault s) (refusing d) (making (sheetFrom s .bytes) d)
   pub count : imported s d .made .count ≤ length (imported s d .buffer)
 
 module _ (s : List ℕ) (b : Bytes s) where
-  sheet-most : captureFault s .number ≡ 0 → length (sheetFrom s) ≤ 131044
+  sheet-most : captureFault s .number ≡ 0 → length (sheetFrom s .bytes) ≤ 131044
   unfolding sheetFrom
   sheet-most e =
       let m : Drive = captured (descs s) in
       let f : Fine m = captured-fine s b e in
       omega (
         arith,
-        length-sheet m,
+        length-sheet Rows m,
         length-all m f,
         length-bodies (m .features),
         full-four (f .sound) 0 0,
@@ -66,12 +67,12 @@ module _ (s : List ℕ) (b : Bytes s) where
       go zero e =
           let x = imported-written s d e (omega (arith, sheet-most e)) in
           record {
-            whole = x ∙ sym (unless-none (captureFault s) (refusing d) (making (sheetFrom s) d) e);
-            count = rw x (omega (arith, length-append (sheetFrom s) (drop (length (sheetFrom s)) d)));
+            whole = x ∙ sym (unless-none (captureFault s) (refusing d) (making (sheetFrom s .bytes) d) e);
+            count = rw x (omega (arith, length-append (sheetFrom s .bytes) (drop (length (sheetFrom s .bytes)) d)));
           }
       go (suc n) e =
           let x = imported-fault s d (λ z. omega arith) in
           record {
-            whole = x ∙ sym (unless-fault (captureFault s) (refusing d) (making (sheetFrom s) d) (λ z. omega arith));
+            whole = x ∙ sym (unless-fault (captureFault s) (refusing d) (making (sheetFrom s .bytes) d) (λ z. omega arith));
             count = rw x (omega arith);
           }

@@ -21,7 +21,7 @@ const HEX: usize = 1;
 // The sheet, whole: the buffer has room for the longest, so 42 is never given.
 fn sheet_of(s: &[u8], sheet: &mut [u8; LONGEST]) -> Made
     ensures { λ r. ⌜ Counts (r .count) (now (sheet .exit)) ⌝ }
-    ensures { λ r. ⌜ outcome r (now (sheet .exit)) ≡ unless (captureFault (now (s .entry))) (refusing (now (sheet .entry))) (making (sheetFrom (now (s .entry))) (now (sheet .entry))) ⌝ }
+    ensures { λ r. ⌜ outcome r (now (sheet .exit)) ≡ unless (captureFault (now (s .entry))) (refusing (now (sheet .entry))) (making (sheetFrom (now (s .entry)) .bytes) (now (sheet .entry))) ⌝ }
 {
     import::import(s, sheet)
 }

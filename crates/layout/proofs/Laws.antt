@@ -1,23 +1,26 @@
--- What stands in a sheet where an entry is. Assumes nothing.
-use mathlib.Core.Path.{_≡_, ap, _∙_}
-use mathlib.Core.List.{List, [], _∷_, _++_, append-assoc}
-use Prim.Native.Nat.{ℕ, _+_, _*_, _≤_}
+-- Every field of an entry stands inside the contents, in either layout. Assumes nothing.
+use Prim.Native.Nat.{ℕ, _+_, _*_, _≤_, _<_}
 use native.Mathlib.Omega.{arith}
-use lib.ListN.{length, getD, take, drop}
-use Rattle.base.specs.Lists.{Bytes}
-use Rattle.base.proofs.Lists.{take-two, take-more}
-use Rattle.fields.specs.Field.{field, spell}
-use Rattle.fields.proofs.Laws.{spell-field}
-use Rattle.layout.specs.Layout.{entryAt, number, flags, bodyLength}
-use Rattle.layout.specs.inner.Entry.{headPart}
+use Rattle.layout.specs.declared.Layout.{Layout}
+use Rattle.layout.specs.declared.Layout.the-variants.{Rows, Columns}
+use Rattle.layout.specs.Layout.{numberPlace, flagsPlace, lengthPlace, offsetPlace}
 
--- the head spells number, flags and body length
-pub head-spelt : (s : List ℕ) (i : ℕ) → Bytes s → entryAt i + 8 ≤ length s → spell 2 (number s i) ++ (flags s i ∷ []) ++ (bodyLength s i ∷ []) ≡ headPart s i
-unfolding number flags bodyLength headPart
-head-spelt s i k h =
-    let e : spell 2 (field 2 s (4 + 8 * i)) ≡ take 2 (drop (4 + 8 * i) s) = spell-field 2 s (4 + 8 * i) k (omega arith) in
-    let g : 4 + 8 * i + 3 ≡ 4 + 8 * i + 2 + 1 = omega arith in
-    let f : getD s (4 + 8 * i + 2) 0 ∷ getD s (4 + 8 * i + 3) 0 ∷ [] ≡ take 2 (drop (4 + 8 * i + 2) s) =
-    ap (λ (k : ℕ). getD s (4 + 8 * i + 2) 0 ∷ getD s k 0 ∷ []) g ∙ take-two s (4 + 8 * i + 2) (omega arith) in
-    append-assoc (spell 2 (field 2 s (4 + 8 * i))) (getD s (4 + 8 * i + 2) 0 ∷ []) (getD s (4 + 8 * i + 3) 0 ∷ [])
-    ∙ (λ j. e j ++ f j) ∙ take-more s (4 + 8 * i) 2 2
+pub number-inside : (l : Layout) (n i : ℕ) → i < n → numberPlace l n i + 2 ≤ 4 + 8 * n
+unfolding numberPlace
+number-inside Rows n i h = omega arith
+number-inside Columns n i h = omega arith
+
+pub flags-inside : (l : Layout) (n i : ℕ) → i < n → flagsPlace l n i + 1 ≤ 4 + 8 * n
+unfolding flagsPlace
+flags-inside Rows n i h = omega arith
+flags-inside Columns n i h = omega arith
+
+pub length-inside : (l : Layout) (n i : ℕ) → i < n → lengthPlace l n i + 1 ≤ 4 + 8 * n
+unfolding lengthPlace
+length-inside Rows n i h = omega arith
+length-inside Columns n i h = omega arith
+
+pub offset-inside : (l : Layout) (n i : ℕ) → i < n → offsetPlace l n i + 4 ≤ 4 + 8 * n
+unfolding offsetPlace
+offset-inside Rows n i h = omega arith
+offset-inside Columns n i h = omega arith

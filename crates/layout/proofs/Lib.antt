@@ -1,2 +1,5 @@
--- Laws of the layout.
+-- Laws of the layouts that this crate's proofs and those above it cite.
 pub mod Laws
+pub mod Contents
+pub mod Laid
+pub mod Heads

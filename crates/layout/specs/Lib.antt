@@ -1,2 +1,4 @@
 pub mod Layout
+pub mod Contents
+pub mod Same
 pub mod inner

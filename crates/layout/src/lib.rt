@@ -1,24 +1,36 @@
-// Where a drive sheet's fields stand, read and written: nothing above this crate knows the layout of an entry. A field behind the sheet's end reads as 0.
+// Where a drive sheet's fields stand, read and written: nothing above this crate knows the layout of the contents. A field behind the sheet's end reads as 0.
 ghost use mathlib.Core.Path.{_≡_};
+ghost use Prim.Native.Nat.{_+_, _*_, _≤_, _<_};
 ghost use mathlib.Core.List.{_++_};
-ghost use Prim.Native.Nat.{_+_, _≤_};
 ghost use lib.ListN.{length};
 ghost use Rattle.fields.specs.Field.{spell};
 ghost use Rattle.fields.specs.Part.{PartOf};
 ghost use Rattle.lent.specs.Wrote.{Wrote};
-ghost use Rattle.layout.specs.Layout.{featureCount, profileCount, profilesBehind, entryAt, bodiesAt, profilesAt, number, flags, bodyLength, offset, countsBytes, entryBytes, profilesPart};
-ghost use Rattle.layout.specs.inner.Entry.{entryOf, headPart};
+ghost use Rattle.layout.specs.Layout.{stored, features, profiles, profilesBehind, profilesIn, countsBytes, numberPlace, flagsPlace, lengthPlace, offsetPlace, number, flags, bodyLength, offset};
+ghost use Rattle.base.specs.Lists.{each, flat};
+ghost use Rattle.layout.specs.Contents.{entryOf, headNumber, rowBytes, contents};
+ghost use Rattle.layout.specs.inner.Found.{foundOf};
+ghost use Rattle.layout.specs.inner.Piece.{pieceBytes};
+ghost use Rattle.layout.specs.inner.Room.{Room};
 use text::Feature;
 use text::Flags;
 
+// How the contents stand: entry behind entry, or all feature numbers, then all flags, all body lengths, all offsets.
+pub enum Layout {
+    Rows,
+    Columns,
+}
+
+// ---- what stands alike in both layouts
+
 pub fn feature_count(s: &[u8]) -> u16
-    ensures { λ r. ⌜ r ≡ featureCount (now (s .entry)) ⌝ }
+    ensures { λ r. ⌜ r ≡ features (now (s .entry)) ⌝ }
 {
     fields::get2(s, 0)
 }
 
 pub fn profile_count(s: &[u8]) -> u16
-    ensures { λ r. ⌜ r ≡ profileCount (now (s .entry)) ⌝ }
+    ensures { λ r. ⌜ r ≡ profiles (now (s .entry)) ⌝ }
 {
     fields::get2(s, 2)
 }
@@ -32,12 +44,85 @@ pub fn profiles_behind(features: u16) -> usize
 
 // Where the bodies start.
 pub fn bodies_at(s: &[u8]) -> usize
-    ensures { λ r. ⌜ r ≡ bodiesAt (now (s .entry)) ⌝ }
+    ensures { λ r. ⌜ r ≡ profilesBehind (features (now (s .entry))) + 4 * profiles (now (s .entry)) ⌝ }
 {
     4 + 8 * (feature_count(s) as usize) + 4 * (profile_count(s) as usize)
 }
 
-// ---- an entry
+// The profiles as they stand, which is as feature 0 sends them.
+pub fn profiles_part(s: &[u8]) -> &[u8]
+    ensures { λ r. ⌜ PartOf (s .entry) (profilesBehind (features (now (s .entry)))) (profilesIn (now (s .entry))) r ⌝ }
+{
+    let at = 4 + 8 * (feature_count(s) as usize);
+    fields::part(s, at, 4 * (profile_count(s) as usize))
+}
+
+// ---- where the fields of entry i of n stand
+
+fn number_place(lay: Layout, n: u16, i: u16) -> usize
+    ensures { λ r. ⌜ r ≡ numberPlace lay n i ⌝ }
+{
+    match lay {
+        Layout::Rows => 4 + 8 * (i as usize),
+        Layout::Columns => 4 + 2 * (i as usize),
+    }
+}
+
+fn flags_place(lay: Layout, n: u16, i: u16) -> usize
+    ensures { λ r. ⌜ r ≡ flagsPlace lay n i ⌝ }
+{
+    match lay {
+        Layout::Rows => 4 + 8 * (i as usize) + 2,
+        Layout::Columns => 4 + 2 * (n as usize) + i as usize,
+    }
+}
+
+fn length_place(lay: Layout, n: u16, i: u16) -> usize
+    ensures { λ r. ⌜ r ≡ lengthPlace lay n i ⌝ }
+{
+    match lay {
+        Layout::Rows => 4 + 8 * (i as usize) + 3,
+        Layout::Columns => 4 + 3 * (n as usize) + i as usize,
+    }
+}
+
+fn offset_place(lay: Layout, n: u16, i: u16) -> usize
+    ensures { λ r. ⌜ r ≡ offsetPlace lay n i ⌝ }
+{
+    match lay {
+        Layout::Rows => 4 + 8 * (i as usize) + 4,
+        Layout::Columns => 4 + 4 * (n as usize) + 4 * (i as usize),
+    }
+}
+
+// ---- an entry of any sheet
+
+// The feature number of entry i.
+pub fn feature_at(lay: Layout, s: &[u8], i: u16) -> Feature
+    ensures { λ r. ⌜ r .0 ≡ number (stored lay (now (s .entry))) i ⌝ }
+{
+    Feature(fields::get2(s, number_place(lay, feature_count(s), i)))
+}
+
+pub fn flags_at(lay: Layout, s: &[u8], i: u16) -> Flags
+    ensures { λ r. ⌜ r .0 ≡ flags (stored lay (now (s .entry))) i ⌝ }
+{
+    Flags(fields::byte(s, flags_place(lay, feature_count(s), i)))
+}
+
+pub fn length_at(lay: Layout, s: &[u8], i: u16) -> u8
+    ensures { λ r. ⌜ r ≡ bodyLength (stored lay (now (s .entry))) i ⌝ }
+{
+    fields::byte(s, length_place(lay, feature_count(s), i))
+}
+
+pub fn offset_at(lay: Layout, s: &[u8], i: u16) -> u32
+    ensures { λ r. ⌜ r ≡ offset (stored lay (now (s .entry))) i ⌝ }
+{
+    fields::get4(s, offset_place(lay, feature_count(s), i))
+}
+
+// ---- an entry of a sheet that has its contents
 
 pub struct Entry {
     pub number: Feature,
@@ -46,63 +131,56 @@ pub struct Entry {
     pub offset: u32,
 }
 
-// Where entry i ends.
-pub fn entry_end(i: u16) -> usize
-    ensures { λ r. ⌜ r ≡ entryAt i + 8 ⌝ }
+// Entry i of n, with no look at the sheet's end.
+// Asks: a sheet of n features that has its contents, and one of their indices; its length was held to `profiles_behind` or `bodies_at` before.
+pub fn entry_in(lay: Layout, s: &[u8], n: u16, i: u16) -> Entry
+    requires { ⌜ Room (now s) n × (i < n) ⌝ }
+    ensures { λ r. ⌜ r ≡ entryOf (stored lay (now (s .entry))) i ⌝ }
 {
-    4 + 8 * (i as usize) + 8
-}
-
-// Entry i, with no look at the sheet's end.
-// Asks: a sheet that has the entry; its length was held to `entry_end` or `bodies_at` before.
-pub fn entry_in(s: &[u8], i: u16) -> Entry
-    requires { ⌜ entryAt i + 8 ≤ length (now s) ⌝ }
-    ensures { λ r. ⌜ r ≡ entryOf (now (s .entry)) i ⌝ }
-{
-    let at = 4 + 8 * (i as usize);
     Entry {
-        number: Feature(fields::inside2(s, at)),
-        flags: Flags(fields::inside(s, at + 2)),
-        length: fields::inside(s, at + 3),
-        offset: fields::inside4(s, at + 4),
+        number: Feature(fields::inside2(s, number_place(lay, n, i))),
+        flags: Flags(fields::inside(s, flags_place(lay, n, i))),
+        length: fields::inside(s, length_place(lay, n, i)),
+        offset: fields::inside4(s, offset_place(lay, n, i)),
     }
 }
 
-// Number, flags and body length of entry i as they stand, which is how a descriptor starts.
-// Asks: a sheet that has the entry; its length was held to `entry_end` before.
-pub fn head_part(s: &[u8], i: u16) -> &[u8]
-    requires { ⌜ entryAt i + 8 ≤ length (now s) ⌝ }
-    ensures { λ r. ⌜ PartOf (s .entry) (entryAt i) (headPart (now (s .entry)) i) r × (length (now r) ≡ 4) ⌝ }
+// The head of entry i's descriptor as one number: feature number, flags, body length.
+// Asks: the same as `entry_in`.
+fn head_in(lay: Layout, s: &[u8], n: u16, i: u16) -> u32
+    requires { ⌜ Room (now s) n × (i < n) ⌝ }
+    ensures { λ r. ⌜ r ≡ headNumber (entryOf (stored lay (now (s .entry))) i) ⌝ }
 {
-    let at = 4 + 8 * (i as usize);
-    let end = at + 4;
-    &s[at..end]
+    let at = number_place(lay, n, i);
+    match lay {
+        Layout::Rows => fields::inside4(s, at),
+        Layout::Columns => {
+            let number = fields::inside2(s, at);
+            let flags = fields::inside(s, flags_place(lay, n, i));
+            let length = fields::inside(s, length_place(lay, n, i));
+            number as u32 * 65536 + flags as u32 * 256 + length as u32
+        }
+    }
 }
 
-// The feature number of entry i.
-pub fn feature_at(s: &[u8], i: u16) -> Feature
-    ensures { λ r. ⌜ r .0 ≡ number (now (s .entry)) i ⌝ }
-{
-    Feature(fields::get2(s, 4 + 8 * (i as usize)))
+// What a writer of descriptors wants of an entry: the head as one number, and where the offset stands.
+pub struct Found {
+    pub head: u32,
+    pub place: usize,
 }
 
-pub fn flags_at(s: &[u8], i: u16) -> Flags
-    ensures { λ r. ⌜ r .0 ≡ flags (now (s .entry)) i ⌝ }
+// Asks: the same as `entry_in`.
+pub fn find(lay: Layout, s: &[u8], n: u16, i: u16) -> Found
+    requires { ⌜ Room (now s) n × (i < n) ⌝ }
+    ensures { λ r. ⌜ r ≡ foundOf (stored lay (now (s .entry))) i ⌝ }
 {
-    Flags(fields::byte(s, 4 + 8 * (i as usize) + 2))
+    Found {
+        head: head_in(lay, s, n, i),
+        place: offset_place(lay, n, i),
+    }
 }
 
-pub fn length_at(s: &[u8], i: u16) -> u8
-    ensures { λ r. ⌜ r ≡ bodyLength (now (s .entry)) i ⌝ }
-{
-    fields::byte(s, 4 + 8 * (i as usize) + 3)
-}
-
-pub fn offset_at(s: &[u8], i: u16) -> u32
-    ensures { λ r. ⌜ r ≡ offset (now (s .entry)) i ⌝ }
-{
-    fields::get4(s, 4 + 8 * (i as usize) + 4)
-}
+// ---- writing
 
 // Writes the two counts to the front, as far as the buffer has room.
 pub fn put_counts(out: &mut [u8], features: u16, profiles: u16) -> usize
@@ -112,52 +190,79 @@ pub fn put_counts(out: &mut [u8], features: u16, profiles: u16) -> usize
     lent::put2(out, second, profiles)
 }
 
-// Writes an entry, as far as the buffer has room.
-pub fn put_entry(
-    out: &mut [u8],
-    at: usize,
-    number: Feature,
-    flags: Flags,
-    len: u8,
-    offset: u32,
-) -> usize
-    ensures { λ r. ⌜ Wrote (now (out .entry)) at (entryBytes (number .0) (flags .0) len offset) r (now (out .exit)) ⌝ }
+// Which bytes of an entry are written: all in a row, or one field for its column.
+enum Piece {
+    Row,
+    Number,
+    Flags,
+    Length,
+    Offset,
+}
+
+// Writes an entry as a row, as far as the buffer has room.
+fn put_row(out: &mut [u8], at: usize, e: Entry) -> usize
+    ensures { λ r. ⌜ Wrote (now (out .entry)) at (rowBytes e) r (now (out .exit)) ⌝ }
 {
+    let number = e.number;
+    let flags = e.flags;
     let a = lent::put2(out, at, number.0);
     let b = lent::put(out, a, flags.0);
-    let c = lent::put(out, b, len);
-    lent::put4(out, c, offset)
+    let c = lent::put(out, b, e.length);
+    lent::put4(out, c, e.offset)
 }
 
-// Puts an offset where there is room for it, all four bytes at once.
-// Asks: room for four bytes; `place_entry` has room for an entry.
-fn place_offset(out: &mut [u8], at: usize, offset: u32) -> usize
-    requires { ⌜ at + 4 ≤ length (now out) ⌝ }
-    ensures { λ r. ⌜ Wrote (now (out .entry)) at (spell 4 offset) r (now (out .exit)) ⌝ }
-{
-    let word = [
-        (offset / 256 / 256 / 256 % 256) as u8,
-        (offset / 256 / 256 % 256) as u8,
-        (offset / 256 % 256) as u8,
-        (offset % 256) as u8,
-    ];
-    lent::place4(out, at, &word)
-}
-
-// Writes an entry that starts with four bytes as they stand: number, flags and body length, which is how a descriptor starts.
+// Writes an entry as a row that starts with four bytes as they stand: number, flags and body length, which is how a descriptor starts.
 // Asks: four bytes, and room for an entry; whoever writes has looked at the buffer's length.
-pub fn place_entry(out: &mut [u8], at: usize, head: &[u8], offset: u32) -> usize
+pub fn place_row(out: &mut [u8], at: usize, head: &[u8], offset: u32) -> usize
     requires { ⌜ (length (now head) ≡ 4) × (at + 8 ≤ length (now out)) ⌝ }
     ensures { λ r. ⌜ Wrote (now (out .entry)) at (now (head .entry) ++ spell 4 offset) r (now (out .exit)) ⌝ }
 {
     let behind = lent::place4(out, at, head);
-    place_offset(out, behind, offset)
+    lent::set4(out, behind, offset)
 }
 
-// The profiles as they stand, which is as feature 0 sends them.
-pub fn profiles_part(s: &[u8]) -> &[u8]
-    ensures { λ r. ⌜ PartOf (s .entry) (profilesAt (now (s .entry))) (profilesPart (now (s .entry))) r ⌝ }
+fn put_piece(out: &mut [u8], at: usize, piece: Piece, e: Entry) -> usize
+    ensures { λ r. ⌜ Wrote (now (out .entry)) at (pieceBytes piece e) r (now (out .exit)) ⌝ }
 {
-    let at = 4 + 8 * (feature_count(s) as usize);
-    fields::part(s, at, 4 * (profile_count(s) as usize))
+    let number = e.number;
+    let flags = e.flags;
+    match piece {
+        Piece::Row => put_row(out, at, e),
+        Piece::Number => lent::put2(out, at, number.0),
+        Piece::Flags => lent::put(out, at, flags.0),
+        Piece::Length => lent::put(out, at, e.length),
+        Piece::Offset => lent::put4(out, at, e.offset),
+    }
+}
+
+// Writes a piece of each entry of a sheet, as far as the buffer has room.
+// Asks: a sheet of n features that has its contents; `put_contents` asks the same.
+fn put_pieces(out: &mut [u8], at: usize, piece: Piece, lay: Layout, s: &[u8], n: u16) -> usize
+    requires { ⌜ Room (now s) n ⌝ }
+    ensures { λ r. ⌜ Wrote (now (out .entry)) at (flat (pieceBytes piece) (each (entryOf (stored lay (now (s .entry)))) 0 n)) r (now (out .exit)) ⌝ }
+{
+    let mut next = at;
+    let mut i: u16 = 0;
+    while i < n {
+        next = put_piece(out, next, piece, entry_in(lay, s, n, i));
+        i += 1;
+    }
+    next
+}
+
+// Writes the contents of a sheet so laid out in the layout that is asked for, as far as the buffer has room.
+// Asks: a sheet of n features that has its contents; whoever converts has checked it.
+pub fn put_contents(out: &mut [u8], at: usize, to: Layout, lay: Layout, s: &[u8], n: u16) -> usize
+    requires { ⌜ Room (now s) n ⌝ }
+    ensures { λ r. ⌜ Wrote (now (out .entry)) at (contents to (each (entryOf (stored lay (now (s .entry)))) 0 n)) r (now (out .exit)) ⌝ }
+{
+    match to {
+        Layout::Rows => put_pieces(out, at, Piece::Row, lay, s, n),
+        Layout::Columns => {
+            let a = put_pieces(out, at, Piece::Number, lay, s, n);
+            let b = put_pieces(out, a, Piece::Flags, lay, s, n);
+            let c = put_pieces(out, b, Piece::Length, lay, s, n);
+            put_pieces(out, c, Piece::Offset, lay, s, n)
+        }
+    }
 }

@@ -53,6 +53,10 @@ copied-all n d b e at l h k = rw (← l) (copied d b e at (omega (arith, l, h)) 
 pub kept : {d e : List ℕ} {at r : ℕ} {xs : List ℕ} → Wrote d at xs r e → length e ≡ length d
 kept {d} {e} {at} {r} {xs} w = ap length (w .holds) ∙ length-sets d at xs
 
+-- what is written from inside the buffer ends inside it
+pub inside : {d e : List ℕ} {at r : ℕ} {xs : List ℕ} → Wrote d at xs r e → at ≤ length d → r ≤ length e
+inside w h = omega (arith, w .next, kept w)
+
 -- where all has room: what stood before it, what was written, and what stood behind it
 pub placed : {d e : List ℕ} {at r : ℕ} {xs : List ℕ} → Wrote d at xs r e → at + length xs ≤ length d → e ≡ take at d ++ xs ++ drop (at + length xs) d
 placed {d} {e} {at} {r} {xs} w h = w .holds ∙ sets-eq xs d at h

@@ -89,6 +89,21 @@ pub fn place4(out: &mut [u8], at: usize, part: &[u8]) -> usize
     behind
 }
 
+// Puts a field of four bytes where there is room for it, all at once.
+// Asks: room for four bytes; whoever writes has looked at the buffer's length.
+pub fn set4(out: &mut [u8], at: usize, v: u32) -> usize
+    requires { ⌜ at + 4 ≤ length (now out) ⌝ }
+    ensures { λ r. ⌜ Wrote (now (out .entry)) at (spell 4 v) r (now (out .exit)) ⌝ }
+{
+    let word = [
+        (v / 256 / 256 / 256 % 256) as u8,
+        (v / 256 / 256 % 256) as u8,
+        (v / 256 % 256) as u8,
+        (v % 256) as u8,
+    ];
+    place4(out, at, &word)
+}
+
 // Copies a part of something else.
 pub fn copy(out: &mut [u8], at: usize, part: &[u8]) -> usize
     ensures { λ r. ⌜ Wrote (now (out .entry)) at (now (part .entry)) r (now (out .exit)) ⌝ }

@@ -171,6 +171,13 @@ first-accept f i (suc k) h =
     orElse-none (f i) (firstOf f (suc i) k) (h i (omega arith) (omega arith))
     ∙ first-accept f (suc i) k (λ j l m. h j (omega arith) (omega arith))
 
+-- rules that agree at each index have the same first refusal
+pub first-same : (f g : ℕ → Refusal) (i k : ℕ) → ((j : ℕ) → i ≤ j → j < i + k → f j ≡ g j) → firstOf f i k ≡ firstOf g i k
+unfolding firstOf
+first-same f g i zero h = refl
+first-same f g i (suc k) h =
+    λ z. h i (omega arith) (omega arith) z orElse first-same f g (suc i) k (λ j l m. h j (omega arith) (omega arith)) z
+
 -- ---- a refusal at a place
 
 pub placed-none : (r : Refusal) (k : ℕ) → r .number ≡ 0 → placed r k ≡ accept

@@ -14,7 +14,7 @@ use Rattle.text.specs.Drive.{Desc}
 use Rattle.text.specs.Response.{bytes, wants}
 use Rattle.base.proofs.Compare.{le-or-lt}
 use Rattle.text.proofs.Selection.{wants-below}
-use Rattle.layout.specs.Layout.{featureCount, number, flags}
+use Rattle.layout.specs.Layout.{Sheet, featureCount, number, flags}
 use Rattle.sheet.specs.Facts.{Facts}
 use Rattle.sheet.specs.Meaning.{desc, meaning}
 use Rattle.sheet.proofs.Accepted.{ascending}
@@ -44,7 +44,7 @@ passes-current d = twice (eqb (text.current (d .flags)) 1)
 
 -- ---- the bytes of the entries in a range
 
-module _ {s : List ℕ} (f : Facts s) (rt : ℕ) where
+module _ {s : Sheet} (f : Facts s) (rt : ℕ) where
   piece-bytes : (i : ℕ) → i < featureCount s → piece rt s i ≡ flat bytes (keep (passes rt) (desc s i ∷ []))
   unfolding piece desc flat keep
   piece-bytes i l = go (skips rt (flags s i)) refl
@@ -62,13 +62,13 @@ module _ {s : List ℕ} (f : Facts s) (rt : ℕ) where
 -- ---- the end of the wanted entries
 
 -- the wanted entries are those from `from` to `to` that are not passed over
-record Wanted (s : List ℕ) (rt sfn from to : ℕ) : Type 0 where
+record Wanted (s : Sheet) (rt sfn from to : ℕ) : Type 0 where
   ordered : from ≤ to
   within : to ≤ featureCount s
   inside : (j : ℕ) → from ≤ j → j < to → wants rt sfn (desc s j) ≡ passes rt (desc s j)
   behind : (j : ℕ) → to ≤ j → j < featureCount s → wants rt sfn (desc s j) ≡ false
 
-module _ {s : List ℕ} (f : Facts s) where
+module _ {s : Sheet} (f : Facts s) where
   not-below : (i j : ℕ) → i ≤ j → j < featureCount s → number s i ≤ number s j
   not-below i j l m = ⊎-elim
       (λ (h : j ≤ i).
@@ -77,7 +77,7 @@ module _ {s : List ℕ} (f : Facts s) where
       (λ (h : i < j). omega (arith, ascending f i j h m))
       (le-or-lt j i)
 
-module _ {s : List ℕ} (f : Facts s) {sfn from : ℕ} (first : First s (featureCount s) sfn from) where
+module _ {s : Sheet} (f : Facts s) {sfn from : ℕ} (first : First s (featureCount s) sfn from) where
   before : (j : ℕ) → j < from → number s j < sfn
   before j l = omega (arith, not-below f j (from - 1) (omega arith) (omega (arith, first .within)), first .before (omega arith))
 
@@ -123,7 +123,7 @@ module _ {s : List ℕ} (f : Facts s) {sfn from : ℕ} (first : First s (feature
 
 -- ---- their bytes are those of the wanted features
 
-module _ {s : List ℕ} (f : Facts s) (rt : ℕ) {sfn from to : ℕ} (first : First s (featureCount s) sfn from) (last : to ≡ wantedEnd rt s (featureCount s) sfn from) where
+module _ {s : Sheet} (f : Facts s) (rt : ℕ) {sfn from to : ℕ} (first : First s (featureCount s) sfn from) (last : to ≡ wantedEnd rt s (featureCount s) sfn from) where
   wanted-to : Wanted s rt sfn from to
   wanted-to = rw last (wanted f first rt)
 

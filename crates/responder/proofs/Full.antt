@@ -12,7 +12,7 @@ use Rattle.base.specs.Lists.{flat, keep, Bytes}
 use Rattle.text.specs.Response.{bytes, wants, selected, dataLength, full}
 use Rattle.text.proofs.Selection.{selected-zero, selected-above}
 use Rattle.text.proofs.Sizes.{length-full, full-low}
-use Rattle.layout.specs.Layout.{featureCount}
+use Rattle.layout.specs.Layout.{Sheet, featureCount}
 use Rattle.sheet.specs.Check.{Accepted}
 use Rattle.sheet.specs.Facts.{Facts}
 use Rattle.sheet.specs.Meaning.{meaning}
@@ -25,12 +25,12 @@ use Rattle.responder.proofs.Chosen.{chosen-ordered, chosen-within, chos
 use Rattle.responder.proofs.Sizes.{entries-size, zero-size}
 
 -- feature 0 where it is sent, and the features that a request takes
-selected-parts : (s : List ℕ) (rt sfn : ℕ) → Bytes s → Accepted s
-    → flat bytes (selected rt sfn (meaning s)) ≡ zeroPart s sfn ++ flat bytes (keep (wants rt sfn) (meaning s .features))
+selected-parts : (s : Sheet) (rt sfn : ℕ) → Bytes (s .bytes) → Accepted s
+    → flat bytes (selected rt sfn (meaning s)) ≡ zeroPart (s .bytes) sfn ++ flat bytes (keep (wants rt sfn) (meaning s .features))
 unfolding zeroPart flat
 selected-parts s rt sfn b e = go (eqb sfn 0) refl
   where
-    go : (t : Bool) → eqb sfn 0 ≡ t → flat bytes (selected rt sfn (meaning s)) ≡ zeroPart s sfn ++ flat bytes (keep (wants rt sfn) (meaning s .features))
+    go : (t : Bool) → eqb sfn 0 ≡ t → flat bytes (selected rt sfn (meaning s)) ≡ zeroPart (s .bytes) sfn ++ flat bytes (keep (wants rt sfn) (meaning s .features))
     go true c =
         let z : sfn ≡ 0 = eqb-true sfn 0 c in
         rw (c, zeroPart, zero-bytes s b e, z) (ap (flat bytes) (selected-zero rt (meaning s)))
@@ -38,7 +38,7 @@ selected-parts s rt sfn b e = go (eqb sfn 0) refl
         let n : sfn ≡ 0 → ⊥ = eqb-false sfn 0 c in
         rw (c, zeroPart) (ap (flat bytes) (selected-above rt sfn (meaning s) (omega arith)))
 
-module _ (s : List ℕ) (rt sfn : ℕ) (b : Bytes s) (e : Accepted s) where
+module _ (s : Sheet) (rt sfn : ℕ) (b : Bytes (s .bytes)) (e : Accepted s) where
   abbrev from : ℕ
   from = takenFrom s sfn
 
@@ -54,8 +54,8 @@ module _ (s : List ℕ) (rt sfn : ℕ) (b : Bytes s) (e : Accepted s) where
   last = refl
 
   -- what stands behind the header
-  found-parts : flat bytes (selected rt sfn (meaning s)) ≡ zeroPart s sfn ++ pieces rt s from (to - from)
-  found-parts = selected-parts s rt sfn b e ∙ ap (λ (r : List ℕ). zeroPart s sfn ++ r) (sym (chosen (facts s b e) rt first last))
+  found-parts : flat bytes (selected rt sfn (meaning s)) ≡ zeroPart (s .bytes) sfn ++ pieces rt s from (to - from)
+  found-parts = selected-parts s rt sfn b e ∙ ap (λ (r : List ℕ). zeroPart (s .bytes) sfn ++ r) (sym (chosen (facts s b e) rt first last))
 
   found-size : length (flat bytes (selected rt sfn (meaning s))) ≡ takenSize s rt sfn
   unfolding takenSize
@@ -64,7 +64,7 @@ module _ (s : List ℕ) (rt sfn : ℕ) (b : Bytes s) (e : Accepted s) where
       omega (
         arith,
         ap length found-parts,
-        length-append (zeroPart s sfn) (pieces rt s from (to - from)),
+        length-append (zeroPart (s .bytes) sfn) (pieces rt s from (to - from)),
         zero-size s sfn b e,
         entries-size f rt from to (chosen-ordered f rt first last) (chosen-within f rt first last),
       )

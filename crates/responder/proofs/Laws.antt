@@ -2,28 +2,30 @@
 use mathlib.Core.Path.{_≡_, refl, sym, ap, _∙_}
 use mathlib.Core.Bool.{true, false}
 use mathlib.Core.List.{List, [], _++_, append-assoc, append-nil}
-use Prim.Native.Nat.{ℕ, zero, suc, _+_, _-_, _*_, _%_, _^_, _≤_, _<_}
+use Prim.Native.Nat.{ℕ, zero, suc, _+_, _-_, _*_, _/_, _%_, _^_, _≤_, _<_}
 use native.Mathlib.Nat.{add-zero, add-suc}
 use native.Mathlib.Omega.{arith}
 use lib.ListN.{length, take, drop, length-take}
 use borrow.Author.Tests.{lt-ltb, le-ltb, eq-eqb, ne-eqb}
 use Rattle.base.specs.Lists.{Bytes}
+use Rattle.fields.specs.Field.{field, spell}
 use Rattle.fields.proofs.Laws.{field-lt}
 use Rattle.lent.specs.Wrote.{Wrote}
 use Rattle.lent.proofs.Laws.{nowhere, then}
 use Rattle.text.specs.declared.Header.{Header}
 use Rattle.text.specs.Response.{header, headerOf, currentProfile}
 use Rattle.profiles.specs.Profiles.{profilesOf}
-use Rattle.layout.specs.declared.Entry.{Entry}
-use Rattle.layout.specs.inner.Entry.{entryOf, headPart}
-use Rattle.layout.proofs.Laws.{head-spelt}
-use Rattle.layout.specs.Layout.{featureCount, profileCount, entryAt, number, flags, bodyLength, offset, profilesPart}
+use Rattle.layout.specs.declared.Found.{Found}
+use Rattle.layout.specs.Contents.{entryOf}
+use Rattle.layout.specs.inner.Found.{foundOf}
+use Rattle.layout.proofs.Heads.{found-offset, found-length, found-flags, found-head}
+use Rattle.layout.specs.Layout.{Sheet, features, profiles, number, lengthPlace, offsetPlace, flags, featureCount, bodyLength, offset, profilesIn, profilesPart}
 use Rattle.sheet.specs.Check.{endBefore}
-use Rattle.responder.specs.inner.Index.{wantedEnd, skips, descBytes, piece, pieces, pieceSize, piecesSize, span, entriesSize, zeroBytes, zeroPart, zeroSize}
+use Rattle.responder.specs.inner.Index.{wantedEnd, skips, descBytes, piece, wholeBytes, foundBytes, pieces, pieceSize, piecesSize, span, entriesSize, zeroBytes, zeroPart, zeroSize}
 
 -- ---- one entry
 
-module _ (rt : ℕ) (s : List ℕ) (i : ℕ) where
+module _ (rt : ℕ) (s : Sheet) (i : ℕ) where
   pub piece-none : skips rt (flags s i) ≡ true → piece rt s i ≡ []
   unfolding piece
   piece-none e = rw (e, piece)
@@ -40,20 +42,46 @@ module _ (rt : ℕ) (s : List ℕ) (i : ℕ) where
   unfolding pieceSize
   size-some e = rw (e, pieceSize)
 
-module _ (s : List ℕ) (i : ℕ) (e : Entry) (body : List ℕ) (h : e ≡ entryOf s i) (r : body ≡ take (e .length) (drop (e .offset) s)) where
-  -- the body of an entry that was read is no longer than the entry says
-  pub body-short : length body ≤ bodyLength s i
-  unfolding entryOf
-  body-short = omega (arith, ap length r, length-take (e .length) (drop (e .offset) s), ap (λ (e : Entry). e .length) h)
+-- ---- one that was found
 
-  -- and behind the head as it stands it is the descriptor
-  pub whole-bytes : (head : List ℕ) → Bytes s → entryAt i + 8 ≤ length s → head ≡ headPart s i → head ++ body ≡ descBytes s i
-  unfolding descBytes entryOf
-  whole-bytes head k l q j = (q ∙ sym (head-spelt s i k l)) j ++ (r ∙ ap (λ (e : Entry). take (e .length) (drop (e .offset) s)) h) j
+module _ (rt : ℕ) (b : List ℕ) (head body : ℕ) where
+  pub found-none : skips rt (head / 256 % 256) ≡ true → foundBytes rt b head body ≡ []
+  unfolding foundBytes
+  found-none e = rw (e, foundBytes)
+
+  pub found-some : skips rt (head / 256 % 256) ≡ false → foundBytes rt b head body ≡ wholeBytes b head body
+  unfolding foundBytes
+  found-some e = rw (e, foundBytes)
+
+-- with no body the head is all
+pub whole-head : (b : List ℕ) (head body : ℕ) → head % 256 ≡ 0 → wholeBytes b head body ≡ spell 4 head
+unfolding wholeBytes
+whole-head b head body e = rw e (append-nil (spell 4 head))
+
+-- with one, the body that was cut out goes behind the head
+pub whole-body : (b : List ℕ) (head body : ℕ) {d e f : List ℕ} {at r r′ : ℕ} → Wrote d at (spell 4 head) r e → Wrote e r (take (body + head % 256 - body) (drop body b)) r′ f
+    → Wrote d at (wholeBytes b head body) r′ f
+unfolding wholeBytes
+whole-body b head body w v = let e : body + head % 256 - body ≡ head % 256 = omega arith in rw (← e) (then w v)
+
+-- found in a sheet it is the entry's
+found-whole : (s : Sheet) (i : ℕ) → Bytes (s .bytes) → wholeBytes (s .bytes) (foundOf s i .head) (offset s i) ≡ descBytes s i
+unfolding wholeBytes descBytes entryOf
+found-whole s i k = rw (found-length s i k, found-head s i k)
+
+found-entry : (rt : ℕ) (s : Sheet) (i : ℕ) → Bytes (s .bytes) → foundBytes rt (s .bytes) (foundOf s i .head) (offset s i) ≡ piece rt s i
+unfolding foundBytes piece
+found-entry rt s i k = λ j. elim (skips rt (found-flags s i k j)) [ true ↦ [] | false ↦ found-whole s i k j ]
+
+pub found-piece : (rt : ℕ) (s : Sheet) (i : ℕ) (f : Found) (body : ℕ) → Bytes (s .bytes) → f ≡ foundOf s i → body ≡ field 4 (s .bytes) (f .place)
+    → foundBytes rt (s .bytes) (f .head) body ≡ piece rt s i
+found-piece rt s i f body k e h =
+    let o : body ≡ offset s i = h ∙ ap (λ (f : Found). field 4 (s .bytes) (f .place)) e ∙ found-offset s i in
+    (λ j. foundBytes rt (s .bytes) (e j .head) (o j)) ∙ found-entry rt s i k
 
 -- ---- a loop over entries, at index i from `from` on
 
-module _ (rt : ℕ) (s : List ℕ) (from i : ℕ) (h : from ≤ i) where
+module _ (rt : ℕ) (s : Sheet) (from i : ℕ) (h : from ≤ i) where
   back : from + (i - from) ≡ i
   back = omega arith
 
@@ -69,29 +97,35 @@ module _ (rt : ℕ) (s : List ℕ) (from i : ℕ) (h : from ≤ i) where
       ap (piecesSize rt s from) {x = i + 1 - from} {y = suc (i - from)} (omega arith)
       ∙ ap (λ (k : ℕ). piecesSize rt s from (i - from) + pieceSize rt s k) back
 
-pub pieces-start : (rt : ℕ) (s : List ℕ) (from : ℕ) → pieces rt s from (from - from) ≡ []
+pub one-on : {from i to : ℕ} → from ≤ i → i < to → (from ≤ i + 1) × (i + 1 - from ≤ to - from)
+one-on h k = (omega arith, omega arith)
+
+pub one-less : {i to : ℕ} → i < to → to - (i + 1) < to - i
+one-less h = omega arith
+
+pub pieces-start : (rt : ℕ) (s : Sheet) (from : ℕ) → pieces rt s from (from - from) ≡ []
 unfolding pieces
 pieces-start rt s from = ap (pieces rt s from) {x = from - from} {y = 0} (omega arith)
 
-pub sizes-start : (rt : ℕ) (s : List ℕ) (from : ℕ) → piecesSize rt s from (from - from) ≡ 0
+pub sizes-start : (rt : ℕ) (s : Sheet) (from : ℕ) → piecesSize rt s from (from - from) ≡ 0
 unfolding piecesSize
 sizes-start rt s from = ap (piecesSize rt s from) {x = from - from} {y = 0} (omega arith)
 
 -- a full buffer takes no more entries
-full-more : {d e : List ℕ} {at w : ℕ} (rt : ℕ) (s : List ℕ) (from k j : ℕ) → Wrote d at (pieces rt s from k) w e → length e ≤ w → Wrote d at (pieces rt s from (k + j)) w e
+full-more : {d e : List ℕ} {at w : ℕ} (rt : ℕ) (s : Sheet) (from k j : ℕ) → Wrote d at (pieces rt s from k) w e → length e ≤ w → Wrote d at (pieces rt s from (k + j)) w e
 unfolding pieces
 full-more rt s from k zero v h = rw add-zero v
 full-more {d} {e} {at} {w} rt s from k (suc j) v h =
     rw add-suc (then (full-more rt s from k j v h) (nowhere e w (piece rt s (from + (k + j))) h))
 
-pub full-stop : {d e : List ℕ} {at w : ℕ} (rt : ℕ) (s : List ℕ) (from to i : ℕ) → Wrote d at (pieces rt s from (i - from)) w e → length e ≤ w → i ≤ to → from ≤ i
+pub full-stop : {d e : List ℕ} {at w : ℕ} (rt : ℕ) (s : Sheet) (from to i : ℕ) → Wrote d at (pieces rt s from (i - from)) w e → length e ≤ w → i ≤ to → from ≤ i
     → Wrote d at (pieces rt s from (to - from)) w e
 full-stop rt s from to i v h l m =
     let k : to - from ≡ (i - from) + (to - i) = omega arith in
     rw k (full-more rt s from (i - from) (to - i) v h)
 
 -- entries, and the entries behind them
-pieces-join : (rt : ℕ) (s : List ℕ) (from k j : ℕ) → pieces rt s from (k + j) ≡ pieces rt s from k ++ pieces rt s (from + k) j
+pieces-join : (rt : ℕ) (s : Sheet) (from k j : ℕ) → pieces rt s from (k + j) ≡ pieces rt s from k ++ pieces rt s (from + k) j
 unfolding pieces
 pieces-join rt s from k zero = rw add-zero (sym (append-nil (pieces rt s from k)))
 pieces-join rt s from k (suc j) =
@@ -101,7 +135,7 @@ pieces-join rt s from k (suc j) =
     ∙ append-assoc (pieces rt s from k) (pieces rt s (from + k) j) (piece rt s (from + (k + j)))
     ∙ ap (λ (m : ℕ). pieces rt s from k ++ (pieces rt s (from + k) j ++ piece rt s m)) e)
 
-pub then-rest : {d e f : List ℕ} {at w q : ℕ} (rt : ℕ) (s : List ℕ) (from to i : ℕ) → from ≤ i → i - from ≤ to - from
+pub then-rest : {d e f : List ℕ} {at w q : ℕ} (rt : ℕ) (s : Sheet) (from to i : ℕ) → from ≤ i → i - from ≤ to - from
     → Wrote d at (pieces rt s from (i - from)) w e → Wrote e w (pieces rt s i (to - i)) q f → Wrote d at (pieces rt s from (to - from)) q f
 then-rest rt s from to i l m v w =
     let k : to - from ≡ (i - from) + (to - i) = omega arith in
@@ -110,7 +144,7 @@ then-rest rt s from to i l m v w =
 
 -- ---- which entries are wanted
 
-module _ (s : List ℕ) (n sfn r : ℕ) where
+module _ (s : Sheet) (n sfn r : ℕ) where
   pub end-all : (rt : ℕ) → rt < 2 → wantedEnd rt s n sfn r ≡ n
   unfolding wantedEnd
   end-all zero h = refl
@@ -137,7 +171,7 @@ module _ (s : List ℕ) (n sfn r : ℕ) where
 
 -- ---- sizes
 
-module _ (s : List ℕ) (from to : ℕ) where
+module _ (s : Sheet) (from to : ℕ) where
   pub sizes-current : (rt : ℕ) → rt ≡ 1 → entriesSize rt s from to ≡ piecesSize rt s from (to - from)
   unfolding entriesSize
   sizes-current rt e = rw (eq-eqb rt 1 e, entriesSize)
@@ -148,31 +182,31 @@ module _ (s : List ℕ) (from to : ℕ) where
 
 -- ---- the header, and feature 0
 
-pub header-bytes : (s : List ℕ) (size : ℕ) {len profile : ℕ} {part : List ℕ} {h : Header} → part ≡ profilesPart s → profile ≡ currentProfile (profilesOf part) → len ≡ (size + 4) % 2 ^ 32
-    → h ≡ headerOf len profile → header (h .data_length) (h .profile .0) ≡ header ((size + 4) % 2 ^ 32) (currentProfile (profilesOf (profilesPart s)))
+pub header-bytes : (b : List ℕ) (size : ℕ) {len profile : ℕ} {part : List ℕ} {h : Header} → part ≡ profilesIn b → profile ≡ currentProfile (profilesOf part) → len ≡ (size + 4) % 2 ^ 32
+    → h ≡ headerOf len profile → header (h .data_length) (h .profile .0) ≡ header ((size + 4) % 2 ^ 32) (currentProfile (profilesOf (profilesIn b)))
 unfolding headerOf
-header-bytes s size p q r e = ap (λ (g : Header). header (g .data_length) (g .profile .0)) e ∙ rw (q, p, r)
+header-bytes b size p q r e = ap (λ (g : Header). header (g .data_length) (g .profile .0)) e ∙ rw (q, p, r)
 
-module _ (s : List ℕ) (sfn : ℕ) where
-  pub zero-sent : sfn ≡ 0 → zeroPart s sfn ≡ zeroBytes s
+module _ (b : List ℕ) (sfn : ℕ) where
+  pub zero-sent : sfn ≡ 0 → zeroPart b sfn ≡ zeroBytes b
   unfolding zeroPart
   zero-sent e = rw (eq-eqb sfn 0 e, zeroPart)
 
-  pub zero-left : (sfn ≡ 0 → ⊥) → zeroPart s sfn ≡ []
+  pub zero-left : (sfn ≡ 0 → ⊥) → zeroPart b sfn ≡ []
   unfolding zeroPart
   zero-left e = rw (ne-eqb sfn 0 e, zeroPart)
 
-  pub zero-size-sent : sfn ≡ 0 → zeroSize s sfn ≡ 4 + 4 * profileCount s
+  pub zero-size-sent : sfn ≡ 0 → zeroSize b sfn ≡ 4 + 4 * profiles b
   unfolding zeroSize
   zero-size-sent e = rw (eq-eqb sfn 0 e, zeroSize)
 
-  pub zero-size-left : (sfn ≡ 0 → ⊥) → zeroSize s sfn ≡ 0
+  pub zero-size-left : (sfn ≡ 0 → ⊥) → zeroSize b sfn ≡ 0
   unfolding zeroSize
   zero-size-left e = rw (ne-eqb sfn 0 e, zeroSize)
 
 -- ---- an end of a body takes little more than four bytes
 
-pub end-low : (s : List ℕ) (i : ℕ) → Bytes s → endBefore s i < 4294967552
-unfolding endBefore offset bodyLength featureCount profileCount
-end-low s zero b = omega (arith, field-lt 2 s 0 b, field-lt 2 s 2 b)
-end-low s (suc i) b = omega (arith, field-lt 4 s (entryAt i + 4) b, b (entryAt i + 3))
+pub end-low : (s : Sheet) (i : ℕ) → Bytes (s .bytes) → endBefore s i < 4294967552
+unfolding endBefore offset bodyLength features profiles
+end-low s zero b = omega (arith, field-lt 2 (s .bytes) 0 b, field-lt 2 (s .bytes) 2 b)
+end-low s (suc i) b = omega (arith, field-lt 4 (s .bytes) (offsetPlace (s .layout) (features (s .bytes)) i) b, b (lengthPlace (s .layout) (features (s .bytes)) i))

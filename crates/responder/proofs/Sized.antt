@@ -12,12 +12,13 @@ use Rattle.lent.proofs.Laws.{cut}
 use Rattle.lent.proofs.Maker.{written-making, refused-unless}
 use Rattle.refusal.specs.First.{refuse, accept}
 use Rattle.refusal.proofs.First.{if-true, if-false, unless-none}
+use Rattle.layout.specs.Layout.{Sheet}
 use Rattle.responder.specs.declared.Plan.{Plan}
 use Rattle.responder.specs.inner.Index.{takenFrom, takenSize, planOf, fullBytes, limit}
 use Rattle.responder.specs.Trusting.{trusting}
 use Rattle.responder.specs.Sized.{sized}
 
-module _ (s : List ℕ) (rt sfn a from size : ℕ) (d : List ℕ) (n : ℕ) (is : n ≡ limit a size) where
+module _ (s : Sheet) (rt sfn a from size : ℕ) (d : List ℕ) (n : ℕ) (is : n ≡ limit a size) where
   pub sized-short : length d < n → (m : Made) → m ≡ refused (refuse 12) → outcome m d ≡ sized s rt sfn a from size d
   unfolding sized
   sized-short h m e =
@@ -33,6 +34,6 @@ module _ (s : List ℕ) (rt sfn a from size : ℕ) (d : List ℕ) (n : ℕ) (is 
       ∙ written-making (omega (arith, length-take n (fullBytes s rt sfn (planOf s rt sfn from size)))) (cut room (rw is-plan at w)) ∙ sym (unless-none accept (refusing d) (making xs d) refl))
 
 -- told the request's own numbers
-pub sized-trusting : (s : List ℕ) (rt sfn a : ℕ) (d : List ℕ) → sized s rt sfn a (takenFrom s sfn) (takenSize s rt sfn) d ≡ trusting s rt sfn a d
+pub sized-trusting : (s : Sheet) (rt sfn a : ℕ) (d : List ℕ) → sized s rt sfn a (takenFrom s sfn) (takenSize s rt sfn) d ≡ trusting s rt sfn a d
 unfolding trusting
 sized-trusting s rt sfn a d = refl

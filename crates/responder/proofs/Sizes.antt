@@ -9,7 +9,7 @@ use lib.Dec.{eqb}
 use lib.ListN.{length, length-append}
 use borrow.Author.Tests.{eqb-false}
 use Rattle.base.specs.Lists.{Bytes}
-use Rattle.layout.specs.Layout.{featureCount, flags, bodyLength}
+use Rattle.layout.specs.Layout.{Sheet, featureCount, flags, bodyLength}
 use Rattle.sheet.specs.Check.{endBefore, Accepted}
 use Rattle.sheet.specs.Facts.{Facts}
 use Rattle.sheet.proofs.Accepted.{end-next, end-rises}
@@ -18,7 +18,7 @@ use Rattle.responder.proofs.Entries.{length-entryBytes}
 use Rattle.responder.proofs.Zero.{length-zeroBytes}
 use Rattle.responder.proofs.Chosen.{skips-none}
 
-module _ {s : List ℕ} (f : Facts s) (rt : ℕ) where
+module _ {s : Sheet} (f : Facts s) (rt : ℕ) where
   piece-size : (i : ℕ) → i < featureCount s → pieceSize rt s i ≡ length (piece rt s i)
   unfolding pieceSize piece
   piece-size i l = go (skips rt (flags s i)) refl
@@ -58,10 +58,10 @@ module _ {s : List ℕ} (f : Facts s) (rt : ℕ) where
       go true e = rw (e, entriesSize) (pieces-size from (to - from) (omega arith))
       go false e = rw (e, entriesSize) (span-whole (eqb-false rt 1 e) from to l m ∙ pieces-size from (to - from) (omega arith))
 
-pub zero-size : (s : List ℕ) (sfn : ℕ) → Bytes s → Accepted s → zeroSize s sfn ≡ length (zeroPart s sfn)
+pub zero-size : (s : Sheet) (sfn : ℕ) → Bytes (s .bytes) → Accepted s → zeroSize (s .bytes) sfn ≡ length (zeroPart (s .bytes) sfn)
 unfolding zeroSize zeroPart
 zero-size s sfn b e = go (eqb sfn 0) refl
   where
-    go : (t : Bool) → eqb sfn 0 ≡ t → zeroSize s sfn ≡ length (zeroPart s sfn)
+    go : (t : Bool) → eqb sfn 0 ≡ t → zeroSize (s .bytes) sfn ≡ length (zeroPart (s .bytes) sfn)
     go true c = rw (c, zeroSize, zeroPart) (sym (length-zeroBytes s b e))
     go false c = rw (c, zeroSize, zeroPart)

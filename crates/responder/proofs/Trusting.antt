@@ -12,8 +12,9 @@ use Rattle.refusal.specs.declared.Refusal.{Refusal}
 use Rattle.refusal.specs.First.{refuse, accept, _if_else_, unless}
 use Rattle.text.specs.Command.{commandFault, rtOf, sfnOf, allocationOf}
 use Rattle.text.specs.Response.{full, most, sent}
-use Rattle.refusal.proofs.First.{if-plain, orElse-none, orElse-accept}
+use Rattle.refusal.proofs.First.{if-plain, orElse-none, orElse-accept, unless-none, unless-fault}
 use Rattle.text.proofs.Sent.{length-sent}
+use Rattle.layout.specs.Layout.{Sheet}
 use Rattle.sheet.specs.Check.{verdict, Accepted}
 use Rattle.sheet.specs.Meaning.{meaning}
 use Rattle.responder.specs.Answer.{due, requested, commanded, answered}
@@ -29,7 +30,7 @@ command-plain c = if-plain _ _ _ (if-plain _ _ _ (if-plain _ _ _ refl))
 
 -- ---- from an accepted sheet
 
-module _ (s : List ℕ) (b : Bytes s) (ok : Accepted s) where
+module _ (s : Sheet) (b : Bytes (s .bytes)) (ok : Accepted s) where
   limit-sent : (rt sfn a : ℕ) → limit a (takenSize s rt sfn) ≡ length (sent rt sfn a (meaning s))
   unfolding limit
   limit-sent rt sfn a = sym (length-sent rt sfn a (meaning s) ∙ ap (min (most a)) (found-length s rt sfn b ok))
@@ -54,6 +55,13 @@ module _ (s : List ℕ) (b : Bytes s) (ok : Accepted s) where
 -- ---- the checked entry
 
 -- the sheet's refusal, or what the command is answered
-pub answered-after : (s c d : List ℕ) → answered s c d ≡ unless (verdict s) (refusing d) (commanded s c d)
+pub answered-after : (s : Sheet) (c d : List ℕ) → answered s c d ≡ unless (verdict s) (refusing d) (commanded s c d)
 unfolding answered commanded
 answered-after s c d = makes-after (verdict s) (commandFault c) 12 (due s c) d
+
+-- by what the check of the sheet says
+pub answered-refused : (s : Sheet) (c d : List ℕ) → (verdict s .number ≡ 0 → ⊥) → answered s c d ≡ refusing d (verdict s)
+answered-refused s c d h = answered-after s c d ∙ unless-fault (verdict s) (refusing d) (commanded s c d) h
+
+pub answered-trusted : (s : Sheet) → Bytes (s .bytes) → Accepted s → (c d : List ℕ) → trustingCommand s c d ≡ answered s c d
+answered-trusted s b ok c d = trusting-commanded s b ok c d ∙ sym (answered-after s c d ∙ unless-none (verdict s) (refusing d) (commanded s c d) ok)

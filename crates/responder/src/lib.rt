@@ -1,9 +1,8 @@
 // The box: a sheet, a command and a lent buffer in; the refusal or the count of bytes sent out.
 ghost use mathlib.Core.Path.{_≡_};
 ghost use Prim.Native.Nat.{_+_, _-_, _*_, _%_, _^_, _≤_, _<_, min};
-ghost use lib.Dec.{leb};
 ghost use lib.ListN.{length};
-ghost use Rattle.layout.specs.Layout.{entryAt, bodyLength};
+ghost use Rattle.layout.specs.Layout.{stored};
 ghost use Rattle.lent.specs.Wrote.{Wrote};
 ghost use Rattle.text.specs.Response.{header};
 ghost use Rattle.lent.specs.Maker.{outcome};
@@ -11,7 +10,8 @@ ghost use Rattle.responder.specs.Answer.{answered};
 ghost use Rattle.responder.specs.Trusting.{trusting, trustingCommand};
 ghost use Rattle.responder.specs.Sized.{sized};
 ghost use Rattle.responder.specs.inner.Fitted.{Fitted};
-ghost use Rattle.responder.specs.inner.Index.{wantedEnd, skips, descOf, descBytes, piece, pieces, pieceSize, piecesSize, span, entriesSize, zeroBytes, zeroPart, zeroSize, takenFrom, takenSize, planOf, fullBytes, limit};
+ghost use Rattle.responder.specs.inner.Index.{wantedEnd, skips, descOf, descBytes, piece, wholeBytes, foundBytes, pieces, pieceSize, piecesSize, span, entriesSize, zeroBytes, zeroPart, zeroSize, takenFrom, takenSize, planOf, fullBytes, limit};
+use layout::Layout;
 use lent::Made;
 use text::Command;
 use text::Feature;
@@ -21,8 +21,8 @@ use text::Header;
 // ---- which entries are wanted
 
 // The end of the wanted entries that start at from.
-fn wanted_end(s: &[u8], rt: u8, n: u16, sfn: Feature, from: u16) -> u16
-    ensures { λ r. ⌜ r ≡ wantedEnd rt (now (s .entry)) n (sfn .0) from ⌝ }
+fn wanted_end(lay: Layout, s: &[u8], rt: u8, n: u16, sfn: Feature, from: u16) -> u16
+    ensures { λ r. ⌜ r ≡ wantedEnd rt (stored lay (now (s .entry))) n (sfn .0) from ⌝ }
 {
     if rt < 2 {
         return n;
@@ -30,7 +30,7 @@ fn wanted_end(s: &[u8], rt: u8, n: u16, sfn: Feature, from: u16) -> u16
     if n <= from {
         return from;
     }
-    let feature = layout::feature_at(s, from);
+    let feature = layout::feature_at(lay, s, from);
     if feature.0 == sfn.0 {
         return from + 1;
     }
@@ -49,22 +49,22 @@ fn skipped(rt: u8, flags: Flags) -> bool
 
 // ---- how many bytes they are
 
-fn piece_size(s: &[u8], rt: u8, i: u16) -> usize
-    ensures { λ r. ⌜ (r ≡ pieceSize rt (now (s .entry)) i) × (r < 260) ⌝ }
+fn piece_size(lay: Layout, s: &[u8], rt: u8, i: u16) -> usize
+    ensures { λ r. ⌜ (r ≡ pieceSize rt (stored lay (now (s .entry))) i) × (r < 260) ⌝ }
 {
-    if skipped(rt, layout::flags_at(s, i)) {
+    if skipped(rt, layout::flags_at(lay, s, i)) {
         return 0;
     }
-    4 + layout::length_at(s, i) as usize
+    4 + layout::length_at(lay, s, i) as usize
 }
 
-fn pieces_size(s: &[u8], rt: u8, from: u16, to: u16) -> usize
-    ensures { λ r. ⌜ (r ≡ piecesSize rt (now (s .entry)) from (to - from)) × (r ≤ 259 * (to - from)) ⌝ }
+fn pieces_size(lay: Layout, s: &[u8], rt: u8, from: u16, to: u16) -> usize
+    ensures { λ r. ⌜ (r ≡ piecesSize rt (stored lay (now (s .entry))) from (to - from)) × (r ≤ 259 * (to - from)) ⌝ }
 {
     let mut size: usize = 0;
     let mut i = from;
     while i < to {
-        size += piece_size(s, rt, i);
+        size += piece_size(lay, s, rt, i);
         i += 1;
     }
     size
@@ -81,22 +81,22 @@ fn difference(a: usize, b: usize) -> usize
 }
 
 // From the offsets, with no look at the entries between.
-fn span_size(s: &[u8], from: u16, to: u16) -> usize
-    ensures { λ r. ⌜ (r ≡ span (now (s .entry)) from to) × (r < 5000000000) ⌝ }
+fn span_size(lay: Layout, s: &[u8], from: u16, to: u16) -> usize
+    ensures { λ r. ⌜ (r ≡ span (stored lay (now (s .entry))) from to) × (r < 5000000000) ⌝ }
 {
-    let start = sheet::end_before(s, from);
-    let end = sheet::end_before(s, to);
+    let start = sheet::end_before(lay, s, from);
+    let end = sheet::end_before(lay, s, to);
     let bodies = difference(end, start);
     4 * difference(to as usize, from as usize) + bodies
 }
 
-fn entries_size(s: &[u8], rt: u8, from: u16, to: u16) -> usize
-    ensures { λ r. ⌜ (r ≡ entriesSize rt (now (s .entry)) from to) × (r < 5000000000) ⌝ }
+fn entries_size(lay: Layout, s: &[u8], rt: u8, from: u16, to: u16) -> usize
+    ensures { λ r. ⌜ (r ≡ entriesSize rt (stored lay (now (s .entry))) from to) × (r < 5000000000) ⌝ }
 {
     if rt == 1 {
-        return pieces_size(s, rt, from, to);
+        return pieces_size(lay, s, rt, from, to);
     }
-    span_size(s, from, to)
+    span_size(lay, s, from, to)
 }
 
 fn zero_size(s: &[u8], sfn: Feature) -> usize
@@ -115,11 +115,11 @@ struct Plan {
 }
 
 // The entries that a request takes where those that it wants start at from, with so many bytes behind the header.
-fn taken(s: &[u8], rt: u8, sfn: Feature, from: u16, size: usize) -> Plan
-    ensures { λ r. ⌜ r ≡ planOf (now (s .entry)) rt (sfn .0) from size ⌝ }
+fn taken(lay: Layout, s: &[u8], rt: u8, sfn: Feature, from: u16, size: usize) -> Plan
+    ensures { λ r. ⌜ r ≡ planOf (stored lay (now (s .entry))) rt (sfn .0) from size ⌝ }
 {
     let n = layout::feature_count(s);
-    let to = wanted_end(s, rt, n, sfn, from);
+    let to = wanted_end(lay, s, rt, n, sfn, from);
     Plan {
         from: from,
         to: to,
@@ -128,14 +128,14 @@ fn taken(s: &[u8], rt: u8, sfn: Feature, from: u16, size: usize) -> Plan
 }
 
 // The same from where they do start, with as many as there are.
-fn planned(s: &[u8], rt: u8, sfn: Feature) -> Plan
-    ensures { λ r. ⌜ r ≡ planOf (now (s .entry)) rt (sfn .0) (takenFrom (now (s .entry)) (sfn .0)) (takenSize (now (s .entry)) rt (sfn .0)) ⌝ }
+fn planned(lay: Layout, s: &[u8], rt: u8, sfn: Feature) -> Plan
+    ensures { λ r. ⌜ r ≡ planOf (stored lay (now (s .entry))) rt (sfn .0) (takenFrom (stored lay (now (s .entry))) (sfn .0)) (takenSize (stored lay (now (s .entry))) rt (sfn .0)) ⌝ }
 {
     let n = layout::feature_count(s);
-    let from = sheet::first_from(s, n, sfn);
-    let part = taken(s, rt, sfn, from, 0);
+    let from = sheet::first_from(lay, s, n, sfn);
+    let part = taken(lay, s, rt, sfn, from, 0);
     let zero = zero_size(s, sfn);
-    let rest = entries_size(s, rt, part.from, part.to);
+    let rest = entries_size(lay, s, rt, part.from, part.to);
     Plan {
         from: part.from,
         to: part.to,
@@ -163,57 +163,53 @@ fn put_fields(
 }
 
 // An entry's descriptor, whatever the sheet has of the entry and the buffer of room.
-fn put_entry(out: &mut [u8], at: usize, s: &[u8], i: u16) -> usize
-    ensures { λ r. ⌜ Wrote (now (out .entry)) at (descBytes (now (s .entry)) i) r (now (out .exit)) ⌝ }
+fn put_entry(out: &mut [u8], at: usize, lay: Layout, s: &[u8], i: u16) -> usize
+    ensures { λ r. ⌜ Wrote (now (out .entry)) at (descBytes (stored lay (now (s .entry))) i) r (now (out .exit)) ⌝ }
 {
-    let feature = layout::feature_at(s, i);
-    let flags = layout::flags_at(s, i);
-    let length = layout::length_at(s, i);
-    let body = fields::part(s, layout::offset_at(s, i) as usize, length as usize);
+    let feature = layout::feature_at(lay, s, i);
+    let flags = layout::flags_at(lay, s, i);
+    let length = layout::length_at(lay, s, i);
+    let body = fields::part(s, layout::offset_at(lay, s, i) as usize, length as usize);
     put_fields(out, at, feature, flags, length, body)
 }
 
-fn put_slowly(out: &mut [u8], at: usize, s: &[u8], rt: u8, i: u16) -> usize
-    ensures { λ r. ⌜ Wrote (now (out .entry)) at (piece rt (now (s .entry)) i) r (now (out .exit)) ⌝ }
+fn put_slowly(out: &mut [u8], at: usize, lay: Layout, s: &[u8], rt: u8, i: u16) -> usize
+    ensures { λ r. ⌜ Wrote (now (out .entry)) at (piece rt (stored lay (now (s .entry))) i) r (now (out .exit)) ⌝ }
 {
-    if skipped(rt, layout::flags_at(s, i)) {
+    if skipped(rt, layout::flags_at(lay, s, i)) {
         return at;
     }
-    put_entry(out, at, s, i)
+    put_entry(out, at, lay, s, i)
 }
 
-// Whether so many bytes are room for an entry's descriptor.
-// Asks: an entry that the sheet has; `put_fitting` has looked at its length.
-fn fits(s: &[u8], i: u16, room: usize) -> bool
-    requires { ⌜ entryAt i + 8 ≤ length (now s) ⌝ }
-    ensures { λ r. ⌜ r ≡ leb (4 + bodyLength (now (s .entry)) i) room ⌝ }
+// A descriptor from its head as one number and from where its body stands, with no look at the room.
+// Asks: room for it, and a sheet that has the body, which `put_fitting` has shown before.
+fn put_whole(out: &mut [u8], at: usize, s: &[u8], head: u32, body: usize) -> usize
+    requires { ⌜ (at + 4 + head % 256 ≤ length (now out)) × (body + head % 256 ≤ length (now s)) ⌝ }
+    ensures { λ r. ⌜ Wrote (now (out .entry)) at (wholeBytes (now (s .entry)) head body) r (now (out .exit)) ⌝ }
 {
-    let e = layout::entry_in(s, i);
-    4 + e.length as usize <= room
-}
-
-// The descriptor as it stands in the sheet, head and body, with no further look at the room.
-// Asks: an entry that the sheet has, and room for its descriptor, which `fits` has shown before.
-fn put_whole(out: &mut [u8], at: usize, s: &[u8], i: u16) -> usize
-    requires { ⌜ (entryAt i + 8 ≤ length (now s)) × (4 + bodyLength (now s) i ≤ length (now out) - at) ⌝ }
-    ensures { λ r. ⌜ Wrote (now (out .entry)) at (descBytes (now (s .entry)) i) r (now (out .exit)) ⌝ }
-{
-    let e = layout::entry_in(s, i);
-    let body = fields::part(s, e.offset as usize, e.length as usize);
-    let a = lent::place4(out, at, layout::head_part(s, i));
-    lent::place(out, a, body)
+    let behind = lent::set4(out, at, head);
+    let length = (head % 256) as usize;
+    if length == 0 {
+        return behind;
+    }
+    let end = body + length;
+    // most bodies have four bytes: they go with no further look at the length
+    if length == 4 {
+        return lent::place4(out, behind, &s[body..end]);
+    }
+    lent::place(out, behind, &s[body..end])
 }
 
 // Asks: the same as `put_whole`.
-fn put_piece(out: &mut [u8], at: usize, s: &[u8], rt: u8, i: u16) -> usize
-    requires { ⌜ (entryAt i + 8 ≤ length (now s)) × (4 + bodyLength (now s) i ≤ length (now out) - at) ⌝ }
-    ensures { λ r. ⌜ Wrote (now (out .entry)) at (piece rt (now (s .entry)) i) r (now (out .exit)) ⌝ }
+fn put_piece(out: &mut [u8], at: usize, s: &[u8], rt: u8, head: u32, body: usize) -> usize
+    requires { ⌜ (at + 4 + head % 256 ≤ length (now out)) × (body + head % 256 ≤ length (now s)) ⌝ }
+    ensures { λ r. ⌜ Wrote (now (out .entry)) at (foundBytes rt (now (s .entry)) head body) r (now (out .exit)) ⌝ }
 {
-    let e = layout::entry_in(s, i);
-    if skipped(rt, e.flags) {
+    if skipped(rt, Flags((head / 256 % 256) as u8)) {
         return at;
     }
-    put_whole(out, at, s, i)
+    put_whole(out, at, s, head, body)
 }
 
 // How far a writing of entries has come: the next entry, and where its descriptor starts.
@@ -222,28 +218,49 @@ struct Progress {
     next: usize,
 }
 
-// Entries one by one, as long as the buffer has room for a descriptor: one look at the sheet for all, one at the room for each.
-fn put_fitting(out: &mut [u8], at: usize, s: &[u8], rt: u8, from: u16, to: u16) -> Progress
-    ensures { λ r. ⌜ Fitted rt (now (s .entry)) from to (now (out .entry)) at r (now (out .exit)) ⌝ }
+// Entries one by one, as long as the sheet has the body and the buffer room for the descriptor; each is looked up once.
+fn put_fitting(
+    out: &mut [u8],
+    at: usize,
+    lay: Layout,
+    s: &[u8],
+    rt: u8,
+    from: u16,
+    to: u16,
+) -> Progress
+    ensures { λ r. ⌜ Fitted rt (stored lay (now (s .entry))) from to (now (out .entry)) at r (now (out .exit)) ⌝ }
 {
     let mut next = at;
     let mut i = from;
-    if s.len() < layout::profiles_behind(to) {
+    let n = layout::feature_count(s);
+    if n < to {
+        return Progress { i, next };
+    }
+    if out.len() < at {
+        return Progress { i, next };
+    }
+    if s.len() < layout::profiles_behind(n) {
         return Progress { i, next };
     }
     while i < to {
-        if !fits(s, i, difference(out.len(), next)) {
+        let entry = layout::find(lay, s, n, i);
+        let length = (entry.head % 256) as usize;
+        if out.len() < next + 4 + length {
             return Progress { i, next };
         }
-        next = put_piece(out, next, s, rt, i);
+        let body = fields::inside4(s, entry.place) as usize;
+        if s.len() < body + length {
+            return Progress { i, next };
+        }
+        next = put_piece(out, next, s, rt, entry.head, body);
         i += 1;
     }
     Progress { i, next }
 }
 
 // Entries whatever the sheet has of them and the buffer of room. Stops where the buffer is full.
-fn put_rest(out: &mut [u8], at: usize, s: &[u8], rt: u8, from: u16, to: u16) -> usize
-    ensures { λ r. ⌜ Wrote (now (out .entry)) at (pieces rt (now (s .entry)) from (to - from)) r (now (out .exit)) ⌝ }
+fn put_rest(out: &mut [u8], at: usize, lay: Layout, s: &[u8], rt: u8, from: u16, to: u16) -> usize
+    ensures { λ r. ⌜ Wrote (now (out .entry)) at (pieces rt (stored lay (now (s .entry))) from (to - from)) r (now (out .exit)) ⌝ }
 {
     let mut next = at;
     let mut i = from;
@@ -251,27 +268,30 @@ fn put_rest(out: &mut [u8], at: usize, s: &[u8], rt: u8, from: u16, to: u16) -> 
         if out.len() <= next {
             return next;
         }
-        next = put_slowly(out, next, s, rt, i);
+        next = put_slowly(out, next, lay, s, rt, i);
         i += 1;
     }
     next
 }
 
 // All that fit, and then what is left of the buffer.
-fn put_pieces(out: &mut [u8], at: usize, s: &[u8], rt: u8, from: u16, to: u16) -> usize
-    ensures { λ r. ⌜ Wrote (now (out .entry)) at (pieces rt (now (s .entry)) from (to - from)) r (now (out .exit)) ⌝ }
+fn put_pieces(out: &mut [u8], at: usize, lay: Layout, s: &[u8], rt: u8, from: u16, to: u16) -> usize
+    ensures { λ r. ⌜ Wrote (now (out .entry)) at (pieces rt (stored lay (now (s .entry))) from (to - from)) r (now (out .exit)) ⌝ }
 {
-    let fitting = put_fitting(out, at, s, rt, from, to);
-    put_rest(out, fitting.next, s, rt, fitting.i, to)
+    let fitting = put_fitting(out, at, lay, s, rt, from, to);
+    put_rest(out, fitting.next, lay, s, rt, fitting.i, to)
 }
 
-// Feature 0, straight from the profiles.
+// Feature 0, straight from the profiles. Its fields are put here and not by `put_fields`, whose second caller would cost every command a frame of its own.
 fn put_zero(out: &mut [u8], at: usize, s: &[u8]) -> usize
     ensures { λ r. ⌜ Wrote (now (out .entry)) at (zeroBytes (now (s .entry))) r (now (out .exit)) ⌝ }
 {
     let length = 4 * (layout::profile_count(s) as usize) % 256;
     let body = layout::profiles_part(s);
-    put_fields(out, at, Feature(0), Flags(3), length as u8, body)
+    let a = lent::put2(out, at, 0);
+    let b = lent::put(out, a, 3);
+    let behind = lent::put(out, b, length as u8);
+    lent::copy(out, behind, body)
 }
 
 fn put_zero_part(out: &mut [u8], at: usize, s: &[u8], sfn: Feature) -> usize
@@ -300,14 +320,14 @@ fn data_length(size: usize) -> u32
 }
 
 // The whole response that a plan takes.
-fn put_full(out: &mut [u8], s: &[u8], rt: u8, sfn: Feature, p: Plan) -> usize
-    ensures { λ r. ⌜ Wrote (now (out .entry)) 0 (fullBytes (now (s .entry)) rt (sfn .0) p) r (now (out .exit)) ⌝ }
+fn put_full(out: &mut [u8], lay: Layout, s: &[u8], rt: u8, sfn: Feature, p: Plan) -> usize
+    ensures { λ r. ⌜ Wrote (now (out .entry)) 0 (fullBytes (stored lay (now (s .entry))) rt (sfn .0) p) r (now (out .exit)) ⌝ }
 {
     let profile = profiles::current(layout::profiles_part(s));
     let header = Header::new(data_length(p.size), profile);
     let a = put_header(out, 0, header);
     let b = put_zero_part(out, a, s, sfn);
-    put_pieces(out, b, s, rt, p.from, p.to)
+    put_pieces(out, b, lay, s, rt, p.from, p.to)
 }
 
 // ---- the answers
@@ -331,28 +351,29 @@ fn due(a: u16, size: usize) -> usize
 }
 
 // Answers a request with no check of the sheet: from an accepted one, what `respond` answers.
-pub fn send(s: &[u8], rt: u8, sfn: Feature, a: u16, out: &mut [u8]) -> Made
-    ensures { λ r. ⌜ outcome r (now (out .exit)) ≡ trusting (now (s .entry)) rt (sfn .0) a (now (out .entry)) ⌝ }
+pub fn send(lay: Layout, s: &[u8], rt: u8, sfn: Feature, a: u16, out: &mut [u8]) -> Made
+    ensures { λ r. ⌜ outcome r (now (out .exit)) ≡ trusting (stored lay (now (s .entry))) rt (sfn .0) a (now (out .entry)) ⌝ }
 {
-    let plan = planned(s, rt, sfn);
+    let plan = planned(lay, s, rt, sfn);
     let limit = due(a, plan.size);
     if out.len() < limit {
         return Made::refused(refusal::BUFFER_SHORT);
     }
-    let count = put_full(&mut out[..limit], s, rt, sfn, plan);
+    let count = put_full(&mut out[..limit], lay, s, rt, sfn, plan);
     Made::written(count)
 }
 
 // How many bytes stand behind the header of the full response to a request.
-pub fn size(s: &[u8], rt: u8, sfn: Feature) -> usize
-    ensures { λ r. ⌜ r ≡ takenSize (now (s .entry)) rt (sfn .0) ⌝ }
+pub fn size(lay: Layout, s: &[u8], rt: u8, sfn: Feature) -> usize
+    ensures { λ r. ⌜ r ≡ takenSize (stored lay (now (s .entry))) rt (sfn .0) ⌝ }
 {
-    let found = planned(s, rt, sfn);
+    let found = planned(lay, s, rt, sfn);
     found.size
 }
 
 // Answers a request with no search for the first entry and no look at the entries to add up what `size` gives: told both, what `send` answers.
 pub fn send_sized(
+    lay: Layout,
     s: &[u8],
     rt: u8,
     sfn: Feature,
@@ -361,36 +382,36 @@ pub fn send_sized(
     size: usize,
     out: &mut [u8],
 ) -> Made
-    ensures { λ r. ⌜ outcome r (now (out .exit)) ≡ sized (now (s .entry)) rt (sfn .0) a from size (now (out .entry)) ⌝ }
+    ensures { λ r. ⌜ outcome r (now (out .exit)) ≡ sized (stored lay (now (s .entry))) rt (sfn .0) a from size (now (out .entry)) ⌝ }
 {
     let cut = due(a, size);
     if out.len() < cut {
         return Made::refused(refusal::BUFFER_SHORT);
     }
-    let told = taken(s, rt, sfn, from, size);
-    let count = put_full(&mut out[..cut], s, rt, sfn, told);
+    let told = taken(lay, s, rt, sfn, from, size);
+    let count = put_full(&mut out[..cut], lay, s, rt, sfn, told);
     Made::written(count)
 }
 
 // Answers a command with no check of the sheet: what a box does that has checked it once.
-pub fn respond_accepted(s: &[u8], command: &[u8], out: &mut [u8]) -> Made
-    ensures { λ r. ⌜ outcome r (now (out .exit)) ≡ trustingCommand (now (s .entry)) (now (command .entry)) (now (out .entry)) ⌝ }
+pub fn respond_accepted(lay: Layout, s: &[u8], command: &[u8], out: &mut [u8]) -> Made
+    ensures { λ r. ⌜ outcome r (now (out .exit)) ≡ trustingCommand (stored lay (now (s .entry))) (now (command .entry)) (now (out .entry)) ⌝ }
 {
     let fault = Command::fault(command);
     if fault.number != 0 {
         return Made::refused(fault);
     }
     let c = Command::read(command);
-    send(s, c.rt, c.sfn, c.allocation, out)
+    send(lay, s, c.rt, c.sfn, c.allocation, out)
 }
 
 // Answers a command from any sheet.
-pub fn respond(s: &[u8], command: &[u8], out: &mut [u8]) -> Made
-    ensures { λ r. ⌜ outcome r (now (out .exit)) ≡ answered (now (s .entry)) (now (command .entry)) (now (out .entry)) ⌝ }
+pub fn respond(lay: Layout, s: &[u8], command: &[u8], out: &mut [u8]) -> Made
+    ensures { λ r. ⌜ outcome r (now (out .exit)) ≡ answered (stored lay (now (s .entry))) (now (command .entry)) (now (out .entry)) ⌝ }
 {
-    let fault = sheet::check(s);
+    let fault = sheet::check(lay, s);
     if fault.number != 0 {
         return Made::refused(fault);
     }
-    respond_accepted(s, command, out)
+    respond_accepted(lay, s, command, out)
 }

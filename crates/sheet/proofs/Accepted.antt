@@ -1,6 +1,5 @@
 -- A sheet is accepted exactly when the facts of an accepted sheet hold of it, and what follows from these. Assumes nothing.
 use mathlib.Core.Path.{_≡_, refl, sym, ap, _∙_}
-use mathlib.Core.List.{List}
 use Prim.Native.Nat.{ℕ, zero, suc, _+_, _*_, _-_, _%_, _≤_, _<_}
 use native.Mathlib.Nat.{add-suc, add-zero, le-refl, div-add-mod}
 use native.Mathlib.Omega.{arith}
@@ -14,36 +13,36 @@ use Rattle.refusal.specs.declared.Refusal.{Refusal}
 use Rattle.refusal.specs.First.{accept, firstOf}
 use Rattle.refusal.proofs.First.{if-false, orElse-none, if-zero, orElse-zero, first-all, first-accept, placed-none, placed-number}
 use Rattle.profiles.proofs.Kept.{fault-kept, kept-accept}
-use Rattle.layout.specs.Layout.{featureCount, profileCount, profilesAt, bodiesAt, number, flags, bodyLength, offset, profilesPart}
+use Rattle.layout.specs.Layout.{Sheet, sheetSize, features, featureCount, profileCount, profilesAt, bodiesAt, flagsPlace, lengthPlace, numberPlace, number, flags, bodyLength, offset, profilesIn, profilesPart}
 use Rattle.sheet.specs.Check.{numberBefore, endBefore, flagsRule, entryRule, entryFault, counted, verdict, Accepted}
 use Rattle.sheet.specs.Facts.{Facts}
 
 -- ---- the fields of a list of bytes
 
-pub featureCount-lt : (s : List ℕ) → Bytes s → featureCount s < 65536
-unfolding featureCount
-featureCount-lt s b = field-lt 2 s 0 b
+pub featureCount-lt : (s : Sheet) → Bytes (s .bytes) → featureCount s < 65536
+unfolding features
+featureCount-lt s b = field-lt 2 (s .bytes) 0 b
 
-pub number-lt : (s : List ℕ) (i : ℕ) → Bytes s → number s i < 65536
+pub number-lt : (s : Sheet) (i : ℕ) → Bytes (s .bytes) → number s i < 65536
 unfolding number
-number-lt s i b = field-lt 2 s (4 + 8 * i) b
+number-lt s i b = field-lt 2 (s .bytes) (numberPlace (s .layout) (featureCount s) i) b
 
-pub flags-lt : (s : List ℕ) (i : ℕ) → Bytes s → flags s i < 256
+pub flags-lt : (s : Sheet) (i : ℕ) → Bytes (s .bytes) → flags s i < 256
 unfolding flags
-flags-lt s i b = b (4 + 8 * i + 2)
+flags-lt s i b = b (flagsPlace (s .layout) (featureCount s) i)
 
-pub bodyLength-lt : (s : List ℕ) (i : ℕ) → Bytes s → bodyLength s i < 256
+pub bodyLength-lt : (s : Sheet) (i : ℕ) → Bytes (s .bytes) → bodyLength s i < 256
 unfolding bodyLength
-bodyLength-lt s i b = b (4 + 8 * i + 3)
+bodyLength-lt s i b = b (lengthPlace (s .layout) (featureCount s) i)
 
-pub bytes-profilesPart : (s : List ℕ) → Bytes s → Bytes (profilesPart s)
-unfolding profilesPart
-bytes-profilesPart s b = bytes-take (4 * profileCount s) (drop (profilesAt s) s) (bytes-drop (profilesAt s) s b)
+pub bytes-profilesPart : (s : Sheet) → Bytes (s .bytes) → Bytes (profilesPart s)
+unfolding profilesIn
+bytes-profilesPart s b = bytes-take (4 * profileCount s) (drop (profilesAt s) (s .bytes)) (bytes-drop (profilesAt s) (s .bytes) b)
 
 -- with room for it the profile part has four bytes a profile
-pub length-profilesPart : (s : List ℕ) → bodiesAt s ≤ length s → length (profilesPart s) ≡ 4 * profileCount s
-unfolding profilesPart
-length-profilesPart s h = length-take-le (4 * profileCount s) (drop (profilesAt s) s) (omega (arith, length-drop (profilesAt s) s))
+pub length-profilesPart : (s : Sheet) → bodiesAt s ≤ sheetSize s → length (profilesPart s) ≡ 4 * profileCount s
+unfolding profilesIn
+length-profilesPart s h = length-take-le (4 * profileCount s) (drop (profilesAt s) (s .bytes)) (omega (arith, length-drop (profilesAt s) (s .bytes)))
 
 -- ---- an entry that is accepted
 
@@ -74,7 +73,7 @@ entry-accept num before flag len off end g =
 
 -- ---- the steps from one entry to the next
 
-module _ (s : List ℕ) (follows : (i : ℕ) → i < featureCount s → offset s i ≡ endBefore s i) where
+module _ (s : Sheet) (follows : (i : ℕ) → i < featureCount s → offset s i ≡ endBefore s i) where
   step-end : (i : ℕ) → i < featureCount s → endBefore s (suc i) ≡ endBefore s i + bodyLength s i
   unfolding endBefore
   step-end i l = ap (λ (k : ℕ). k + bodyLength s i) (follows i l)
@@ -93,7 +92,7 @@ module _ (s : List ℕ) (follows : (i : ℕ) → i < featureCount s → offset s
 fours : (n : ℕ) → n < 256 → n % 4 ≡ 0 → n ≤ 252
 fours n l e = omega (arith, div-add-mod n 4)
 
-pub facts : (s : List ℕ) → Bytes s → Accepted s → Facts s
+pub facts : (s : Sheet) → Bytes (s .bytes) → Accepted s → Facts s
 unfolding verdict counted entryFault
 facts s bs e =
     let a = if-zero _ _ _ (if-zero _ _ _ e .1) in
@@ -101,10 +100,10 @@ facts s bs e =
     let d = orElse-zero _ _ (b .1) in
     let g = orElse-zero _ _ (d .1) in
     let k = if-zero _ _ _ (g .1) in
-    let room : bodiesAt s ≤ length s = ltb-false _ _ (a .0) in
+    let room : bodiesAt s ≤ sheetSize s = ltb-false _ _ (a .0) in
     let q : (i : ℕ) → i < featureCount s → EntryGood (number s i) (numberBefore s i) (flags s i) (bodyLength s i) (offset s i) (endBefore s i) =
     λ i h. entry-good _ _ _ _ _ _ (sym (placed-number _ (suc i)) ∙ first-all _ _ (g .0) i h) in
-    let end : length s ≡ endBefore s (featureCount s) = eqb-true _ _ (not-false _ (k .0)) in
+    let end : sheetSize s ≡ endBefore s (featureCount s) = eqb-true _ _ (not-false _ (k .0)) in
     let fol : (i : ℕ) → i < featureCount s → offset s i ≡ endBefore s i = λ i h. q i h .follows in
     record {
       room = room;
@@ -119,7 +118,7 @@ facts s bs e =
       inside = λ i h. omega (arith, end, fol i h, step-end s fol i h, rises-to s fol (suc i) (featureCount s) h (le-refl (featureCount s)));
     }
 
-module _ (s : List ℕ) (f : Facts s) where
+module _ (s : Sheet) (f : Facts s) where
   entry-fine : (i : ℕ) → i < featureCount s → entryFault s i ≡ accept
   unfolding entryFault
   entry-fine i h =
@@ -129,26 +128,26 @@ all-fine : (fault : ℕ → Refusal) (n : ℕ) → ((i : ℕ) → i < n → faul
 all-fine fault n h =
     ap (λ (r : Refusal). r .number) (first-accept fault 0 n (λ j l m. ap (λ (r : Refusal). r .number) (h j (omega arith))))
 
-pub accept-of : (s : List ℕ) → Facts s → verdict s ≡ accept
+pub accept-of : (s : Sheet) → Facts s → verdict s ≡ accept
 unfolding verdict counted
 accept-of s f =
     rw (
-      le-ltb (length s) 4 (omega (arith, f .room)),
+      le-ltb (sheetSize s) 4 (omega (arith, f .room)),
       if-false,
-      le-ltb (length s) (bodiesAt s) (f .room),
+      le-ltb (sheetSize s) (bodiesAt s) (f .room),
       if-false,
       le-ltb 63 (profileCount s) (f .few),
       if-false,
       kept-accept (profilesPart s) (λ i h. f .profiles i (omega (arith, length-profilesPart s (f .room)))),
       orElse-none accept _ refl,
       orElse-none (firstOf (entryFault s) 0 (featureCount s)) _ (all-fine (entryFault s) (featureCount s) (entry-fine s f)),
-      eq-eqb (length s) (endBefore s (featureCount s)) (f .ends),
+      eq-eqb (sheetSize s) (endBefore s (featureCount s)) (f .ends),
       if-false,
     )
 
 -- ---- what follows from the facts
 
-module _ {s : List ℕ} (f : Facts s) where
+module _ {s : Sheet} (f : Facts s) where
   -- each body starts where the one before ends
   pub end-next : (i : ℕ) → i < featureCount s → endBefore s (suc i) ≡ endBefore s i + bodyLength s i
   end-next = step-end s (f .follows)

@@ -1,17 +1,16 @@
 -- Bisection: the range that the loop halves, and that it ends at the first entry wanted. Assumes nothing.
 use mathlib.Core.Path.{_≡_, refl, sym, ap, _∙_}
-use mathlib.Core.List.{List}
 use Prim.Native.Nat.{ℕ, zero, suc, _+_, _-_, _≤_, _<_}
 use native.Mathlib.Decide.{decLe}
 use native.Mathlib.Omega.{arith}
 use borrow.Author.Tests.{lt-ltb, le-ltb}
-use Rattle.layout.specs.Layout.{number}
+use Rattle.layout.specs.Layout.{Sheet, number}
 use Rattle.sheet.specs.declared.Range.{Range}
 use Rattle.sheet.specs.inner.Search.{middle, half, closing, firstFrom}
 
 -- ---- one turn
 
-module _ (s : List ℕ) (sfn low high : ℕ) where
+module _ (s : Sheet) (sfn low high : ℕ) where
   pub half-above : number s (middle low high) < sfn → half s sfn low high ≡ record { low = middle low high + 1; high = high }
   unfolding half
   half-above h = rw (lt-ltb (number s (middle low high)) sfn h, half)
@@ -33,7 +32,7 @@ module _ (s : List ℕ) (sfn low high : ℕ) where
   closing-done (suc k) l = rw (le-ltb low high l, closing)
 
 -- no number is below 0
-closing-zero : (k : ℕ) (s : List ℕ) (low high : ℕ) → closing k s 0 low high ≡ low
+closing-zero : (k : ℕ) (s : Sheet) (low high : ℕ) → closing k s 0 low high ≡ low
 unfolding closing
 closing-zero zero s low high = refl
 closing-zero (suc k) s low high =
@@ -42,51 +41,51 @@ closing-zero (suc k) s low high =
       | no l ↦ closing-done s 0 low high (suc k) (omega arith)
     ]
 
-pub first-of-all : (s : List ℕ) (n sfn : ℕ) → sfn ≡ 0 → 0 ≡ firstFrom s n sfn
+pub first-of-all : (s : Sheet) (n sfn : ℕ) → sfn ≡ 0 → 0 ≡ firstFrom s n sfn
 unfolding firstFrom
 first-of-all s n sfn e = rw e (sym (closing-zero n s 0 n))
 
 -- the whole range
-pub first-closed : (s : List ℕ) (n sfn : ℕ) → closing (n - 0) s sfn 0 n ≡ firstFrom s n sfn
+pub first-closed : (s : Sheet) (n sfn : ℕ) → closing (n - 0) s sfn 0 n ≡ firstFrom s n sfn
 unfolding firstFrom
 first-closed s n sfn = ap (λ (k : ℕ). closing k s sfn 0 n) {x = n - 0} {y = n} (omega arith)
 
 -- ---- the loop: what is left of the search, with turns enough for the range
 
-pub record Turning (s : List ℕ) (sfn from to low high : ℕ) : Type 0 where
+pub record Turning (s : Sheet) (sfn from to low high : ℕ) : Type 0 where
   pub turns : ℕ
   pub enough : high - low ≤ turns
   pub left : closing (to - from) s sfn from to ≡ closing turns s sfn low high
 
-pub turning-start : (s : List ℕ) (sfn from to : ℕ) → Turning s sfn from to from to
+pub turning-start : (s : Sheet) (sfn from to : ℕ) → Turning s sfn from to from to
 turning-start s sfn from to = record { turns = to - from; enough = omega arith; left = refl }
 
-pub turning-more : {s : List ℕ} {sfn from to low high : ℕ} {r : Range} → Turning s sfn from to low high → low < high → r ≡ half s sfn low high → Turning s sfn from to (r .low) (r .high)
+pub turning-more : {s : Sheet} {sfn from to low high : ℕ} {r : Range} → Turning s sfn from to low high → low < high → r ≡ half s sfn low high → Turning s sfn from to (r .low) (r .high)
 turning-more {s} {sfn} {from} {to} {low} {high} t l e = rw e (go (t .turns) (t .enough) (t .left))
   where
     go : (k : ℕ) → high - low ≤ k → closing (to - from) s sfn from to ≡ closing k s sfn low high → Turning s sfn from to (half s sfn low high .low) (half s sfn low high .high)
     go zero m q = absurd (omega arith)
     go (suc k) m q = record { turns = k; enough = omega (arith, half-smaller s sfn low high l); left = q ∙ closing-more s sfn low high k l }
 
-pub turning-end : {s : List ℕ} {sfn from to low high : ℕ} → Turning s sfn from to low high → high ≤ low → low ≡ closing (to - from) s sfn from to
+pub turning-end : {s : Sheet} {sfn from to low high : ℕ} → Turning s sfn from to low high → high ≤ low → low ≡ closing (to - from) s sfn from to
 turning-end {s} {sfn} {from} {to} {low} {high} t l = sym (t .left ∙ closing-done s sfn low high (t .turns) l)
 
 -- ---- where it ends
 
 -- r is the first of n entries with a number of sfn or more, n if there is none
-pub record First (s : List ℕ) (n sfn r : ℕ) : Type 0 where
+pub record First (s : Sheet) (n sfn r : ℕ) : Type 0 where
   pub within : r ≤ n
   pub before : 0 < r → number s (r - 1) < sfn
   pub behind : r < n → sfn ≤ number s r
 
 -- what is known at the ends of the range
-record Ends (s : List ℕ) (n sfn low high : ℕ) : Type 0 where
+record Ends (s : Sheet) (n sfn low high : ℕ) : Type 0 where
   ordered : low ≤ high
   within : high ≤ n
   before : 0 < low → number s (low - 1) < sfn
   behind : high < n → sfn ≤ number s high
 
-module _ (s : List ℕ) (n sfn : ℕ) where
+module _ (s : Sheet) (n sfn : ℕ) where
   -- what the middle entry shows is known at the end that moves there
   ends-more : (low high : ℕ) → Ends s n sfn low high → low < high → Ends s n sfn (half s sfn low high .low) (half s sfn low high .high)
   ends-more low high e l = elim (decLe (suc (number s (middle low high))) sfn) [

@@ -6,6 +6,7 @@ pub mod Pieces
 pub mod Fine
 pub mod Longest
 pub mod Build
+pub mod Same
 pub mod Bisection
 pub mod Passing
 pub mod Lines

@@ -1,7 +1,6 @@
 -- The line of the sheet that the check's refusal names, and document 01's number for it. Assumes nothing.
 use borrow.Author.Tests.{ltb-false}
 use mathlib.Core.Path.{_≡_, refl, ap, _∙_}
-use mathlib.Core.List.{List}
 use Prim.Native.Nat.{ℕ, _*_}
 use native.Mathlib.Omega.{arith}
 use lib.ListN.{length}
@@ -13,7 +12,7 @@ use Rattle.refusal.proofs.Lines.{if-by, orElse-by, EntryOnly, accept-entry, if-
 use Rattle.text.specs.Flags as text
 use Rattle.profiles.specs.Profiles.{recordsFault}
 use Rattle.profiles.proofs.Lines.{records-not-entry, located-nowhere, located-profile, located-entry}
-use Rattle.layout.specs.Layout.{featureCount, profileCount, flags, profilesPart}
+use Rattle.layout.specs.Layout.{Sheet, featureCount, profileCount, flags, profilesPart}
 use Rattle.sheet.specs.Check.{flagsRule, entryRule, entryFault, counted, verdict}
 use Rattle.sheet.specs.Lines.{entryRuleAt, LocatedIn, oldFlagsRule, NoVersions, oldEntry, oldVerdict}
 use Rattle.sheet.proofs.Accepted.{length-profilesPart}
@@ -24,14 +23,14 @@ pub flags-entry : (f : ℕ) → EntryOnly (flagsRule f)
 unfolding flagsRule text.flagsGiving ofEntry
 flags-entry f = orElse-entry _ _ (if-entry _ _ _ refl accept-entry) (if-entry _ _ _ refl accept-entry)
 
-entry-only : (s : List ℕ) (i : ℕ) → EntryOnly (entryRuleAt s i)
+entry-only : (s : Sheet) (i : ℕ) → EntryOnly (entryRuleAt s i)
 unfolding entryRuleAt entryRule ofEntry
 entry-only s i = if-entry _ _ _ refl (if-entry _ _ _ refl (orElse-entry _ _ (flags-entry _) (if-entry _ _ _ refl (if-entry _ _ _ refl accept-entry))))
 
 -- ---- the line named
 
 -- The place is 0 exactly where the number has none; else it is that of the first profile or entry at fault.
-pub verdict-located : (s : List ℕ) → LocatedIn s (verdict s)
+pub verdict-located : (s : Sheet) → LocatedIn s (verdict s)
 unfolding verdict counted entryFault entryRuleAt ofEntry hasPlace
 verdict-located s =
     let plain = located-nowhere (profilesPart s) (profileCount s) (entryRuleAt s) (featureCount s) in
@@ -57,14 +56,14 @@ flags-old f e =
     ap (λ (r : Refusal). r .number) (orElse-none (refuse 5 if text.newer f else accept) (text.flagsGiving (refuse 5) (refuse 5) f) none)
     ∙ two-old f
 
-entry-old : (s : List ℕ) (i : ℕ) → text.version (flags s i) ≡ 0 → Renumbered (oldEntry s i) (entryFault s i)
+entry-old : (s : Sheet) (i : ℕ) → text.version (flags s i) ≡ 0 → Renumbered (oldEntry s i) (entryFault s i)
 unfolding oldEntry entryFault entryRule old
 entry-old s i e =
     rw (placed-number _ _)
     (if-old _ _ _ _ _ refl (if-old _ _ _ _ _ refl (orElse-old _ _ _ _ (flags-old _ e) (if-old _ _ _ _ _ refl (if-old _ _ _ _ _ refl refl)))))
 
 -- Where there is no Version, the number of document 01's check is the old one of the number that is given.
-pub verdict-old : (s : List ℕ) → NoVersions s → oldVerdict s .number ≡ old (verdict s .number)
+pub verdict-old : (s : Sheet) → NoVersions s → oldVerdict s .number ≡ old (verdict s .number)
 unfolding oldVerdict verdict counted old
 verdict-old s v =
     if-old _ _ _ _ _ refl (if-old _ _ _ _ _ refl (if-old _ _ _ _ _ refl

@@ -11,31 +11,33 @@ use Rattle.fields.proofs.Laws.{length-spell}
 use Rattle.refusal.specs.First.{_if_else_, pickZero, _orElse_}
 use Rattle.text.specs.Flags as text
 use Rattle.text.specs.Drive.{Desc, Listed, Drive, Good, Asc}
-use Rattle.layout.specs.Layout.{featureCount, bodiesAt}
+use Rattle.layout.specs.declared.Layout.{Layout}
+use Rattle.layout.specs.Layout.{Sheet, sheetSize, featureCount, bodiesAt}
+use Rattle.layout.proofs.Contents.{length-contents}
 use Rattle.sheet.specs.Check.{endBefore, flagsRule, Accepted}
 use Rattle.sheet.specs.Facts.{Facts}
-use Rattle.sheet.specs.Meaning.{sheetOf, Fine}
+use Rattle.sheet.specs.Meaning.{entriesOf, sheetOf, Fine}
 use Rattle.sheet.proofs.Accepted.{facts, featureCount-lt, end-next}
 use Rattle.profiles.specs.Profiles.{Distinct}
 use Rattle.text.proofs.Profiles.{length-profiles}
-use Rattle.sheet.proofs.Pieces.{body, length-contents}
+use Rattle.sheet.proofs.Pieces.{body, length-entries}
 use Rattle.sheet.proofs.Fine.{count-low, bodies-low}
 
-pub length-sheet : (m : Drive) → length (sheetOf m) ≡ 4 + 8 * length (m .features) + 4 * length (m .profiles) + length (flat (λ (d : Desc). d .body) (m .features))
+pub length-sheet : (l : Layout) (m : Drive) → sheetSize (sheetOf l m) ≡ 4 + 8 * length (m .features) + 4 * length (m .profiles) + length (flat (λ (d : Desc). d .body) (m .features))
 unfolding sheetOf
-length-sheet m = simp (length-append, length-spell, length-contents, length-profiles)
+length-sheet l m = simp (length-append, length-spell, length-contents, length-entries, length-profiles)
 
-pub length-sheet-le : (m : Drive) → Fine m → length (sheetOf m) ≤ 17039356
-length-sheet-le m f = omega (arith, length-sheet m, count-low f, bodies-low f, f .sound .few)
+pub length-sheet-le : (l : Layout) (m : Drive) → Fine m → sheetSize (sheetOf l m) ≤ 17039356
+length-sheet-le l m f = omega (arith, length-sheet l m, count-low f, bodies-low f, f .sound .few)
 
 -- ---- no accepted sheet is longer
 
-end-le : (s : List ℕ) → Facts s → (i : ℕ) → i ≤ featureCount s → endBefore s i ≤ bodiesAt s + 252 * i
+end-le : (s : Sheet) → Facts s → (i : ℕ) → i ≤ featureCount s → endBefore s i ≤ bodiesAt s + 252 * i
 unfolding endBefore
 end-le s f zero l = omega arith
 end-le s f (suc i) l = omega (arith, end-next f i l, f .short i l, end-le s f i (omega arith))
 
-pub longest : (s : List ℕ) → Bytes s → Accepted s → length s ≤ 17039356
+pub longest : (s : Sheet) → Bytes (s .bytes) → Accepted s → sheetSize s ≤ 17039356
 longest s b e =
     let f : Facts s = facts s b e in
     omega (arith, f .ends, f .few, featureCount-lt s b, end-le s f (featureCount s) (omega arith))
@@ -113,14 +115,14 @@ unfolding each flat plainDesc
 plain-bodies w i zero = omega arith
 plain-bodies w i (suc n) = omega (arith, length-append (replicate w 0) (flat body (each (plainDesc w) (suc i) n)), length-replicate {A = ℕ} w 0, plain-bodies w (suc i) n)
 
-plain-length : (n p w : ℕ) → length (sheetOf (plain n p w)) ≡ 4 + 8 * n + 4 * p + w * n
+plain-length : (l : Layout) (n p w : ℕ) → sheetSize (sheetOf l (plain n p w)) ≡ 4 + 8 * n + 4 * p + w * n
 unfolding plain
-plain-length n p w = omega (arith, length-sheet (plain n p w), length-each (plainDesc w) 1 n, length-each plainListed 1 p, plain-bodies w 1 n)
+plain-length l n p w = omega (arith, length-sheet l (plain n p w), length-each (plainDesc w) 1 n, length-each plainListed 1 p, plain-bodies w 1 n)
 
 pub longest-fine : Fine longestDrive
 unfolding longestDrive
 longest-fine = plain-fine 65535 63 252 (omega arith) (omega arith) refl (omega arith)
 
-pub longest-reached : length (sheetOf longestDrive) ≡ 17039356
+pub longest-reached : (l : Layout) → sheetSize (sheetOf l longestDrive) ≡ 17039356
 unfolding longestDrive
-longest-reached = plain-length 65535 63 252
+longest-reached l = plain-length l 65535 63 252

@@ -1,6 +1,5 @@
 -- An accepted sheet means a drive that a sheet can describe. Assumes nothing.
 use mathlib.Core.Path.{_≡_, ap, _∙_}
-use mathlib.Core.List.{List}
 use Prim.Native.Nat.{ℕ, zero, suc, _+_, _%_, _≤_, _<_}
 use native.Mathlib.Omega.{arith}
 use lib.ListN.{length, drop, length-drop}
@@ -9,32 +8,32 @@ use Rattle.base.specs.Lists.{each, Bytes}
 use Rattle.base.proofs.Lists.{bytes-drop, bytes-take, each-all}
 use Rattle.text.specs.Drive.{Desc, Good, Asc}
 use Rattle.profiles.proofs.Kept.{length-profilesOf, low-of, kept-distinct}
-use Rattle.layout.specs.Layout.{featureCount, profileCount, number, flags, bodyLength, offset, profilesPart}
+use Rattle.layout.specs.Layout.{Sheet, featureCount, profileCount, number, flags, bodyLength, offset, profilesPart}
 use Rattle.sheet.specs.Check.{numberBefore, flagsRule, Accepted}
 use Rattle.sheet.specs.Facts.{Facts}
 use Rattle.sheet.specs.Meaning.{desc, meaning, Fine}
 use Rattle.sheet.proofs.Accepted.{facts, number-lt, flags-lt, length-profilesPart, bytes-profilesPart}
 
-pub profiles-count : (s : List ℕ) → Facts s → length (meaning s .profiles) ≡ profileCount s
+pub profiles-count : (s : Sheet) → Facts s → length (meaning s .profiles) ≡ profileCount s
 unfolding meaning
 profiles-count s f = omega (arith, length-profilesOf (profilesPart s), length-profilesPart s (f .room))
 
-module _ {s : List ℕ} (f : Facts s) where
+module _ {s : Sheet} (f : Facts s) where
   -- a body is as long as its entry says
   pub body-length : (i : ℕ) → i < featureCount s → length (desc s i .body) ≡ bodyLength s i
   unfolding desc
   body-length i l =
-      let r : bodyLength s i ≤ length (drop (offset s i) s) = simp length-drop (omega (arith, f .inside i l)) in
-      length-take-le (bodyLength s i) (drop (offset s i) s) r
+      let r : bodyLength s i ≤ length (drop (offset s i) (s .bytes)) = simp length-drop (omega (arith, f .inside i l)) in
+      length-take-le (bodyLength s i) (drop (offset s i) (s .bytes)) r
 
-  desc-good : Bytes s → (i : ℕ) → i < featureCount s → Good (desc s i)
+  desc-good : Bytes (s .bytes) → (i : ℕ) → i < featureCount s → Good (desc s i)
   unfolding desc
   desc-good b i l = record {
     number-low = number-lt s i b;
     flags-low = flags-lt s i b;
     four = ap (λ (k : ℕ). k % 4) (body-length i l) ∙ f .four i l;
     short = omega (arith, body-length i l, f .short i l);
-    bytes = bytes-take (bodyLength s i) (drop (offset s i) s) (bytes-drop (offset s i) s b);
+    bytes = bytes-take (bodyLength s i) (drop (offset s i) (s .bytes)) (bytes-drop (offset s i) (s .bytes) b);
   }
 
   ascend-from : (i k : ℕ) → i + k ≤ featureCount s → Asc (suc (numberBefore s i)) (each (desc s) i k)
@@ -44,7 +43,7 @@ module _ {s : List ℕ} (f : Facts s) where
       let e : 1 + number s i ≡ suc (number s i) = omega arith in
       (f .above i (omega arith), rw e (ascend-from (suc i) k (omega arith)))
 
-pub fine-of : (s : List ℕ) → Bytes s → Facts s → Fine (meaning s)
+pub fine-of : (s : Sheet) → Bytes (s .bytes) → Facts s → Fine (meaning s)
 unfolding meaning numberBefore desc
 fine-of s b f = record {
   sound = record {
@@ -57,5 +56,5 @@ fine-of s b f = record {
   legal = each-all (λ (d : Desc). flagsRule (d .flags) .number ≡ 0) (desc s) 0 (featureCount s) (λ j l m. f .legal j (omega arith));
 }
 
-pub meaning-fine : (s : List ℕ) → Bytes s → Accepted s → Fine (meaning s)
+pub meaning-fine : (s : Sheet) → Bytes (s .bytes) → Accepted s → Fine (meaning s)
 meaning-fine s b e = fine-of s b (facts s b e)

@@ -1,11 +1,10 @@
 -- Passing entries one by one: the loop, and that from where an earlier search has ended it ends where bisection of all does. Assumes nothing.
 use mathlib.Core.Path.{_≡_, refl, ap}
-use mathlib.Core.List.{List}
 use Prim.Native.Nat.{ℕ, zero, suc, _+_, _-_, _≤_, _<_}
 use native.Mathlib.Decide.{decLe}
 use native.Mathlib.Omega.{arith}
 use borrow.Author.Tests.{lt-ltb, le-ltb}
-use Rattle.layout.specs.Layout.{featureCount, number}
+use Rattle.layout.specs.Layout.{Sheet, featureCount, number}
 use Rattle.sheet.specs.Facts.{Facts}
 use Rattle.sheet.specs.inner.Search.{closing, firstFrom, passing, nextFrom}
 use Rattle.sheet.proofs.Accepted.{ascending}
@@ -13,7 +12,7 @@ use Rattle.sheet.proofs.Bisection.{First, closed-first, first-from}
 
 -- ---- the loop, with k left to be passed
 
-module _ (s : List ℕ) (n sfn i : ℕ) where
+module _ (s : Sheet) (n sfn i : ℕ) where
   pub passing-more : (k : ℕ) → 0 < k → i < n → number s i < sfn → passing k s n sfn i ≡ passing (k - 1) s n sfn (i + 1)
   unfolding passing
   passing-more zero p l h = absurd (omega arith)
@@ -38,7 +37,7 @@ module _ (s : List ℕ) (n sfn i : ℕ) where
 
 -- ---- where it ends
 
-module _ (s : List ℕ) (n sfn : ℕ) where
+module _ (s : Sheet) (n sfn : ℕ) where
   -- where the one before the start is below sfn, at the first of all
   passing-first : (k i : ℕ) → i ≤ n → (0 < i → number s (i - 1) < sfn) → First s n sfn (passing k s n sfn i)
   passing-first zero i l before = rw (passing-none s n sfn i 0 (omega arith)) (closed-first s n sfn i l before)
@@ -52,7 +51,7 @@ module _ (s : List ℕ) (n sfn : ℕ) where
     ]
   ]
 
-module _ {s : List ℕ} (f : Facts s) where
+module _ {s : Sheet} (f : Facts s) where
   not-behind : {sfn a b : ℕ} → First s (featureCount s) sfn a → First s (featureCount s) sfn b → a < b → ⊥
   not-behind {sfn} {a} {b} p q l = elim (decLe (b - 1) a) [
     | yes h ↦ (let e : b - 1 ≡ a = omega arith in

@@ -6,33 +6,36 @@ use lib.ListN.{length, take, drop}
 use Rattle.base.specs.Lists.{each, flat, All}
 use Rattle.text.specs.Drive.{Desc, Drive, Sound, profileBytes}
 use Rattle.profiles.specs.Profiles.{profilesOf, Distinct}
-use Rattle.layout.specs.Layout.{featureCount, countsBytes, profilesBehind, number, flags, bodyLength, offset, entryBytes, profilesPart}
+use Rattle.layout.specs.declared.Layout.{Layout}
+use Rattle.layout.specs.declared.Entry.{Entry}
+use Rattle.layout.specs.Layout.{Sheet, stored, featureCount, countsBytes, profilesBehind, number, flags, bodyLength, offset, profilesPart}
+use Rattle.layout.specs.Contents.{contents}
 use Rattle.sheet.specs.Check.{flagsRule}
 
 -- the descriptor of entry i
-unfoldable pub desc : List ℕ → ℕ → Desc
-desc s i = record { number = number s i; flags = flags s i; body = take (bodyLength s i) (drop (offset s i) s) }
+unfoldable pub desc : Sheet → ℕ → Desc
+desc s i = record { number = number s i; flags = flags s i; body = take (bodyLength s i) (drop (offset s i) (s .bytes)) }
 
 -- the drive that a sheet describes
-unfoldable pub meaning : List ℕ → Drive
+unfoldable pub meaning : Sheet → Drive
 meaning s = record { profiles = profilesOf (profilesPart s); features = each (desc s) 0 (featureCount s) }
 
 -- the entry of a descriptor whose body stands at `at`
-abbrev pub entry : ℕ → Desc → List ℕ
-entry at d = entryBytes (d .number) (d .flags) (length (d .body)) at
+abbrev pub entry : ℕ → Desc → Entry
+entry at d = record { number = record { 0 = d .number }; flags = record { 0 = d .flags }; length = length (d .body); offset = at }
 
--- the contents: an entry for each descriptor, the first body at `at`
-unfoldable pub contents : ℕ → List Desc → List ℕ
-contents at [] = []
-contents at (d ∷ ds) = entry at d ++ contents (at + length (d .body)) ds
+-- an entry for each descriptor, the first body at `at`
+unfoldable pub entriesOf : ℕ → List Desc → List Entry
+entriesOf at [] = []
+entriesOf at (d ∷ ds) = entry at d ∷ entriesOf (at + length (d .body)) ds
 
--- the sheet of a drive
-unfoldable pub sheetOf : Drive → List ℕ
-sheetOf m =
+-- the sheet of a drive, so laid out
+unfoldable pub sheetOf : Layout → Drive → Sheet
+sheetOf l m = stored l (
     countsBytes (length (m .features)) (length (m .profiles))
-    ++ contents (profilesBehind (length (m .features)) + 4 * length (m .profiles)) (m .features)
+    ++ contents l (entriesOf (profilesBehind (length (m .features)) + 4 * length (m .profiles)) (m .features))
     ++ flat profileBytes (m .profiles)
-    ++ flat (λ (d : Desc). d .body) (m .features)
+    ++ flat (λ (d : Desc). d .body) (m .features))
 
 -- a drive that a sheet can describe
 pub record Fine (m : Drive) : Type 0 where

@@ -1,11 +1,11 @@
 // The check of a drive sheet, and the search for an entry.
 ghost use mathlib.Core.Path.{_≡_};
-ghost use Prim.Native.Nat.{_-_, _≤_, _<_};
-ghost use lib.ListN.{length};
-ghost use Rattle.layout.specs.Layout.{entryAt, profileCount};
-ghost use Rattle.refusal.specs.First.{firstOf};
-ghost use Rattle.sheet.specs.Check.{endBefore, flagsRule, entryRule, entryFault, counted, verdict};
+ghost use Prim.Native.Nat.{_-_, _<_};
+ghost use Rattle.layout.specs.Layout.{stored, profiles};
+ghost use Rattle.layout.specs.inner.Room.{Room};
+ghost use Rattle.sheet.specs.Check.{endBefore, flagsRule, entryRule, entriesVerdict, counted, verdict};
 ghost use Rattle.sheet.specs.inner.Search.{half, closing, firstFrom, nextFrom};
+use layout::Layout;
 use refusal::Refusal;
 use text::Feature;
 use text::Flags;
@@ -51,26 +51,26 @@ fn entry_rule(
 // ---- the rules, at each entry
 
 // Where the body before that of entry i ends.
-pub fn end_before(s: &[u8], i: u16) -> usize
-    ensures { λ r. ⌜ r ≡ endBefore (now (s .entry)) i ⌝ }
+pub fn end_before(lay: Layout, s: &[u8], i: u16) -> usize
+    ensures { λ r. ⌜ r ≡ endBefore (stored lay (now (s .entry))) i ⌝ }
 {
     if i == 0 {
         return layout::bodies_at(s);
     }
-    layout::offset_at(s, i - 1) as usize + layout::length_at(s, i - 1) as usize
+    layout::offset_at(lay, s, i - 1) as usize + layout::length_at(lay, s, i - 1) as usize
 }
 
-// The first refusal of the first n entries. Each is read once; what it leaves for the next one is carried along.
-// Asks: a sheet that has the entries; the check has looked at its length.
-fn entries_fault(s: &[u8], n: u16) -> Refusal
-    requires { ⌜ entryAt n ≤ length (now s) ⌝ }
-    ensures { λ r. ⌜ r ≡ firstOf (entryFault (now (s .entry))) 0 n ⌝ }
+// The first refusal of the entries and of what stands behind the last body. Each entry is read once; what it leaves for the next one is carried along.
+// Asks: a sheet of n features that has its contents; the check has looked at its length.
+fn entries_fault(lay: Layout, s: &[u8], n: u16) -> Refusal
+    requires { ⌜ Room (now s) n ⌝ }
+    ensures { λ r. ⌜ r ≡ entriesVerdict (stored lay (now (s .entry))) n ⌝ }
 {
     let mut i: u16 = 0;
     let mut before = Feature(0);
     let mut end = layout::bodies_at(s);
     while i < n {
-        let e = layout::entry_in(s, i);
+        let e = layout::entry_in(lay, s, n, i);
         let rule = entry_rule(e.number, before, e.flags, e.length, e.offset, end);
         let fault = rule.placed(i + 1);
         if fault.number != 0 {
@@ -80,16 +80,19 @@ fn entries_fault(s: &[u8], n: u16) -> Refusal
         before = e.number;
         end = e.offset as usize + e.length as usize;
     }
+    if s.len() != end {
+        return refusal::SHEET_LONG;
+    }
     refusal::ACCEPTED
 }
 
 // ---- the check
 
 // The check of a sheet that has room for n entries and p profiles.
-// Asks: a sheet that has the entries and the profiles; the check has looked at its length.
-fn counted_fault(s: &[u8], n: u16, p: u16) -> Refusal
-    requires { ⌜ (entryAt n ≤ length (now s)) × (p ≡ profileCount (now s)) ⌝ }
-    ensures { λ r. ⌜ r ≡ counted (now (s .entry)) n p ⌝ }
+// Asks: a sheet of n features and p profiles that has its contents; the check has looked at its length.
+fn counted_fault(lay: Layout, s: &[u8], n: u16, p: u16) -> Refusal
+    requires { ⌜ Room (now s) n × (p ≡ profiles (now s)) ⌝ }
+    ensures { λ r. ⌜ r ≡ counted (stored lay (now (s .entry))) n p ⌝ }
 {
     if 63 < p {
         return refusal::PROFILES_MANY;
@@ -98,19 +101,12 @@ fn counted_fault(s: &[u8], n: u16, p: u16) -> Refusal
     if profiles.number != 0 {
         return profiles;
     }
-    let entries = entries_fault(s, n);
-    if entries.number != 0 {
-        return entries;
-    }
-    if s.len() != end_before(s, n) {
-        return refusal::SHEET_LONG;
-    }
-    refusal::ACCEPTED
+    entries_fault(lay, s, n)
 }
 
 // The first refusal of a drive sheet, number 0 where it is accepted.
-pub fn check(s: &[u8]) -> Refusal
-    ensures { λ r. ⌜ r ≡ verdict (now (s .entry)) ⌝ }
+pub fn check(lay: Layout, s: &[u8]) -> Refusal
+    ensures { λ r. ⌜ r ≡ verdict (stored lay (now (s .entry))) ⌝ }
 {
     if s.len() < 4 {
         return refusal::SHEET_SHORT;
@@ -118,7 +114,7 @@ pub fn check(s: &[u8]) -> Refusal
     if s.len() < layout::bodies_at(s) {
         return refusal::SHEET_SHORT;
     }
-    counted_fault(s, layout::feature_count(s), layout::profile_count(s))
+    counted_fault(lay, s, layout::feature_count(s), layout::profile_count(s))
 }
 
 // ---- the search for an entry
@@ -130,12 +126,12 @@ struct Range {
 
 // The half of a range where the first entry numbered sfn or more is.
 // Asks: a range that is not empty; the bisection stops at an empty one.
-fn halved(s: &[u8], sfn: Feature, low: u16, high: u16) -> Range
+fn halved(lay: Layout, s: &[u8], sfn: Feature, low: u16, high: u16) -> Range
     requires { ⌜ low < high ⌝ }
-    ensures { λ r. ⌜ r ≡ half (now (s .entry)) (sfn .0) low high ⌝ }
+    ensures { λ r. ⌜ r ≡ half (stored lay (now (s .entry))) (sfn .0) low high ⌝ }
 {
     let middle = low + (high - low) / 2;
-    let feature = layout::feature_at(s, middle);
+    let feature = layout::feature_at(lay, s, middle);
     if feature.0 < sfn.0 {
         return Range {
             low: middle + 1,
@@ -149,13 +145,13 @@ fn halved(s: &[u8], sfn: Feature, low: u16, high: u16) -> Range
 }
 
 // The first entry of a range numbered sfn or more, the range's end if there is none: by bisection, so that an accepted sheet's entries are not walked.
-fn closed(s: &[u8], sfn: Feature, from: u16, to: u16) -> u16
-    ensures { λ r. ⌜ r ≡ closing (to - from) (now (s .entry)) (sfn .0) from to ⌝ }
+fn closed(lay: Layout, s: &[u8], sfn: Feature, from: u16, to: u16) -> u16
+    ensures { λ r. ⌜ r ≡ closing (to - from) (stored lay (now (s .entry))) (sfn .0) from to ⌝ }
 {
     let mut low = from;
     let mut high = to;
     while low < high {
-        let half = halved(s, sfn, low, high);
+        let half = halved(lay, s, sfn, low, high);
         low = half.low;
         high = half.high;
     }
@@ -163,19 +159,19 @@ fn closed(s: &[u8], sfn: Feature, from: u16, to: u16) -> u16
 }
 
 // The first of n entries numbered sfn or more, n if there is none.
-pub fn first_from(s: &[u8], n: u16, sfn: Feature) -> u16
-    ensures { λ r. ⌜ r ≡ firstFrom (now (s .entry)) n (sfn .0) ⌝ }
+pub fn first_from(lay: Layout, s: &[u8], n: u16, sfn: Feature) -> u16
+    ensures { λ r. ⌜ r ≡ firstFrom (stored lay (now (s .entry))) n (sfn .0) ⌝ }
 {
     // no number is below 0
     if sfn.0 == 0 {
         return 0;
     }
-    closed(s, sfn, 0, n)
+    closed(lay, s, sfn, 0, n)
 }
 
 // The same on from an entry, for who goes on from where it has got to: the next eight one by one, and bisection behind them.
-pub fn next_from(s: &[u8], n: u16, sfn: Feature, from: u16) -> u16
-    ensures { λ r. ⌜ r ≡ nextFrom (now (s .entry)) n (sfn .0) from ⌝ }
+pub fn next_from(lay: Layout, s: &[u8], n: u16, sfn: Feature, from: u16) -> u16
+    ensures { λ r. ⌜ r ≡ nextFrom (stored lay (now (s .entry))) n (sfn .0) from ⌝ }
 {
     let mut i = from;
     let mut left: u8 = 8;
@@ -183,12 +179,12 @@ pub fn next_from(s: &[u8], n: u16, sfn: Feature, from: u16) -> u16
         if n <= i {
             return i;
         }
-        let feature = layout::feature_at(s, i);
+        let feature = layout::feature_at(lay, s, i);
         if sfn.0 <= feature.0 {
             return i;
         }
         i += 1;
         left -= 1;
     }
-    closed(s, sfn, i, n)
+    closed(lay, s, sfn, i, n)
 }

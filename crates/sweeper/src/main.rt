@@ -1,5 +1,6 @@
-// Reads a drive sheet from standard input, runs the bench sweep against it and tells its rounds and totals. Arguments: RT, `-`, allocation length (`asked`), and
-// whether the collected descriptors are to be written as one response.
+// Reads a drive sheet from standard input, runs the bench sweep against it and tells its rounds and totals. Arguments: RT, `-`, allocation length (`asked`), whether
+// the collected descriptors are to be written as one response, and whether the sheet is in columns.
+use layout::Layout;
 use streams::say;
 use streams::say_decimal;
 use text::Feature;
@@ -16,14 +17,22 @@ const ROOM: usize = MOST + 1;
 const STARTS: usize = 65536;
 
 // A line for each start that was noted: the box is asked again, and gives the same bytes.
-fn say_rounds(sheet: &[u8], rt: u8, a: u16, starts: &[u16], commands: u32, response: &mut [u8]) {
+fn say_rounds(
+    lay: Layout,
+    sheet: &[u8],
+    rt: u8,
+    a: u16,
+    starts: &[u16],
+    commands: u32,
+    response: &mut [u8],
+) {
     let mut i = 0;
     while i < starts.len() {
         if commands as usize <= i {
             return;
         }
         let start = Feature(starts[i]);
-        let reply = responder::send(sheet, rt, start, a, response);
+        let reply = responder::send(lay, sheet, rt, start, a, response);
         told::say_round(rt, start, fields::part(response, 0, reply.count));
         i += 1;
     }
@@ -50,14 +59,15 @@ fn say_fewest(commands: u32) {
 fn sweep(sheet: &[u8], response: &mut [u8], collected: &mut [u8], starts: &mut [u16]) {
     let rt = asked::rt();
     let a = streams::arg(3);
-    let benched = bench::bench(sheet, rt, a, response, collected, starts);
+    let lay = told::layout_given(5);
+    let benched = bench::bench(lay, sheet, rt, a, response, collected, starts);
     let refusal = benched.refusal;
     if refusal.number != 0 {
-        told::say_sheet_refused(refusal, sheet);
+        told::say_sheet_refused(refusal, lay, sheet);
         return;
     }
     let profile = Profile(fields::get2(response, 6));
-    say_rounds(sheet, rt, a, starts, benched.commands, response);
+    say_rounds(lay, sheet, rt, a, starts, benched.commands, response);
     told::say_totals(benched.commands, benched.collected);
     say_bound(benched.commands, text::most(a), benched.collected);
     say_fewest(benched.commands);

@@ -1,4 +1,5 @@
 // What the programs tell of a sweep, of a sheet and of a capture: a line a round, the totals, the collected descriptors as one response, the line that a refusal names.
+use layout::Layout;
 use libc::STDERR_FILENO;
 use libc::STDOUT_FILENO;
 use refusal::Refusal;
@@ -58,15 +59,23 @@ pub fn put_response(profile: Profile, descriptors: &[u8]) {
     streams::say_to(RESPONSE, descriptors);
 }
 
+// How the sheet that is read is laid out: in columns where this argument is given.
+pub fn layout_given(i: usize) -> Layout {
+    if streams::given(i) {
+        return Layout::Columns;
+    }
+    Layout::Rows
+}
+
 // A refusal of a sheet or a command, with the line of the sheet that it names.
-pub fn say_sheet_refused(refusal: Refusal, sheet: &[u8]) {
+pub fn say_sheet_refused(refusal: Refusal, lay: Layout, sheet: &[u8]) {
     streams::mark_fault();
     let profiles = layout::profile_count(sheet);
     if refusal.place == 0 {
         words::say_refused(STDERR_FILENO, refusal, profiles as u64, 0);
         return;
     }
-    let feature = layout::feature_at(sheet, refusal.place - 1);
+    let feature = layout::feature_at(lay, sheet, refusal.place - 1);
     words::say_refused(STDERR_FILENO, refusal, profiles as u64, feature.0);
 }
 

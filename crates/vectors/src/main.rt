@@ -8,7 +8,7 @@
 //
 // A number is decimal, or hexadecimal and ends in `h`; in a narrower place its low bits count. Bytes are words:
 //     2A              two hexadecimal digits: this byte; 2A*300 is 300 of them
-//     E               sheet E, 52 bytes
+//     E               sheet E, 52 bytes; EC is the same in columns
 //     R               the response to RT 0 from 0 of a box with sheet E, 44 bytes
 //     "0012 44 5"     this text
 //     @12             what follows stands from byte 12 on, over what is there
@@ -19,10 +19,10 @@
 //                     has four bytes too: `descriptors` with a length of 0 are profiles.
 //
 // The operations, their numbers, and what comes back beside the buffer:
-//     sheet | SHEET = refusal, place
-//     end I | SHEET = where the body before that of entry I ends
-//     respond | SHEET | COMMAND = refusal, count, place
-//     accepted | SHEET | COMMAND = refusal, count: the same by `respond_accepted`
+//     sheet C | SHEET = refusal, place; here and below C is 1 where the sheet is in columns
+//     end I C | SHEET = where the body before that of entry I ends
+//     respond C | SHEET | COMMAND = refusal, count, place
+//     accepted C | SHEET | COMMAND = refusal, count: the same by `respond_accepted`
 //     import | RESPONSE = refusal, count, place
 //     read RT SFN | RESPONSE = refusal, profile, Data Length, whole descriptors, the place behind the last, 1 if complete
 //     held FEATURE | FRESH | KEPT = count; the descriptor is copied to the buffer
@@ -33,12 +33,14 @@
 //     start RT A = refusal, RT, A, next start, commands, bytes collected, 1 if ended, profile
 //     take RT A NEXT COMMANDS COLLECTED ENDED PROFILE | RESPONSE = the same eight
 //     lend RT A NEXT COMMANDS COLLECTED ENDED PROFILE | RESPONSE = the same by `take_response`, which is lent the record
-//     bench RT A | SHEET = refusal, commands, bytes collected, place; the buffer is 64 bytes for the response, 40 to collect, 12 for six starts
+//     bench RT A C | SHEET = refusal, commands, bytes collected, place; the buffer is 64 bytes for the response, 40 to collect, 12 for six starts
+//     convert C | SHEET = refusal, count, place: to the other layout
 //
 // A line of output for each: the title and `ok`, or `WRONG` and what was got, or `UNREADABLE`; last, how many of how many are ok.
 ghost use mathlib.Core.Path.{_≡_};
 ghost use Rattle.sweep.specs.Sweep.{turn, stepped};
 use checks::Judgement;
+use layout::Layout;
 use libc::STDIN_FILENO;
 use libc::STDOUT_FILENO;
 use refusal::Refusal;
@@ -47,10 +49,10 @@ use sweep::Sweep;
 use text::Feature;
 use text::Profile;
 
-const OPERATIONS: [u8; 95] =
-    *b"sheet end respond accepted import read held list descriptors profile most start take lend bench";
+const OPERATIONS: [u8; 103] =
+    *b"sheet end respond accepted import read held list descriptors profile most start take lend bench convert";
 
-const MAKERS: [u8; 30] = *b"entries descriptors bodies E R";
+const MAKERS: [u8; 33] = *b"entries descriptors bodies E R EC";
 
 // What is no number. Numbers are below 2^63.
 const NO_NUMBER: u64 = 0xFFFFFFFFFFFFFFFF;
@@ -378,7 +380,7 @@ fn copied(s: &[u8], made: Made, word: &[u8], bytes: &[u8], out: &mut [u8]) -> Ma
     made.to(place, behind(s, made.at, word))
 }
 
-fn other(s: &[u8], made: Made, word: &[u8], out: &mut [u8]) -> Made {
+fn other_word(s: &[u8], made: Made, word: &[u8], out: &mut [u8]) -> Made {
     match fields::byte(word, 0) {
         b'"' => quoted(s, made, out),
         b'@' | b'<' => placed(s, made, word),
@@ -393,8 +395,9 @@ fn add(s: &[u8], made: Made, out: &mut [u8]) -> Made {
     match maker {
         3 => copied(s, made, word, &recorder::SHEET_E, out),
         4 => copied(s, made, word, &recorder::RESPONSE_E, out),
+        5 => copied(s, made, word, &recorder::COLUMNS_E, out),
         0..=2 => make(s, maker, behind(s, made.at, word), made, out),
-        _ => other(s, made, word, out),
+        _ => other_word(s, made, word, out),
     }
 }
 
@@ -455,21 +458,41 @@ fn one(n: u64) -> [u64; 8] {
     [n, 0, 0, 0, 0, 0, 0, 0]
 }
 
+fn laid(columns: u64) -> Layout {
+    if columns == 1 {
+        return Layout::Columns;
+    }
+    Layout::Rows
+}
+
+fn other(lay: Layout) -> Layout {
+    match lay {
+        Layout::Rows => Layout::Columns,
+        Layout::Columns => Layout::Rows,
+    }
+}
+
+fn run_convert(lay: Layout, sheet: &[u8], out: &mut [u8]) -> [u64; 8] {
+    let made = convert::convert(other(lay), lay, sheet, out);
+    let refusal = made.refusal;
+    told(refusal, made.count as u64, refusal.place as u64)
+}
+
 // The operations on a sheet, and import, which makes one.
 fn run_box(operation: u8, n: [u64; 8], a: &[u8], b: &[u8], out: &mut [u8]) -> [u64; 8] {
     match operation {
         0 => {
-            let verdict = sheet::check(a);
+            let verdict = sheet::check(laid(n[0]), a);
             return told(verdict, verdict.place as u64, 0);
         }
-        1 => return one(sheet::end_before(a, low16(n[0])) as u64),
+        1 => return one(sheet::end_before(laid(n[1]), a, low16(n[0])) as u64),
         2 => {
-            let reply = responder::respond(a, b, out);
+            let reply = responder::respond(laid(n[0]), a, b, out);
             let refusal = reply.refusal;
             return told(refusal, reply.count as u64, refusal.place as u64);
         }
         3 => {
-            let reply = responder::respond_accepted(a, b, out);
+            let reply = responder::respond_accepted(laid(n[0]), a, b, out);
             return told(reply.refusal, reply.count as u64, 0);
         }
         _ => {
@@ -580,14 +603,22 @@ fn put_starts(out: &mut [u8], from: usize, starts: &[u16]) {
 }
 
 // A bench sweep, its three buffers one behind the other. Fewer or more than their 116 bytes are no answer.
-fn run_bench(rt: u8, a: u16, sheet: &[u8], out: &mut [u8]) -> [u64; 8] {
+fn run_bench(lay: Layout, rt: u8, a: u16, sheet: &[u8], out: &mut [u8]) -> [u64; 8] {
     if out.len() != 116 {
         return [NO_NUMBER; 8];
     }
     let mut response = [0xEEu8; 64];
     let mut collected = [0xEEu8; 40];
     let mut starts = [0xEEEEu16; 6];
-    let b = bench::bench(sheet, rt, a, &mut response, &mut collected, &mut starts);
+    let b = bench::bench(
+        lay,
+        sheet,
+        rt,
+        a,
+        &mut response,
+        &mut collected,
+        &mut starts,
+    );
     lent::copy(out, 0, &response);
     lent::copy(out, 64, &collected);
     put_starts(out, 104, &starts);
@@ -611,7 +642,7 @@ fn run_sweep(operation: u8, n: [u64; 8], a: &[u8], out: &mut [u8]) -> [u64; 8] {
         11 => return after(Sweep::start(low8(n[0]), low16(n[1]))),
         12 => return after(record(n).take(a, out)),
         13 => return after(lent_step(record(n), a, out)),
-        _ => return run_bench(low8(n[0]), low16(n[1]), a, out),
+        _ => return run_bench(laid(n[2]), low8(n[0]), low16(n[1]), a, out),
     }
 }
 
@@ -623,7 +654,10 @@ fn run<'a>(operation: u8, n: [u64; 8], a: &'a [u8], b: &'a [u8], out: &mut [u8])
     if operation < 10 {
         return run_response(operation, n, a, b, out);
     }
-    run_sweep(operation, n, a, out)
+    if operation < 15 {
+        return run_sweep(operation, n, a, out);
+    }
+    run_convert(laid(n[0]), a, out)
 }
 
 // ---- a case
@@ -731,7 +765,7 @@ fn case(line: &[u8], from: usize) -> bool {
     if right.count == 0 {
         return unreadable();
     }
-    if operation > 14 {
+    if operation > 15 {
         return unreadable();
     }
     let given = n.list;

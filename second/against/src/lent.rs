@@ -104,6 +104,7 @@ impl Memory {
 }
 
 /// Bytes that a call may only read: one copy between guards for the proved side, one for the plain side.
+#[derive(Clone)]
 pub struct Given {
     lent: Lent<u8>,
     plain: Lent<u8>,

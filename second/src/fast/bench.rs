@@ -10,6 +10,44 @@ use crate::numbers::*;
 use crate::refusal::Refusal;
 use crate::wire::Feature;
 
+/// What is still to come from a sheet.
+pub(super) trait Left {
+    /// The RT that is asked for.
+    fn rt(&self) -> u8;
+    /// The length of the response with all of it.
+    fn full_length(&self) -> usize;
+    /// Sends the first bytes of that response.
+    fn send(&self, full: usize, out: &mut [u8]);
+    /// Passes feature 0 and the entries below the next start.
+    fn pass(&mut self, next: u16);
+}
+
+/// What is still to come from a sheet in rows.
+struct Rows<'a> {
+    parts: Parts<'a>,
+    wanted: Wanted<'a>,
+}
+
+impl Left for Rows<'_> {
+    fn rt(&self) -> u8 {
+        self.wanted.rt
+    }
+
+    fn full_length(&self) -> usize {
+        self.wanted.full_length(self.parts)
+    }
+
+    fn send(&self, full: usize, out: &mut [u8]) {
+        self.wanted.send(self.parts, full, out);
+    }
+
+    fn pass(&mut self, next: u16) {
+        let passed = self.wanted.contents.chunks_exact(ENTRY_BYTES).take_while(|entry| first16(entry) < next);
+        self.wanted.contents = &self.wanted.contents[ENTRY_BYTES * passed.count()..];
+        self.wanted.with_list = false;
+    }
+}
+
 /// Sweeps the sheet; on a refusal all three buffers are set to zero.
 pub fn bench(
     sheet: &[u8],
@@ -19,8 +57,23 @@ pub fn bench(
     collected: &mut [u8],
     starts: &mut [u16],
 ) -> Result<Outcome, Refusal> {
-    let swept = begin(sheet, rt, allocation, response.len())
-        .and_then(|parts| Ok(Sweep::new(parts, rt, allocation, response).run(response, collected, starts)?));
+    let left = accept(sheet).map(|parts| Rows { parts, wanted: Wanted::new(parts, rt, 0) });
+    sweep(left, rt, allocation, response, collected, starts)
+}
+
+/// Sweeps what a sheet gives, if it is accepted; on a refusal all three buffers are set to zero.
+pub(super) fn sweep<L: Left>(
+    left: Result<L, Refusal>,
+    rt: u8,
+    allocation: u16,
+    response: &mut [u8],
+    collected: &mut [u8],
+    starts: &mut [u16],
+) -> Result<Outcome, Refusal> {
+    let swept = left.and_then(|left| {
+        begin(rt, allocation, response.len())?;
+        Ok(Sweep::new(left, allocation, response).run(response, collected, starts)?)
+    });
     if swept.is_err() {
         response.fill(0);
         collected.fill(0);
@@ -29,28 +82,26 @@ pub fn bench(
     swept
 }
 
-/// Checks what a sweep is given.
-fn begin(sheet: &[u8], rt: u8, allocation: u16, room: usize) -> Result<Parts<'_>, Refusal> {
-    let parts = accept(sheet)?;
+/// Checks what a sweep is given beside the sheet.
+fn begin(rt: u8, allocation: u16, room: usize) -> Result<(), u8> {
     if rt > 1 {
-        return Err(SWEEP_RT.into());
+        return Err(SWEEP_RT);
     }
     if usize::from(allocation) < HEADER_BYTES {
-        return Err(SWEEP_ALLOCATION.into());
+        return Err(SWEEP_ALLOCATION);
     }
     if room < most_bytes(allocation) {
-        return Err(BUFFER_SHORT.into());
+        return Err(BUFFER_SHORT);
     }
-    Ok(parts)
+    Ok(())
 }
 
 /// Where a sweep stands.
-struct Sweep<'a> {
-    parts: Parts<'a>,
+struct Sweep<L> {
     /// The most bytes of a response.
     most: usize,
     /// What is still to come, and the length of the response with all of it.
-    wanted: Wanted<'a>,
+    left: L,
     full: usize,
     next: u16,
     commands: usize,
@@ -59,15 +110,13 @@ struct Sweep<'a> {
     dirty: usize,
 }
 
-impl<'a> Sweep<'a> {
+impl<L: Left> Sweep<L> {
     /// A sweep at its start.
-    fn new(parts: Parts<'a>, rt: u8, allocation: u16, response: &[u8]) -> Sweep<'a> {
-        let wanted = Wanted::new(parts, rt, 0);
+    fn new(left: L, allocation: u16, response: &[u8]) -> Sweep<L> {
         Sweep {
-            parts,
             most: most_bytes(allocation),
-            wanted,
-            full: wanted.full_length(parts),
+            full: left.full_length(),
+            left,
             next: 0,
             commands: 0,
             collected: 0,
@@ -90,7 +139,7 @@ impl<'a> Sweep<'a> {
     /// The box's half of a round: gives the bytes sent.
     fn send<'b>(&mut self, response: &'b mut [u8]) -> &'b [u8] {
         let count = self.full.min(self.most);
-        self.wanted.send(self.parts, self.full, &mut response[..count]);
+        self.left.send(self.full, &mut response[..count]);
         if self.dirty > count {
             response[count..self.dirty].fill(0);
         }
@@ -101,12 +150,13 @@ impl<'a> Sweep<'a> {
     /// The driver's half of a round: gives whether it was the last.
     fn take(&mut self, sent: &[u8], collected: &mut [u8]) -> Result<bool, u8> {
         let mut last = None;
-        let reading = read_each(self.wanted.rt, Feature(self.next), sent, self.most, |header, _| {
+        let reading = read_each(self.left.rt(), Feature(self.next), sent, self.most, |header, _| {
             last = Some(header.feature());
         })?;
         if !reading.complete {
             let last = last.ok_or(NOTHING_WHOLE)?;
-            self.go_on_from(last.checked_add(1).ok_or(CUT_AFTER_LAST)?);
+            self.next = last.checked_add(1).ok_or(CUT_AFTER_LAST)?;
+            self.left.pass(self.next);
         }
         let descriptors = &sent[HEADER_BYTES..reading.end];
         let room = collected.get_mut(self.collected..self.collected + descriptors.len());
@@ -114,13 +164,5 @@ impl<'a> Sweep<'a> {
         self.collected += descriptors.len();
         self.full -= descriptors.len();
         Ok(reading.complete)
-    }
-
-    /// Passes the entries below the next start.
-    fn go_on_from(&mut self, next: u16) {
-        let passed = self.wanted.contents.chunks_exact(ENTRY_BYTES).take_while(|entry| first16(entry) < next);
-        self.wanted.contents = &self.wanted.contents[ENTRY_BYTES * passed.count()..];
-        self.wanted.with_list = false;
-        self.next = next;
     }
 }

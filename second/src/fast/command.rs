@@ -82,18 +82,7 @@ impl<'a> Wanted<'a> {
 
     /// Sends the first bytes of the response, as many as there is room for.
     pub fn send(self, parts: Parts, full: usize, out: &mut [u8]) {
-        let mut head = [0; HEADER_BYTES + DESCRIPTOR_BYTES];
-        head[..4].copy_from_slice(&(full as u32 - 4).to_be_bytes());
-        head[6..8].copy_from_slice(&parts.current_profile().to_be_bytes());
-        head[10] = PERSISTENT | CURRENT;
-        head[11] = parts.profiles.len() as u8;
-        let mut at;
-        if self.with_list {
-            at = put(out, 0, &head);
-            at = put(out, at, parts.profiles);
-        } else {
-            at = put(out, 0, &head[..HEADER_BYTES]);
-        }
+        let at = send_front(parts, self.with_list, full, out);
         self.send_entries(parts, &mut out[at..]);
     }
 
@@ -108,17 +97,44 @@ impl<'a> Wanted<'a> {
                 Some(body) => body,
                 None => return,
             };
-            if DESCRIPTOR_BYTES + body.len() > out.len() {
-                let at = put(out, 0, header.0);
-                put(out, at, body);
-                return;
-            }
-            let (room, behind) = out.split_at_mut(DESCRIPTOR_BYTES + body.len());
-            room[..DESCRIPTOR_BYTES].copy_from_slice(header.0);
-            copy_body(&mut room[DESCRIPTOR_BYTES..], body);
-            out = behind;
+            out = match send_descriptor(out, header.0, body) {
+                Some(behind) => behind,
+                None => return,
+            };
         }
     }
+}
+
+/// Sends what stands before the entries' descriptors; gives how many bytes.
+pub(super) fn send_front(parts: Parts, with_list: bool, full: usize, out: &mut [u8]) -> usize {
+    let mut head = [0; HEADER_BYTES + DESCRIPTOR_BYTES];
+    head[..4].copy_from_slice(&(full as u32 - 4).to_be_bytes());
+    head[6..8].copy_from_slice(&parts.current_profile().to_be_bytes());
+    head[10] = PERSISTENT | CURRENT;
+    head[11] = parts.profiles.len() as u8;
+    if !with_list {
+        return put(out, 0, &head[..HEADER_BYTES]);
+    }
+    let at = put(out, 0, &head);
+    put(out, at, parts.profiles)
+}
+
+/// Sends a descriptor; gives the room behind it, or none where it is cut.
+#[inline]
+pub(super) fn send_descriptor<'b>(
+    out: &'b mut [u8],
+    header: &[u8; DESCRIPTOR_BYTES],
+    body: &[u8],
+) -> Option<&'b mut [u8]> {
+    if DESCRIPTOR_BYTES + body.len() > out.len() {
+        let at = put(out, 0, header);
+        put(out, at, body);
+        return None;
+    }
+    let (room, behind) = out.split_at_mut(DESCRIPTOR_BYTES + body.len());
+    room[..DESCRIPTOR_BYTES].copy_from_slice(header);
+    copy_body(&mut room[DESCRIPTOR_BYTES..], body);
+    Some(behind)
 }
 
 /// The length of an entry's descriptor; 0 where it isn't current.

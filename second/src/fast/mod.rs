@@ -6,6 +6,7 @@
 
 pub mod bench;
 pub mod checks;
+pub mod columns;
 pub mod command;
 pub mod import;
 pub mod reading;

@@ -33,7 +33,7 @@ impl<'a> Parts<'a> {
     }
 
     /// Where the bodies start.
-    fn bodies_at(self) -> usize {
+    pub fn bodies_at(self) -> usize {
         SHEET_HEADER_BYTES + self.contents.len() + self.profiles.len()
     }
 

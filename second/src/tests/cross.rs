@@ -7,6 +7,7 @@ use crate::find::find;
 use crate::lister::list;
 use crate::numbers::*;
 use crate::reading::read;
+use crate::sheet::Layout::Rows;
 use crate::sheet::{build, check, ListedProfile, Meaning, Sheet};
 use crate::sweep::Record;
 use crate::wire::{Descriptor, Feature, Profile};
@@ -69,7 +70,7 @@ fn responses() {
     let mut numbers = Numbers(0x1234_5678_9ABC_DEF1);
     for _ in 0..300 {
         let sheet = make_sheet(&mut numbers, 24);
-        let meaning = Sheet::accept(&sheet).unwrap().meaning();
+        let meaning = Sheet::accept(Rows, &sheet).unwrap().meaning();
         assert_eq!(build(&meaning.profiles, &meaning.descriptors).unwrap(), sheet);
         for rt in 0..3 {
             for _ in 0..10 {
@@ -115,13 +116,13 @@ fn bench_sweeps() {
     let mut accepted = 0;
     for _ in 0..400 {
         let sheet = make_sheet(&mut numbers, 40);
-        let meaning = Sheet::accept(&sheet).unwrap().meaning();
+        let meaning = Sheet::accept(Rows, &sheet).unwrap().meaning();
         let rt = numbers.below(2) as u8;
         let allocation = 8 + numbers.below(400) as u16;
         let mut response = vec![FILL; usize::from(allocation) + 5];
         let mut collected = vec![FILL; 65_536];
         let mut starts = vec![0xA5A5; 99];
-        let outcome = bench(&sheet, rt, allocation, &mut response, &mut collected, &mut starts);
+        let outcome = bench(Rows, &sheet, rt, allocation, &mut response, &mut collected, &mut starts);
         let (number, slow_starts, slow_collected, slow_last) = slow_bench(&meaning, rt, allocation);
         let (commands, bytes) = (slow_starts.len(), slow_collected.len());
         if number != ACCEPTED {
@@ -150,11 +151,11 @@ fn a_sweep_of_every_feature_number() {
     let mut collected = vec![0; 4 * 65_536];
     let mut starts = vec![0; 65_536];
     for rt in 0..2 {
-        let outcome = bench(&sheet, rt, 12, &mut response, &mut collected, &mut starts);
+        let outcome = bench(Rows, &sheet, rt, 12, &mut response, &mut collected, &mut starts);
         assert_eq!(outcome, Ok(Outcome { commands: 65_536, collected: 262_144 }));
         assert!(starts.iter().enumerate().all(|(index, &start)| index == usize::from(start)));
         assert_eq!(
-            bench(&sheet, rt, 12, &mut response, &mut collected, &mut starts[..65_535]),
+            bench(Rows, &sheet, rt, 12, &mut response, &mut collected, &mut starts[..65_535]),
             Err(STARTS_FULL.into())
         );
     }
@@ -175,7 +176,7 @@ fn damaged_inputs_do_no_harm() {
             let length = bytes.len() as u64 + 1 - numbers.below(2) * numbers.below(bytes.len() as u64);
             bytes.resize(length as usize, 0);
         }
-        let (number, place) = told(check(&sheet));
+        let (number, place) = told(check(Rows, &sheet));
         assert!(number <= SHEET_END || number == PERSISTENT_UNCURRENT);
         let of_profile = number == PROFILE_BAD && (1..=63).contains(&place);
         let of_entry = ![0, 1, 2, 3, 8].contains(&number) && (1..=65_535).contains(&place);

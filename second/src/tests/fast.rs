@@ -4,6 +4,8 @@ use std::collections::BTreeSet;
 
 use super::cross::make_sheet;
 use super::{ask, command, response, told, Numbers, E, E_FULL, FILL};
+use crate::convert::rearranged;
+use crate::sheet::Layout::{Columns, Rows};
 use crate::sheet::{build, ListedProfile, Sheet};
 use crate::wire::{Descriptor, Feature, Profile};
 use crate::{bench, checks, command as plain_command, fast, import, reading, rom, sheet};
@@ -27,21 +29,36 @@ impl Seen {
 
 /// Both checks of a sheet.
 fn same_check(seen: &mut Seen, bytes: &[u8]) {
-    let answer = sheet::check(bytes);
+    let answer = sheet::check(Rows, bytes);
     seen.same(told(answer).0, answer, fast::sheet::check(bytes));
+    // Both layouts of one sheet get the same.
+    let columns = rearranged(Columns, Rows, bytes);
+    assert_eq!(sheet::check(Columns, &columns), answer);
+    assert_eq!(fast::columns::check(&columns), answer);
 }
 
 /// Both answers to a command, with the sheet's check and, where it is accepted, without.
 fn same_answer(seen: &mut Seen, bytes: &[u8], command: &[u8], room: usize) {
     let (mut plain, mut fast) = (vec![FILL; room], vec![FILL; room]);
-    let answer = plain_command::respond(bytes, command, &mut plain);
+    let answer = plain_command::respond(Rows, bytes, command, &mut plain);
     seen.same(told(answer).0, answer, fast::command::respond(bytes, command, &mut fast));
     assert!(plain == fast);
-    if let Ok(sheet) = Sheet::accept(bytes) {
+    if let Ok(sheet) = Sheet::accept(Rows, bytes) {
         let answer = plain_command::respond_checked(sheet, command, &mut plain);
         let mut fast = vec![FILL; room];
         assert_eq!(answer, fast::command::respond_checked(bytes, command, &mut fast));
         assert!(plain == fast);
+    }
+    let columns = rearranged(Columns, Rows, bytes);
+    let (mut other, mut fast) = (vec![FILL; room], vec![FILL; room]);
+    assert_eq!(plain_command::respond(Columns, &columns, command, &mut other), answer);
+    assert_eq!(fast::columns::respond(&columns, command, &mut fast), answer);
+    assert!(plain == other && plain == fast);
+    if let Ok(sheet) = Sheet::accept(Columns, &columns) {
+        let (mut other, mut fast) = (vec![FILL; room], vec![FILL; room]);
+        let answer = plain_command::respond_checked(sheet, command, &mut other);
+        assert_eq!(answer, fast::columns::respond_checked(&columns, command, &mut fast));
+        assert!(plain == other && plain == fast);
     }
 }
 
@@ -53,10 +70,18 @@ fn same_sweep(seen: &mut Seen, bytes: &[u8], rt: u8, allocation: u16, rooms: Roo
     let [response, collected, starts] = rooms;
     let mut plain = (vec![FILL; response], vec![FILL; collected], vec![0xA5A5; starts]);
     let mut fast = plain.clone();
-    let outcome = bench::bench(bytes, rt, allocation, &mut plain.0, &mut plain.1, &mut plain.2);
+    let outcome = bench::bench(Rows, bytes, rt, allocation, &mut plain.0, &mut plain.1, &mut plain.2);
     let other = fast::bench::bench(bytes, rt, allocation, &mut fast.0, &mut fast.1, &mut fast.2);
     seen.same(told(outcome).0, outcome, other);
     assert!(plain == fast);
+    let columns = rearranged(Columns, Rows, bytes);
+    let mut lent = (vec![FILL; response], vec![FILL; collected], vec![0xA5A5; starts]);
+    let mut fast = lent.clone();
+    let other = bench::bench(Columns, &columns, rt, allocation, &mut lent.0, &mut lent.1, &mut lent.2);
+    assert_eq!(other, outcome);
+    let other = fast::columns::bench(&columns, rt, allocation, &mut fast.0, &mut fast.1, &mut fast.2);
+    assert_eq!(other, outcome);
+    assert!(plain == lent && plain == fast);
 }
 
 /// Both readings.

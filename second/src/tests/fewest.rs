@@ -4,6 +4,7 @@ use super::{told, E};
 use crate::bench::bench;
 use crate::fewest::fewest;
 use crate::numbers::NOTHING_WHOLE;
+use crate::sheet::Layout::Rows;
 use crate::sheet::{build, ListedProfile};
 use crate::wire::{Descriptor, Feature, Profile};
 
@@ -11,7 +12,7 @@ use crate::wire::{Descriptor, Feature, Profile};
 fn swept(sheet: &[u8], rt: u8, allocation: u16) -> (u8, usize, Vec<u16>) {
     let mut response = vec![0; 65_534];
     let (mut collected, mut starts) = (vec![0; 4_096], vec![0; 64]);
-    let outcome = bench(sheet, rt, allocation, &mut response, &mut collected, &mut starts);
+    let outcome = bench(Rows, sheet, rt, allocation, &mut response, &mut collected, &mut starts);
     let commands = outcome.map_or(0, |done| done.commands);
     starts.truncate(commands);
     (told(outcome).0, commands, starts)

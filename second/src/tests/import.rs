@@ -4,6 +4,7 @@ use super::cross::make_sheet;
 use super::{ask, response, Numbers, E, E_FULL, FILL};
 use crate::import::import;
 use crate::numbers::*;
+use crate::sheet::Layout::Rows;
 use crate::sheet::{build, check, ListedProfile};
 use crate::wire::{Descriptor, Feature, Profile};
 
@@ -86,10 +87,10 @@ fn what_no_sheet_sends() {
     assert_eq!(with(&[(14, 0)]), (CAPTURE_BAD, 0));
     let mut second = E_FULL;
     (second[7], second[14], second[18]) = (0x10, 0, 1);
-    assert_eq!(check(&imported(&second)), Ok(()));
+    assert_eq!(check(Rows, &imported(&second)), Ok(()));
     let mut none = E_FULL;
     (none[7], none[14]) = (0, 0);
-    assert_eq!(check(&imported(&none)), Ok(()));
+    assert_eq!(check(Rows, &imported(&none)), Ok(()));
     // CurrentP is one bit of its byte; the others are the sheet's trouble.
     assert_eq!(with(&[(14, 2)]), (CAPTURE_BAD, 0));
     assert_eq!(with(&[(14, 2), (7, 0)]), (PROFILE_BAD, 1));
@@ -225,7 +226,7 @@ fn damaged_captures_are_refused_or_come_back() {
             }
             Ok(length) => {
                 accepted += 1;
-                assert_eq!(check(&sheet[..length]), Ok(()));
+                assert_eq!(check(Rows, &sheet[..length]), Ok(()));
                 assert_eq!(ask(&sheet[..length], 0, 0, 2_000), (ACCEPTED, capture));
             }
         }

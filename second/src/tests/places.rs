@@ -5,6 +5,7 @@ use crate::bench::bench;
 use crate::command::respond;
 use crate::import::import;
 use crate::numbers::*;
+use crate::sheet::Layout::Rows;
 use crate::sheet::{build, check, ListedProfile};
 use crate::wire::{be16, Descriptor, Feature, Profile};
 
@@ -24,17 +25,17 @@ fn sheet_of(features: u16, profiles: u16) -> Vec<u8> {
 
 /// What the check gives, which the box and the bench sweep give too, with nothing else.
 fn given(sheet: &[u8]) -> (u8, usize) {
-    let checked = told(check(sheet));
+    let checked = told(check(Rows, sheet));
     let mut out = [FILL; 64];
     // The sheet comes before a command and a sweep that are wrong as well.
     for asked in [command(0, 0, 64).to_vec(), vec![]] {
-        assert_eq!(told(respond(sheet, &asked, &mut out)), checked);
+        assert_eq!(told(respond(Rows, sheet, &asked, &mut out)), checked);
         assert_eq!(out, [FILL; 64]);
     }
     for rt in [0, 2] {
         let (mut collected, mut starts) = ([FILL; 9], [0xA5A5; 9]);
         let mut response = [FILL; 64];
-        assert_eq!(told(bench(sheet, rt, 64, &mut response, &mut collected, &mut starts)), checked);
+        assert_eq!(told(bench(Rows, sheet, rt, 64, &mut response, &mut collected, &mut starts)), checked);
         assert_eq!((response, collected, starts), ([0; 64], [0; 9], [0; 9]));
     }
     checked
@@ -67,7 +68,7 @@ fn faults(sheet: &[u8]) -> Vec<Fault> {
 fn each_number_at_each_place() {
     for (features, profiles) in [(5, 3), (1, 1), (0, 63), (63, 0)] {
         let sheet = sheet_of(features, profiles);
-        assert_eq!(check(&sheet), Ok(()));
+        assert_eq!(check(Rows, &sheet), Ok(()));
         for (wanted, at, value) in faults(&sheet) {
             let mut faulty = sheet.clone();
             faulty[at] = value;
@@ -101,7 +102,7 @@ fn of_two_equal_profiles_the_later_one() {
         for earlier in 0..later {
             let mut twice = sheet.clone();
             twice.copy_within(list + 4 * earlier..list + 4 * earlier + 2, list + 4 * later);
-            assert_eq!(told(check(&twice)), (PROFILE_BAD, later + 1));
+            assert_eq!(told(check(Rows, &twice)), (PROFILE_BAD, later + 1));
         }
     }
     // With all of them equal the second one is the first that was listed before.

@@ -7,13 +7,14 @@ use crate::command::respond;
 use crate::find::find;
 use crate::numbers::*;
 use crate::reading::{read, Reading};
+use crate::sheet::Layout::Rows;
 use crate::sweep::Record;
 use crate::wire::{Feature, Profile};
 
 /// The number for a command that has no place, and that nothing else happened.
 fn refused_command(sheet: &[u8], command: &[u8], room: usize) -> u8 {
     let mut out = vec![FILL; room];
-    let (number, place) = told(respond(sheet, command, &mut out));
+    let (number, place) = told(respond(Rows, sheet, command, &mut out));
     assert_ne!(number, ACCEPTED);
     assert_eq!(place, 0);
     assert!(out.iter().all(|&byte| byte == FILL));
@@ -43,7 +44,7 @@ fn reserved_bits_of_a_command_are_ignored() {
     noisy[4..7].fill(0xFF);
     noisy[9] = 0xFF;
     let mut out = [FILL; 32];
-    assert_eq!(respond(&E, &noisy, &mut out), Ok(16));
+    assert_eq!(respond(Rows, &E, &noisy, &mut out), Ok(16));
     assert_eq!(out[8..16], E_FULL[20..28]);
     assert_eq!(out[16..], [FILL; 16]);
 }
@@ -204,7 +205,8 @@ fn refused_bench(sheet: &[u8], rt: u8, allocation: u16, rooms: (usize, usize, us
     let mut response = vec![FILL; rooms.0];
     let mut collected = vec![FILL; rooms.1];
     let mut starts = vec![0xA5A5; rooms.2];
-    let (number, place) = told(bench(sheet, rt, allocation, &mut response, &mut collected, &mut starts));
+    let (number, place) =
+        told(bench(Rows, sheet, rt, allocation, &mut response, &mut collected, &mut starts));
     assert_ne!(number, ACCEPTED);
     assert_eq!(place, 0);
     assert!(response.iter().chain(&collected).all(|&byte| byte == 0));
@@ -231,13 +233,13 @@ fn a_bench_sweep_leaves_the_last_response() {
     let mut response = [FILL; 30];
     let mut collected = [FILL; 36];
     let mut starts = [0; 4];
-    let outcome = bench(&E, 0, 20, &mut response, &mut collected, &mut starts);
+    let outcome = bench(Rows, &E, 0, 20, &mut response, &mut collected, &mut starts);
     assert_eq!(outcome, Ok(Outcome { commands: 4, collected: 36 }));
     assert_eq!(response[..12], [0, 0, 0, 8, 0, 0, 0, 0x12, 1, 5, 3, 0]);
     assert_eq!(response[12..], [0; 18]);
     // At A 65,535 a buffer of 65,534 is enough.
     let mut response = vec![FILL; 65_534];
-    let outcome = bench(&E, 1, 65_535, &mut response, &mut collected, &mut starts);
+    let outcome = bench(Rows, &E, 1, 65_535, &mut response, &mut collected, &mut starts);
     assert_eq!(outcome, Ok(Outcome { commands: 1, collected: 36 }));
     assert_eq!(response[..44], E_FULL);
     assert!(response[44..].iter().all(|&byte| byte == 0));

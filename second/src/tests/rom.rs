@@ -6,6 +6,7 @@ use crate::command::{most_bytes, respond};
 use crate::import::import;
 use crate::numbers::*;
 use crate::rom;
+use crate::sheet::Layout::Rows;
 use crate::sheet::{build, ListedProfile};
 use crate::wire::{be32, Descriptor, Feature, Profile};
 
@@ -31,7 +32,7 @@ fn same(image: &[u8], sheet: &[u8], rt: u8, sfn: u16, allocation: u16) {
     if count > 0 {
         let mut short = vec![FILL; count - 1];
         assert_eq!(rom::respond_checked(image, &command, &mut short), Err(BUFFER_SHORT));
-        assert_eq!(respond(sheet, &command, &mut vec![FILL; count - 1]), Err(BUFFER_SHORT.into()));
+        assert_eq!(respond(Rows, sheet, &command, &mut vec![FILL; count - 1]), Err(BUFFER_SHORT.into()));
         assert!(short.iter().all(|&byte| byte == FILL));
     }
 }

@@ -5,6 +5,7 @@ use crate::command::respond;
 use crate::numbers::*;
 use crate::rom;
 use crate::sense::{make, read, Kind};
+use crate::sheet::Layout::Rows;
 
 const NOTHING: [u8; 18] = [0x70, 0, 0, 0, 0, 0, 0, 0x0A, 0, 0, 0, 0, 0, 0, 0, 0, 0, 0];
 const OPERATION: [u8; 18] = [0x70, 0, 5, 0, 0, 0, 0, 0x0A, 0, 0, 0, 0, 0x20, 0, 0, 0, 0, 0];
@@ -56,11 +57,15 @@ fn no_other_number_is_taken() {
 
 #[test]
 fn a_refused_command_has_sense() {
-    let number =
-        |sheet: &[u8], command: &[u8], room: usize| match respond(sheet, command, &mut vec![FILL; room]) {
-            Ok(_) => ACCEPTED,
-            Err(refusal) => refusal.number,
-        };
+    let number = |sheet: &[u8], command: &[u8], room: usize| match respond(
+        Rows,
+        sheet,
+        command,
+        &mut vec![FILL; room],
+    ) {
+        Ok(_) => ACCEPTED,
+        Err(refusal) => refusal.number,
+    };
     let good = command(0, 0, 64);
     let mut other = good;
     other[0] = 0x12;

@@ -2,12 +2,13 @@
 
 use super::{told, E};
 use crate::numbers::*;
+use crate::sheet::Layout::Rows;
 use crate::sheet::{build, check, ListedProfile, Sheet};
 use crate::wire::{Descriptor, Feature, Profile};
 
 /// The number and the place that the check gives.
 fn given(sheet: &[u8]) -> (u8, usize) {
-    told(check(sheet))
+    told(check(Rows, sheet))
 }
 
 /// The number and the place for a copy of E with one byte changed.
@@ -79,13 +80,13 @@ fn bad_end() {
     assert_eq!(given(&longer), (SHEET_END, 0));
     assert_eq!(given(&E[..51]), (SHEET_END, 0));
     assert_eq!(with(31, 0x04), (SHEET_END, 0));
-    assert_eq!(check(&[0, 0, 0, 0]), Ok(()));
+    assert_eq!(check(Rows, &[0, 0, 0, 0]), Ok(()));
     assert_eq!(given(&[0, 0, 0, 0, 0]), (SHEET_END, 0));
 }
 
 #[test]
 fn meaning_of_e() {
-    let meaning = Sheet::accept(&E).unwrap().meaning();
+    let meaning = Sheet::accept(Rows, &E).unwrap().meaning();
     let profiles = [
         ListedProfile { number: Profile(0x0012), current: true },
         ListedProfile { number: Profile(0x0010), current: false },
@@ -110,7 +111,7 @@ fn the_longest_sheet() {
         (1..=63).map(|number| ListedProfile { number: Profile(number), current: false }).collect();
     let sheet = build(&profiles, &descriptors).unwrap();
     assert_eq!(sheet.len(), 17_039_356);
-    assert_eq!(check(&sheet), Ok(()));
+    assert_eq!(check(Rows, &sheet), Ok(()));
     let (number, bytes) = super::ask(&sheet, 0, 0, 65_535);
     assert_eq!((number, bytes.len()), (ACCEPTED, 65_534));
     assert_eq!(crate::wire::be32(&bytes, 0), 4 + 256 + 65_535 * 256);
@@ -123,7 +124,7 @@ fn the_first_current_profile_counts() {
         let profiles: Vec<ListedProfile> =
             (0..3).map(|i| ListedProfile { number: Profile(numbers[i]), current: current[i] }).collect();
         let sheet = build(&profiles, &[]).unwrap();
-        Sheet::accept(&sheet).unwrap().current_profile()
+        Sheet::accept(Rows, &sheet).unwrap().current_profile()
     };
     assert_eq!(list([true, true, true]), Profile(0x0008));
     assert_eq!(list([false, false, true]), Profile(0x0010));
@@ -146,7 +147,7 @@ fn a_sheet_that_was_not_checked_does_no_harm() {
             let mut sheet = E[..length].to_vec();
             sheet[at] = 0xFF;
             for rt in 0..3 {
-                let sheet = Sheet::assume_checked(&sheet);
+                let sheet = Sheet::assume_checked(Rows, &sheet);
                 let sent = crate::command::respond_checked(sheet, &super::command(rt, 0, 512), &mut out);
                 assert!(sent.unwrap_or(0) <= 512);
             }

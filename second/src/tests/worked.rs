@@ -8,12 +8,13 @@ use crate::lister::list;
 use crate::numbers::*;
 use crate::reading::{read, Reading};
 use crate::refusal::Refusal;
+use crate::sheet::Layout::Rows;
 use crate::sheet::{build, check};
 use crate::wire::{be32, Descriptor, Feature, Profile};
 
 #[test]
 fn the_sheet_is_accepted() {
-    assert_eq!(check(&E), Ok(()));
+    assert_eq!(check(Rows, &E), Ok(()));
 }
 
 #[test]
@@ -26,7 +27,7 @@ fn small_allocations() {
     assert_eq!(ask(&E, 0, 0, 0), (ACCEPTED, vec![]));
     assert_eq!(ask(&E, 0, 0, 4), (ACCEPTED, vec![0x00, 0x00, 0x00, 0x28]));
     // A = 0 needs no buffer at all.
-    assert_eq!(respond(&E, &command(0, 0, 0), &mut []), Ok(0));
+    assert_eq!(respond(Rows, &E, &command(0, 0, 0), &mut []), Ok(0));
 }
 
 #[test]
@@ -65,7 +66,7 @@ fn sweep_e(allocation: u16) -> (Result<Outcome, Refusal>, Vec<u16>, Vec<u8>) {
     let mut response = [0xA5; 64];
     let mut collected = [0xA5; 64];
     let mut starts = [0xA5A5; 8];
-    let outcome = bench(&E, 0, allocation, &mut response, &mut collected, &mut starts);
+    let outcome = bench(Rows, &E, 0, allocation, &mut response, &mut collected, &mut starts);
     (outcome, starts.to_vec(), collected.to_vec())
 }
 

@@ -4,6 +4,7 @@ use Prim.Native.Nat.{_≤_}
 use native.Mathlib.Omega.{arith}
 use lib.ListN.{length}
 use lib.Seq.{length-take-le}
+use Rattle.layout.specs.Layout.{stored}
 use Rattle.answerer.proofs.Asked.{asked, asked-count}
 use borrow.Author.Needs.{needs}
 use Rattle.answerer.proofs.answer_of.Statement.{statement}
@@ -13,8 +14,8 @@ returns : tie.Need-returns
 returns c =
     let a = c .before .before .before .before .args in
     let i = c .respond in
-    let h : i .result .count ≤ length (i .last .1 .1 .0) = rw (← i .ensures) at (asked-count (a .sheet .now) (a .command .now) (a .response .now) (omega arith)) in
-    ((h, sym (length-take-le (i .result .count) (i .last .1 .1 .0) h)), i .ensures ∙ asked (a .sheet .now) (a .command .now) (a .response .now) (omega arith))
+    let h : i .result .count ≤ length (i .last .1 .1 .1 .0) = rw (← i .ensures) at (asked-count (stored (a .lay) (a .sheet .now)) (a .command .now) (a .response .now) (omega arith)) in
+    ((h, sym (length-take-le (i .result .count) (i .last .1 .1 .1 .0) h)), i .ensures ∙ asked (stored (a .lay) (a .sheet .now)) (a .command .now) (a .response .now) (omega arith))
 
 pub answer-of-spec : {M : Type 1} → statement M
 answer-of-spec = tie.close (tie.spec (λ c κs. search needs) returns)

@@ -6,6 +6,7 @@ use Prim.Native.Nat.{_-_}
 use native.Mathlib.Omega.{arith}
 use borrow.Author.Tests.{not-true}
 use Rattle.base.specs.Lists.{Bytes}
+use Rattle.layout.specs.Layout.{stored}
 use Rattle.sheet.specs.Meaning.{meaning}
 use Rattle.sheet.proofs.Meaning.{meaning-fine}
 use Rattle.responder.specs.inner.Index.{takenFrom}
@@ -17,19 +18,19 @@ use Rattle.bench.proofs.all_rounds.Statement.{statement}
 use Rattle.bench.proofs.all_rounds.Tie as tie
 
 abbrev Inv-loop : tie.InvT-loop
-Inv-loop s response₀ collected₀ starts₀ most sweep₀ n from₀ left₀ dirty₀ response collected starts sweep from left dirty =
-    Standing (meaning s) (state sweep₀ (buffers response₀ collected₀ starts₀)) (state sweep (buffers response collected starts)) × Carried (meaning s) (state sweep (buffers response collected starts)) left dirty
-    × (sweep .ended ≡ false → from ≡ takenFrom s (sweep .next .0))
+Inv-loop lay s response₀ collected₀ starts₀ most sweep₀ n from₀ left₀ dirty₀ response collected starts sweep from left dirty =
+    Standing (meaning (stored lay s)) (state sweep₀ (buffers response₀ collected₀ starts₀)) (state sweep (buffers response collected starts)) × Carried (meaning (stored lay s)) (state sweep (buffers response collected starts)) left dirty
+    × (sweep .ended ≡ false → from ≡ takenFrom (stored lay s) (sweep .next .0))
 
 abbrev μ-loop : tie.MeasureT-loop
-μ-loop s response₀ collected₀ starts₀ most sweep₀ n from₀ left₀ dirty₀ response collected starts sweep from left dirty = 65537 - sweep .commands
+μ-loop lay s response₀ collected₀ starts₀ most sweep₀ n from₀ left₀ dirty₀ response collected starts sweep from left dirty = 65537 - sweep .commands
 
 loop-holds : tie.Need-loop-holds Inv-loop μ-loop
 unfolding takenFrom
 loop-holds c =
     let o = c .before .before .before .before .before .before .before .before in
     let bytes : Bytes (o .args .s .now) = (λ i. omega (arith, c .before .before .before .before .before .before .before .shared-slice-known .given i)) in
-    (standing-start (o .pre .2), record { size = λ _. c .size .ensures ∙ sym (taken-wanted (o .args .s .now) bytes (o .pre .0) (o .args .w)); clean = clean-all (o .args .response .now) }, λ _. rw (← c .before .before .feature-count .ensures) (c .before .first-from .ensures))
+    (standing-start (o .pre .2), record { size = λ _. c .size .ensures ∙ sym (taken-wanted (stored (o .args .lay) (o .args .s .now)) bytes (o .pre .0) (o .args .w)); clean = clean-all (o .args .response .now) }, λ _. rw (← c .before .before .feature-count .ensures) (c .before .first-from .ensures))
 
 one-round-requires : tie.Need-one-round-requires Inv-loop μ-loop
 one-round-requires c κs =
@@ -55,14 +56,14 @@ sub-left c =
     let k = c .before .before .before .before .before .before .before .before .before .before .before .before in
     let o = c .before .before .before .before .before .before .before .before .before .before .before .before .before .before .before .before .before .before .before .before .before .before .before .before .before .before .before in
     let bytes : Bytes (o .args .s .now) = (λ i. omega (arith, c .before .before .before .before .before .before .before .before .before .before .before .before .before .before .before .before .before .before .before .before .before .before .before .before .before .before .shared-slice-known .given i)) in
-    along-gains (k .before .before .before .before .before .before .loop .inv .0) (k .before .before .before .before .if1 .taken) (k .one-round .ensures) (c .before .before .before .if2 .left) (meaning-fine (o .args .s .now) bytes (o .pre .0) .sound) (o .pre .1) (k .before .before .before .before .before .before .loop .inv .1)
+    along-gains (k .before .before .before .before .before .before .loop .inv .0) (k .before .before .before .before .if1 .taken) (k .one-round .ensures) (c .before .before .before .if2 .left) (meaning-fine (stored (o .args .lay) (o .args .s .now)) bytes (o .pre .0) .sound) (o .pre .1) (k .before .before .before .before .before .before .loop .inv .1)
 
 sub-left-2 : tie.Need-sub-left-2 Inv-loop μ-loop
 sub-left-2 c =
     let k = c .before .before .before .before .before .before .before .before .before .before .before .before in
     let o = c .before .before .before .before .before .before .before .before .before .before .before .before .before .before .before .before .before .before .before .before .before .before .before .before .before .before .before in
     let bytes : Bytes (o .args .s .now) = (λ i. omega (arith, c .before .before .before .before .before .before .before .before .before .before .before .before .before .before .before .before .before .before .before .before .before .before .before .before .before .before .shared-slice-known .given i)) in
-    along-within (k .before .before .before .before .before .before .loop .inv .0) (k .before .before .before .before .if1 .taken) (k .one-round .ensures) (c .before .before .before .if2 .left) (meaning-fine (o .args .s .now) bytes (o .pre .0) .sound) (o .pre .1) (k .before .before .before .before .before .before .loop .inv .1)
+    along-within (k .before .before .before .before .before .before .loop .inv .0) (k .before .before .before .before .if1 .taken) (k .one-round .ensures) (c .before .before .before .if2 .left) (meaning-fine (stored (o .args .lay) (o .args .s .now)) bytes (o .pre .0) .sound) (o .pre .1) (k .before .before .before .before .before .before .loop .inv .1)
 
 loop-less : tie.Need-loop-less Inv-loop μ-loop
 loop-less c = let k = c .before .before .before .before .before .before .before .before .before .before .before .before .before in standing-less (k .before .before .before .before .before .before .loop .inv .0) (k .before .before .before .before .if1 .taken) (k .one-round .ensures) (c .before .before .before .before .if2 .left)
@@ -72,9 +73,9 @@ loop-again c =
     let k = c .before .before .before .before .before .before .before .before .before .before .before .before .before in
     let o = c .before .before .before .before .before .before .before .before .before .before .before .before .before .before .before .before .before .before .before .before .before .before .before .before .before .before .before .before in
     let bytes : Bytes (o .args .s .now) = (λ i. omega (arith, c .before .before .before .before .before .before .before .before .before .before .before .before .before .before .before .before .before .before .before .before .before .before .before .before .before .before .before .shared-slice-known .given i)) in
-    let forward = along-forward (k .before .before .before .before .before .before .loop .inv .0) (k .before .before .before .before .if1 .taken) (k .one-round .ensures) (c .before .before .before .before .if2 .left) (meaning-fine (o .args .s .now) bytes (o .pre .0) .sound) in
+    let forward = along-forward (k .before .before .before .before .before .before .loop .inv .0) (k .before .before .before .before .if1 .taken) (k .one-round .ensures) (c .before .before .before .before .if2 .left) (meaning-fine (stored (o .args .lay) (o .args .s .now)) bytes (o .pre .0) .sound) in
     let was = k .before .before .before .before .before .before .loop .inv .2 (not-true _ (k .before .before .before .before .if1 .taken)) in
-    (standing-again (k .before .before .before .before .before .before .loop .inv .0) (k .before .before .before .before .if1 .taken) (k .one-round .ensures) (c .before .before .before .before .if2 .left), along-again (k .before .before .before .before .before .before .loop .inv .0) (k .before .before .before .before .if1 .taken) (k .one-round .ensures) (c .before .before .before .before .if2 .left) (meaning-fine (o .args .s .now) bytes (o .pre .0) .sound) (o .pre .1) (k .before .before .before .before .before .before .loop .inv .1) (c .before .before .before .before .before .before .before .before .before .before .before .before .before .before .before .before .before .before .before .before .before .before .before .most .ensures), λ e. first-left (o .args .s .now) bytes (o .pre .0) (c .before .before .before .before .before .before .before .before .before .before .before .before .before .before .before .before .before .before .before .before .before .before .feature-count .ensures) was (forward e) (c .next-from .ensures))
+    (standing-again (k .before .before .before .before .before .before .loop .inv .0) (k .before .before .before .before .if1 .taken) (k .one-round .ensures) (c .before .before .before .before .if2 .left), along-again (k .before .before .before .before .before .before .loop .inv .0) (k .before .before .before .before .if1 .taken) (k .one-round .ensures) (c .before .before .before .before .if2 .left) (meaning-fine (stored (o .args .lay) (o .args .s .now)) bytes (o .pre .0) .sound) (o .pre .1) (k .before .before .before .before .before .before .loop .inv .1) (c .before .before .before .before .before .before .before .before .before .before .before .before .before .before .before .before .before .before .before .before .before .before .before .most .ensures), λ e. first-left (stored (o .args .lay) (o .args .s .now)) bytes (o .pre .0) (c .before .before .before .before .before .before .before .before .before .before .before .before .before .before .before .before .before .before .before .before .before .before .feature-count .ensures) was (forward e) (c .next-from .ensures))
 
 same-length-4 : tie.Need-same-length-4 Inv-loop μ-loop
 same-length-4 c = c .before .before .loop .inv .0 .kept .response

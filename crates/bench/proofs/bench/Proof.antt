@@ -1,4 +1,5 @@
 -- `bench::bench` meets its contract: refused before any round, refused in a round, or refused nowhere.
+use Rattle.layout.specs.Layout.{stored}
 use Rattle.bench.specs.Bench.{buffers}
 use Rattle.bench.proofs.Loop.{bench-first, bench-ready, bench-later, bench-done}
 use borrow.Author.Needs.{needs}
@@ -8,22 +9,22 @@ use Rattle.bench.proofs.bench.Tie as tie
 returns : tie.Need-returns
 returns c =
     let a = c .before .before .before .before .before .before .before .before .before .before .before .before .before .before .before .before .before .args in
-    bench-first (a .s .now) (a .rt) (a .a) (buffers (a .response .now) (a .collected .now) (a .starts .now)) (c .before .before .before .before .before .before .before .before .before .before .before .before .first-fault .ensures) (c .before .before .before .before .before .before .before .before .before .before .if1 .taken) (c .before .before .before .before .before .before .refuse .ensures)
+    bench-first (stored (a .lay) (a .s .now)) (a .rt) (a .a) (buffers (a .response .now) (a .collected .now) (a .starts .now)) (c .before .before .before .before .before .before .before .before .before .before .before .before .first-fault .ensures) (c .before .before .before .before .before .before .before .before .before .before .if1 .taken) (c .before .before .before .before .before .before .refuse .ensures)
 
 all-rounds-requires : tie.Need-all-rounds-requires
 all-rounds-requires c κs =
     let a = c .before .before .before .before .before .before .before .before .before .before .before .args in
-    bench-ready (a .s .now) (a .rt) (a .a) (buffers (a .response .now) (a .collected .now) (a .starts .now)) (c .before .before .before .before .before .before .first-fault .ensures) (c .before .before .before .before .if1 .left) (c .before .before .before .start .ensures)
+    bench-ready (stored (a .lay) (a .s .now)) (a .rt) (a .a) (buffers (a .response .now) (a .collected .now) (a .starts .now)) (c .before .before .before .before .before .before .first-fault .ensures) (c .before .before .before .before .if1 .left) (c .before .before .before .start .ensures)
 
 returns-2 : tie.Need-returns-2
 returns-2 c =
     let a = c .before .before .before .before .before .before .before .before .before .before .before .before .before .before .before .before .before .before .before .before .before .before .before .before .before .before .before .before .before .before .before .args in
-    bench-later (a .s .now) (a .rt) (a .a) (buffers (a .response .now) (a .collected .now) (a .starts .now)) (c .before .before .before .before .before .before .before .before .before .before .before .before .before .before .before .before .before .before .before .before .before .before .before .before .before .before .first-fault .ensures) (c .before .before .before .before .before .before .before .before .before .before .before .before .before .before .before .before .before .before .before .before .before .before .before .before .if1 .left) (c .before .before .before .before .before .before .before .before .before .before .before .before .before .before .before .before .before .before .before .before .before .before .before .start .ensures) (c .before .before .before .before .before .before .before .before .before .before .before .before .before .before .before .before .before .before .before .all-rounds .ensures) (c .before .before .before .before .before .before .before .before .before .before .if2 .taken) (c .before .before .before .before .before .before .refuse2 .ensures)
+    bench-later (stored (a .lay) (a .s .now)) (a .rt) (a .a) (buffers (a .response .now) (a .collected .now) (a .starts .now)) (c .before .before .before .before .before .before .before .before .before .before .before .before .before .before .before .before .before .before .before .before .before .before .before .before .before .before .first-fault .ensures) (c .before .before .before .before .before .before .before .before .before .before .before .before .before .before .before .before .before .before .before .before .before .before .before .before .if1 .left) (c .before .before .before .before .before .before .before .before .before .before .before .before .before .before .before .before .before .before .before .before .before .before .before .start .ensures) (c .before .before .before .before .before .before .before .before .before .before .before .before .before .before .before .before .before .before .before .all-rounds .ensures) (c .before .before .before .before .before .before .before .before .before .before .if2 .taken) (c .before .before .before .before .before .before .refuse2 .ensures)
 
 returns-3 : tie.Need-returns-3
 returns-3 c =
     let a = c .before .before .before .before .before .before .before .before .before .before .before .before .before .before .before .before .before .before .before .before .before .before .args in
-    bench-done (a .s .now) (a .rt) (a .a) (buffers (a .response .now) (a .collected .now) (a .starts .now)) (c .before .before .before .before .before .before .before .before .before .before .before .before .before .before .before .before .before .first-fault .ensures) (c .before .before .before .before .before .before .before .before .before .before .before .before .before .before .before .if1 .left) (c .before .before .before .before .before .before .before .before .before .before .before .before .before .before .start .ensures) (c .before .before .before .before .before .before .before .before .before .before .all-rounds .ensures) (c .before .if2 .left)
+    bench-done (stored (a .lay) (a .s .now)) (a .rt) (a .a) (buffers (a .response .now) (a .collected .now) (a .starts .now)) (c .before .before .before .before .before .before .before .before .before .before .before .before .before .before .before .before .before .first-fault .ensures) (c .before .before .before .before .before .before .before .before .before .before .before .before .before .before .before .if1 .left) (c .before .before .before .before .before .before .before .before .before .before .before .before .before .before .start .ensures) (c .before .before .before .before .before .before .before .before .before .before .all-rounds .ensures) (c .before .if2 .left)
 
 pub bench-spec : {M : Type 1} → statement M
 bench-spec =

@@ -4,6 +4,7 @@ use native.Mathlib.Omega.{arith}
 use lib.ListN.{length}
 use lib.Seq.{length-take-le}
 use Rattle.base.specs.Lists.{Bytes}
+use Rattle.layout.specs.Layout.{stored}
 use Rattle.bench.specs.Bench.{buffers}
 use Rattle.bench.proofs.Carried.{clean-cleared, taken-wanted}
 use Rattle.bench.proofs.Loop.{asked-room, round-short, round-asked}
@@ -22,14 +23,14 @@ slice-reshare-prefix-take c =
     let o = c .before .before .before .before .before .before .before .before .before .before .before .before .before .before .before .before .before .before .before in
     let a = o .args in
     let bytes : Bytes (a .s .now) = λ i. omega (arith, c .before .before .before .before .before .before .before .before .before .before .before .before .before .before .before .before .before .before .shared-slice-known .given i) in
-    asked-room (a .s .now) bytes (o .pre .0) (a .w .rt) (a .w .next .0) (a .w .allocation) (a .response .now) (o .pre .1) (clean-cleared (o .pre .3) (c .before .before .before .before .before .before .clear .ensures)) (o .pre .4) (o .pre .2 ∙ taken-wanted (a .s .now) bytes (o .pre .0) (a .w)) (c .before .before .send-sized .ensures)
+    asked-room (stored (a .lay) (a .s .now)) bytes (o .pre .0) (a .w .rt) (a .w .next .0) (a .w .allocation) (a .response .now) (o .pre .1) (clean-cleared (o .pre .3) (c .before .before .before .before .before .before .clear .ensures)) (o .pre .4) (o .pre .2 ∙ taken-wanted (stored (a .lay) (a .s .now)) bytes (o .pre .0) (a .w)) (c .before .before .send-sized .ensures)
 
 slice-aggregate-take : tie.Need-slice-aggregate-take
 slice-aggregate-take c =
     let o = c .before .before .before .before .before .before .before .before .before .before .before .before .before .before .before .before .before .before .before .before in
     let a = o .args in
     let bytes : Bytes (a .s .now) = λ i. omega (arith, c .before .before .before .before .before .before .before .before .before .before .before .before .before .before .before .before .before .before .before .shared-slice-known .given i) in
-    sym (length-take-le (c .before .before .before .send-sized .result .count) (c .before .before .before .send-sized .last .1 .1 .1 .1 .1 .1 .0) (asked-room (a .s .now) bytes (o .pre .0) (a .w .rt) (a .w .next .0) (a .w .allocation) (a .response .now) (o .pre .1) (clean-cleared (o .pre .3) (c .before .before .before .before .before .before .before .clear .ensures)) (o .pre .4) (o .pre .2 ∙ taken-wanted (a .s .now) bytes (o .pre .0) (a .w)) (c .before .before .before .send-sized .ensures)))
+    sym (length-take-le (c .before .before .before .send-sized .result .count) (c .before .before .before .send-sized .last .1 .1 .1 .1 .1 .1 .1 .0) (asked-room (stored (a .lay) (a .s .now)) bytes (o .pre .0) (a .w .rt) (a .w .next .0) (a .w .allocation) (a .response .now) (o .pre .1) (clean-cleared (o .pre .3) (c .before .before .before .before .before .before .before .clear .ensures)) (o .pre .4) (o .pre .2 ∙ taken-wanted (stored (a .lay) (a .s .now)) bytes (o .pre .0) (a .w)) (c .before .before .before .send-sized .ensures)))
 
 returns-2 : tie.Need-returns-2
 returns-2 c =
@@ -37,7 +38,7 @@ returns-2 c =
     let a = o .args in
     let bytes : Bytes (a .s .now) = λ i. omega (arith, c .before .before .before .before .before .before .before .before .before .before .before .before .before .before .before .before .before .before .before .before .before .before .before .shared-slice-known .given i) in
     let l : length (c .before .before .take .last .1 .1 .0) ≡ length (a .collected .now) = search needs in
-    round-asked (a .s .now) (a .w) (buffers (a .response .now) (a .collected .now) (a .starts .now)) bytes (o .pre .0) (o .pre .1) (c .before .before .before .before .before .before .before .before .before .before .before .before .before .before .before .before .before .before .if1 .left) (c .before .before .before .before .before .before .before .before .before .before .before .before .before .before .before .note .ensures) (clean-cleared (o .pre .3) (c .before .before .before .before .before .before .before .before .before .before .before .clear .ensures)) (o .pre .4) (o .pre .2 ∙ taken-wanted (a .s .now) bytes (o .pre .0) (a .w)) (c .before .before .before .before .before .before .before .send-sized .ensures) (c .before .before .take .ensures) l
+    round-asked (stored (a .lay) (a .s .now)) (a .w) (buffers (a .response .now) (a .collected .now) (a .starts .now)) bytes (o .pre .0) (o .pre .1) (c .before .before .before .before .before .before .before .before .before .before .before .before .before .before .before .before .before .before .if1 .left) (c .before .before .before .before .before .before .before .before .before .before .before .before .before .before .before .note .ensures) (clean-cleared (o .pre .3) (c .before .before .before .before .before .before .before .before .before .before .before .clear .ensures)) (o .pre .4) (o .pre .2 ∙ taken-wanted (stored (a .lay) (a .s .now)) bytes (o .pre .0) (a .w)) (c .before .before .before .before .before .before .before .send-sized .ensures) (c .before .before .take .ensures) l
 
 pub one-round-spec : {M : Type 1} → statement M
 one-round-spec =

@@ -6,7 +6,7 @@ use Rattle.import.proofs.put_entry.Statement.{statement}
 use Rattle.import.proofs.put_entry.Tie as tie
 
 returns : tie.Need-returns
-returns c = rw (entry-head _ _ _ (λ i. omega (arith, c .before .before .before .before .before .shared-slice-known .given i)) (c .before .before .before .before .before .before .before .pre .0)) (c .before .before .place-entry .ensures)
+returns c = rw (entry-head _ _ _ (λ i. omega (arith, c .before .before .before .before .before .shared-slice-known .given i)) (c .before .before .before .before .before .before .before .pre .0)) (c .before .before .place-row .ensures)
 
 pub put-entry-spec : {M : Type 1} → statement M
 put-entry-spec =

@@ -6,16 +6,15 @@ use native.Mathlib.Omega.{arith}
 use lib.ListN.{length}
 use lib.Seq.{sets}
 use Rattle.lent.proofs.Laws.{kept}
-use Rattle.sheet.specs.Meaning.{contents}
 use Rattle.reading.specs.inner.Between.{from}
-use Rattle.import.specs.inner.Pieces.{bodies}
+use Rattle.import.specs.inner.Pieces.{rows, bodies}
 use Rattle.import.proofs.Beside.{Passed, passed-start, here-whole, here-entry, here-body, passed-more, passed-end}
 use Rattle.import.proofs.put_features.Statement.{statement}
 use Rattle.import.proofs.put_features.Tie as tie
 
 abbrev Inv-loop : tie.InvT-loop
 Inv-loop sheet₀ entries body s first entry₀ next₀ place₀ sheet entry next place =
-    Passed s (body + length (bodies (from s first))) (sets (sets sheet₀ entries (contents body (from s first))) body (bodies (from s first))) entry next place sheet
+    Passed s (body + length (bodies (from s first))) (sets (sets sheet₀ entries (rows body (from s first))) body (bodies (from s first))) entry next place sheet
     × (length sheet ≡ length sheet₀)
 
 abbrev μ-loop : tie.MeasureT-loop

@@ -11,8 +11,17 @@ use Rattle.text.specs.Reading.{lengthAt, descAt}
 use Rattle.reading.specs.Places.{nextAt}
 use Rattle.reading.specs.inner.Between.{from}
 use Rattle.layout.specs.Layout.{countsBytes, profilesBehind}
-use Rattle.sheet.specs.Meaning.{contents}
+use Rattle.layout.specs.declared.Layout.the-variants.{Rows}
+use Rattle.layout.specs.Contents.{rowBytes, contents}
+use Rattle.sheet.specs.Meaning.{entry, entriesOf}
 use Rattle.capture.specs.inner.Behind.{behind}
+
+-- the row of a descriptor whose body stands at `at`, and the rows of descriptors, the first body there
+abbrev pub rowAt : (at : ℕ) → Desc → List ℕ
+rowAt at d = rowBytes (entry at d)
+
+abbrev pub rows : (at : ℕ) → List Desc → List ℕ
+rows at ds = contents Rows (entriesOf at ds)
 
 -- the bodies of descriptors, one behind the other
 abbrev pub bodies : List Desc → List ℕ
@@ -34,13 +43,13 @@ pub record HasSpace (s : List ℕ) (entries body first : ℕ) (d : List ℕ) : T
 -- both were written: r is the index behind the bodies, e the buffer afterwards
 pub record Filled (s : List ℕ) (entries body first : ℕ) (d : List ℕ) (r : ℕ) (e : List ℕ) : Type 0 where
   pub next : r ≡ body + length (bodies (from s first))
-  pub holds : e ≡ sets (sets d entries (contents body (from s first))) body (bodies (from s first))
+  pub holds : e ≡ sets (sets d entries (rows body (from s first))) body (bodies (from s first))
 
 -- the sheet of features ds behind a profile list b
 unfoldable pub sheetBytes : (b : List ℕ) (ds : List Desc) → List ℕ
 sheetBytes b ds =
     countsBytes (length ds) (length b / 4)
-    ++ contents (profilesBehind (length ds) + length b) ds
+    ++ rows (profilesBehind (length ds) + length b) ds
     ++ b
     ++ bodies ds
 

@@ -6,7 +6,7 @@ use Rattle.layout.proofs.feature_at.Tie as tie
 
 returns : tie.Need-returns
 unfolding number
-returns c = search needs
+returns c = cc
 
 pub feature-at-spec : {M : Type 1} → statement M
-feature-at-spec = tie.close (tie.spec (λ c. search needs) (λ c. search needs) (λ c κs. search needs) returns)
+feature-at-spec = tie.close (tie.spec (λ c κs. search needs) (λ c κs. search needs) (λ c κs. search needs) returns)

@@ -6,7 +6,7 @@ use Rattle.layout.proofs.flags_at.Tie as tie
 
 returns : tie.Need-returns
 unfolding flags
-returns c = search needs
+returns c = cc
 
 pub flags-at-spec : {M : Type 1} → statement M
-flags-at-spec = tie.close (tie.spec (λ c. search needs) (λ c. search needs) (λ c. search needs) (λ c κs. search needs) returns)
+flags-at-spec = tie.close (tie.spec (λ c κs. search needs) (λ c κs. search needs) (λ c κs. search needs) returns)

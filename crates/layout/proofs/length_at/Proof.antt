@@ -6,7 +6,7 @@ use Rattle.layout.proofs.length_at.Tie as tie
 
 returns : tie.Need-returns
 unfolding bodyLength
-returns c = search needs
+returns c = cc
 
 pub length-at-spec : {M : Type 1} → statement M
-length-at-spec = tie.close (tie.spec (λ c. search needs) (λ c. search needs) (λ c. search needs) (λ c κs. search needs) returns)
+length-at-spec = tie.close (tie.spec (λ c κs. search needs) (λ c κs. search needs) (λ c κs. search needs) returns)

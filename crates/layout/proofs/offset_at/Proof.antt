@@ -6,7 +6,7 @@ use Rattle.layout.proofs.offset_at.Tie as tie
 
 returns : tie.Need-returns
 unfolding offset
-returns c = search needs
+returns c = cc
 
 pub offset-at-spec : {M : Type 1} → statement M
-offset-at-spec = tie.close (tie.spec (λ c. search needs) (λ c. search needs) (λ c. search needs) (λ c κs. search needs) returns)
+offset-at-spec = tie.close (tie.spec (λ c κs. search needs) (λ c κs. search needs) (λ c κs. search needs) returns)

@@ -2,7 +2,7 @@
 use mathlib.Core.Path.{_≡_, sym}
 use mathlib.Core.Bool.{true, false}
 use native.Mathlib.Omega.{arith}
-use Rattle.layout.specs.Layout.{flags}
+use Rattle.layout.specs.Layout.{stored, flags}
 use Rattle.responder.specs.inner.Index.{skips}
 use Rattle.responder.proofs.Laws.{size-none, size-some}
 use borrow.Author.Needs.{needs}
@@ -12,14 +12,14 @@ use Rattle.responder.proofs.piece_size.Tie as tie
 returns : tie.Need-returns
 returns c =
     let a = c .before .before .before .before .args in
-    let e : skips (a .rt) (flags (a .s .now) (a .i)) ≡ true = cc in
-    (sym (size-none (a .rt) (a .s .now) (a .i) e), omega arith)
+    let e : skips (a .rt) (flags (stored (a .lay) (a .s .now)) (a .i)) ≡ true = cc in
+    (sym (size-none (a .rt) (stored (a .lay) (a .s .now)) (a .i) e), omega arith)
 
 returns-2 : tie.Need-returns-2
 returns-2 c =
     let a = c .before .before .before .before .before .args in
-    let e : skips (a .rt) (flags (a .s .now) (a .i)) ≡ false = cc in
-    let k = size-some (a .rt) (a .s .now) (a .i) e in
+    let e : skips (a .rt) (flags (stored (a .lay) (a .s .now)) (a .i)) ≡ false = cc in
+    let k = size-some (a .rt) (stored (a .lay) (a .s .now)) (a .i) e in
     (omega arith, omega arith)
 
 pub piece-size-spec : {M : Type 1} → statement M

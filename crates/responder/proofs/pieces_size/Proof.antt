@@ -3,16 +3,17 @@ use borrow.Author.Needs.{needs}
 use Prim.Native.Nat.{_-_, _*_, _≤_}
 use mathlib.Core.Path.{_≡_, ap, _∙_}
 use native.Mathlib.Omega.{arith}
+use Rattle.layout.specs.Layout.{stored}
 use Rattle.responder.specs.inner.Index.{piecesSize}
 use Rattle.responder.proofs.Laws.{sizes-start, sizes-more}
 use Rattle.responder.proofs.pieces_size.Statement.{statement}
 use Rattle.responder.proofs.pieces_size.Tie as tie
 
 abbrev Inv-loop : tie.InvT-loop
-Inv-loop s rt from to size₀ i₀ size i = (from ≤ i) × (i - from ≤ to - from) × (size ≡ piecesSize rt s from (i - from)) × (size ≤ 259 * (i - from))
+Inv-loop lay s rt from to size₀ i₀ size i = (from ≤ i) × (i - from ≤ to - from) × (size ≡ piecesSize rt (stored lay s) from (i - from)) × (size ≤ 259 * (i - from))
 
 abbrev μ-loop : tie.MeasureT-loop
-μ-loop s rt from to size₀ i₀ size i = to - i
+μ-loop lay s rt from to size₀ i₀ size i = to - i
 
 loop-holds : tie.Need-loop-holds Inv-loop μ-loop
 loop-holds c = (omega arith, omega arith, search sizes-start, omega arith)
@@ -21,7 +22,7 @@ loop-again : tie.Need-loop-again Inv-loop μ-loop
 loop-again c =
     let a = c .before .before .before .before .args in
     let i = c .before .before .loop .i in
-    let k = sizes-more (a .rt) (a .s .now) (a .from) i (c .before .before .loop .inv .0) in
+    let k = sizes-more (a .rt) (stored (a .lay) (a .s .now)) (a .from) i (c .before .before .loop .inv .0) in
     (omega arith, omega arith, omega arith, omega arith)
 
 returns : tie.Need-returns Inv-loop μ-loop
@@ -29,7 +30,7 @@ returns c =
     let a = c .before .before .before .args in
     let i = c .before .loop .i in
     let e : i - a .from ≡ a .to - a .from = omega arith in
-    (c .before .loop .inv .2 ∙ ap (piecesSize (a .rt) (a .s .now) (a .from)) e, omega arith)
+    (c .before .loop .inv .2 ∙ ap (piecesSize (a .rt) (stored (a .lay) (a .s .now)) (a .from)) e, omega arith)
 
 pub pieces-size-spec : {M : Type 1} → statement M
 pieces-size-spec =

@@ -5,16 +5,17 @@ use Prim.Native.Nat.{_-_, _≤_}
 use native.Mathlib.Omega.{arith}
 use Rattle.lent.specs.Wrote.{Wrote}
 use Rattle.lent.proofs.Laws.{nothing, then, kept}
+use Rattle.layout.specs.Layout.{stored}
 use Rattle.responder.specs.inner.Index.{pieces}
 use Rattle.responder.proofs.Laws.{pieces-start, pieces-more, full-stop}
 use Rattle.responder.proofs.put_rest.Statement.{statement}
 use Rattle.responder.proofs.put_rest.Tie as tie
 
 abbrev Inv-loop : tie.InvT-loop
-Inv-loop out₀ at s rt from to next₀ i₀ out next i = (from ≤ i) × (i - from ≤ to - from) × Wrote out₀ at (pieces rt s from (i - from)) next out
+Inv-loop out₀ at lay s rt from to next₀ i₀ out next i = (from ≤ i) × (i - from ≤ to - from) × Wrote out₀ at (pieces rt (stored lay s) from (i - from)) next out
 
 abbrev μ-loop : tie.MeasureT-loop
-μ-loop out₀ at s rt from to next₀ i₀ out next i = to - i
+μ-loop out₀ at lay s rt from to next₀ i₀ out next i = to - i
 
 loop-holds : tie.Need-loop-holds Inv-loop μ-loop
 loop-holds c = (omega arith, omega arith, rw pieces-start (nothing (c .before .before .args .out .now) (c .before .before .args .at)))
@@ -23,12 +24,12 @@ same-length : tie.Need-same-length Inv-loop μ-loop
 same-length c = kept (c .before .before .loop .inv .2)
 
 returns : tie.Need-returns Inv-loop μ-loop
-returns c = let a = c .before .before .before .before .before .args in full-stop (a .rt) (a .s .now) (a .from) (a .to) (c .before .before .loop .i) (c .before .before .loop .inv .2) (c .if1 .taken) (omega arith) (c .before .before .loop .inv .0)
+returns c = let a = c .before .before .before .before .before .args in full-stop (a .rt) (stored (a .lay) (a .s .now)) (a .from) (a .to) (c .before .before .loop .i) (c .before .before .loop .inv .2) (c .if1 .taken) (omega arith) (c .before .before .loop .inv .0)
 
 loop-again : tie.Need-loop-again Inv-loop μ-loop
 loop-again c =
     let a = c .before .before .before .before .before .before .before .before .before .args in
-    (omega arith, omega arith, rw (pieces-more (a .rt) (a .s .now) (a .from) (c .before .before .before .before .before .before .loop .i) (c .before .before .before .before .before .before .loop .inv .0)) (then (c .before .before .before .before .before .before .loop .inv .2) (c .before .before .put-slowly .ensures)))
+    (omega arith, omega arith, rw (pieces-more (a .rt) (stored (a .lay) (a .s .now)) (a .from) (c .before .before .before .before .before .before .loop .i) (c .before .before .before .before .before .before .loop .inv .0)) (then (c .before .before .before .before .before .before .loop .inv .2) (c .before .before .put-slowly .ensures)))
 
 same-length-2 : tie.Need-same-length-2 Inv-loop μ-loop
 same-length-2 c = kept (c .before .loop .inv .2)

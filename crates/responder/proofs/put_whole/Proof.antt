@@ -1,24 +1,42 @@
--- `responder::put_whole` meets its contract: two writings, of what stands in the sheet.
+-- `responder::put_whole` meets its contract: the head, and the body behind it where there is one.
+use Prim.Native.Nat.{_+_, _-_, _%_}
 use native.Mathlib.Omega.{arith}
-use Rattle.lent.proofs.Laws.{then, kept}
-use Rattle.responder.proofs.Laws.{body-short, whole-bytes}
+use lib.ListN.{drop, length-take}
+use Rattle.fields.proofs.Laws.{length-spell}
+use Rattle.lent.proofs.Laws.{kept}
+use Rattle.responder.proofs.Laws.{whole-head, whole-body}
 use borrow.Author.Needs.{needs}
 use Rattle.responder.proofs.put_whole.Statement.{statement}
 use Rattle.responder.proofs.put_whole.Tie as tie
 
+returns : tie.Need-returns
+returns c = let a = c .before .before .before .before .before .before .before .args in rw (whole-head (a .s .now) (a .head) (a .body) (c .if1 .taken)) (c .before .before .before .set4 .ensures)
+
+place4-requires : tie.Need-place4-requires
+place4-requires c κs =
+    let a = c .before .before .before .before .before .before .before .before .before .before .args in
+    let w = c .before .before .before .before .before .before .set4 .ensures in (
+      omega (arith, length-take (a .body + a .head % 256 - a .body) (drop (a .body) (a .s .now))),
+      omega (arith, w .next, kept w, length-spell 4 (a .head)),
+    )
+
+returns-2 : tie.Need-returns-2
+returns-2 c =
+    let a = c .before .before .before .before .before .before .before .before .before .before .before .before .before .args in
+    whole-body (a .s .now) (a .head) (a .body) (c .before .before .before .before .before .before .before .before .before .set4 .ensures) (c .before .before .place4 .ensures)
+
 place-requires : tie.Need-place-requires
 place-requires c κs =
-    let a = c .before .before .before .before .before .before .before .before .before .before .before .before .args in
-    let w = c .before .before .before .place4 .ensures in
-    omega (arith, w .next, kept w, body-short (a .s .now) (a .i) _ _ (c .before .before .before .before .before .before .before .before .before .entry-in .ensures) (c .before .before .before .before .before .before .part .ensures .holds))
+    let a = c .before .before .before .before .before .before .before .before .before .before .args in
+    let w = c .before .before .before .before .before .before .set4 .ensures in
+    omega (arith, w .next, kept w, length-spell 4 (a .head), length-take (a .body + a .head % 256 - a .body) (drop (a .body) (a .s .now)))
 
-returns : tie.Need-returns
-returns c =
-    let a = c .before .before .before .before .before .before .before .before .before .before .before .before .before .before .before .args in
-    let e = whole-bytes (a .s .now) (a .i) _ _ (c .before .before .before .before .before .before .before .before .before .before .before .before .entry-in .ensures) (c .before .before .before .before .before .before .before .before .before .part .ensures .holds) _ (λ i. c .before .before .before .before .before .before .before .before .before .before .before .before .before .shared-slice-known .given i .fits) (c .before .before .before .before .before .before .before .before .before .before .before .before .before .before .before .pre .0) (c .before .before .before .before .before .before .before .head-part .ensures .0 .holds) in
-    rw (← e) (then (c .before .before .before .before .before .before .place4 .ensures) (c .before .before .place .ensures))
+returns-3 : tie.Need-returns-3
+returns-3 c =
+    let a = c .before .before .before .before .before .before .before .before .before .before .before .before .before .args in
+    whole-body (a .s .now) (a .head) (a .body) (c .before .before .before .before .before .before .before .before .before .set4 .ensures) (c .before .before .place .ensures)
 
 pub put-whole-spec : {M : Type 1} → statement M
 put-whole-spec =
     tie.close
-    (tie.spec (λ c κs. search needs) (λ c. search needs) (λ c. search needs) (λ c κs. search needs) (λ c κs. search needs) (λ c κs. search needs) place-requires (λ c. search needs) returns)
+    (tie.spec (λ c κs. search needs) (λ c. search needs) (λ c. search needs) returns (λ c. search needs) (λ c. search needs) (λ c. search needs) (λ c. search needs) place4-requires (λ c. search needs) returns-2 (λ c. search needs) (λ c. search needs) (λ c. search needs) place-requires (λ c. search needs) returns-3)

@@ -2,6 +2,7 @@
 use mathlib.Core.Path.{sym, ap, _∙_}
 use Rattle.text.specs.declared.Command.{Command}
 use Rattle.text.specs.Command.{commandOf, commandFault}
+use Rattle.layout.specs.Layout.{stored}
 use Rattle.responder.specs.Trusting.{trusting, trustingCommand}
 use Rattle.refusal.proofs.First.{unless-none}
 use Rattle.lent.specs.Maker.{refusing}
@@ -19,7 +20,7 @@ unfolding trustingCommand commandOf
 returns-2 c =
     let a = c .before .before .before .before .before .before .before .before .before .before .before .args in
     c .before .before .send .ensures
-    ∙ ap (λ (k : Command). trusting (a .s .now) (k .rt) (k .sfn .0) (k .allocation) (a .out .now)) (c .before .before .before .before .read .ensures)
+    ∙ ap (λ (k : Command). trusting (stored (a .lay) (a .s .now)) (k .rt) (k .sfn .0) (k .allocation) (a .out .now)) (c .before .before .before .before .read .ensures)
     ∙ sym (unless-none (commandFault (a .command .now)) (refusing (a .out .now)) _ (sym (ap (λ r. r .number) (c .before .before .before .before .before .before .before .fault .ensures)) ∙ c .before .before .before .before .before .if1 .left))
 
 pub respond-accepted-spec : {M : Type 1} → statement M

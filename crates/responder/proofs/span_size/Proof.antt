@@ -1,5 +1,6 @@
 -- `responder::span_size` meets its contract: ends of bodies stay below 2 ^ 32 + 256.
 use native.Mathlib.Omega.{arith}
+use Rattle.layout.specs.Layout.{stored}
 use Rattle.responder.specs.inner.Index.{span}
 use Rattle.responder.proofs.Laws.{end-low}
 use borrow.Author.Needs.{needs}
@@ -7,11 +8,11 @@ use Rattle.responder.proofs.span_size.Statement.{statement}
 use Rattle.responder.proofs.span_size.Tie as tie
 
 add-result : tie.Need-add-result
-add-result c = omega (arith, end-low (c .before .before .before .before .before .args .s .now) (c .before .before .before .before .before .args .to) (λ i. omega (arith, c .before .before .before .before .shared-slice-known .given i)))
+add-result c = omega (arith, end-low (let a = c .before .before .before .before .before .args in stored (a .lay) (a .s .now)) (c .before .before .before .before .before .args .to) (λ i. omega (arith, c .before .before .before .before .shared-slice-known .given i)))
 
 returns : tie.Need-returns
 unfolding span
-returns c = let k = end-low (c .before .before .before .before .before .args .s .now) (c .before .before .before .before .before .args .to) (λ i. omega (arith, c .before .before .before .before .shared-slice-known .given i)) in (omega arith, omega arith)
+returns c = let k = end-low (let a = c .before .before .before .before .before .args in stored (a .lay) (a .s .now)) (c .before .before .before .before .before .args .to) (λ i. omega (arith, c .before .before .before .before .shared-slice-known .given i)) in (omega arith, omega arith)
 
 pub span-size-spec : {M : Type 1} → statement M
 span-size-spec =

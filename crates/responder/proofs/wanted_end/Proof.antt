@@ -1,5 +1,6 @@
 -- `responder::wanted_end` meets its contract, by the cases of RT and of the entry.
 use mathlib.Core.Path.{sym, _∙_}
+use Rattle.layout.specs.Layout.{stored}
 use Rattle.responder.proofs.Laws.{end-all, end-none, end-one, end-other}
 use borrow.Author.Needs.{needs}
 use Rattle.responder.proofs.wanted_end.Statement.{statement}
@@ -12,10 +13,10 @@ returns-2 : tie.Need-returns-2
 returns-2 c = search end-none
 
 returns-3 : tie.Need-returns-3
-returns-3 c = let a = c .before .before .before .before .before .before .before .args in sym (end-one (a .s .now) (a .n) (a .sfn .0) (a .from) (a .rt) (c .before .before .before .before .before .if1 .left) (c .before .before .before .before .if2 .left) (cc))
+returns-3 c = let a = c .before .before .before .before .before .before .before .args in sym (end-one (stored (a .lay) (a .s .now)) (a .n) (a .sfn .0) (a .from) (a .rt) (c .before .before .before .before .before .if1 .left) (c .before .before .before .before .if2 .left) (cc))
 
 returns-4 : tie.Need-returns-4
-returns-4 c = let a = c .before .before .before .before .before .before .before .args in sym (end-other (a .s .now) (a .n) (a .sfn .0) (a .from) (a .rt) (c .before .before .before .before .before .if1 .left) (c .before .before .before .before .if2 .left) (λ z. c .if3 .left (c .before .before .before .feature-at .ensures ∙ z)))
+returns-4 c = let a = c .before .before .before .before .before .before .before .args in sym (end-other (stored (a .lay) (a .s .now)) (a .n) (a .sfn .0) (a .from) (a .rt) (c .before .before .before .before .before .if1 .left) (c .before .before .before .before .if2 .left) (λ z. c .if3 .left (c .before .before .before .feature-at .ensures ∙ z)))
 
 pub wanted-end-spec : {M : Type 1} → statement M
 wanted-end-spec =

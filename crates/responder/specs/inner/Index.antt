@@ -1,20 +1,20 @@
 -- The response by index of the sheet's entries: what the box's inner functions find, add up and write. Assumes nothing: these are definitions.
 use mathlib.Core.Bool.{Bool, true, false, not, _&&_}
 use mathlib.Core.List.{List, [], _∷_, _++_}
-use Prim.Native.Nat.{ℕ, zero, suc, _+_, _-_, _*_, _%_, _^_, min}
+use Prim.Native.Nat.{ℕ, zero, suc, _+_, _-_, _*_, _/_, _%_, _^_, min}
 use lib.Dec.{ltb, eqb}
 use lib.ListN.{take, drop}
 use Rattle.fields.specs.Field.{spell}
 use Rattle.text.specs.Flags as text
 use Rattle.text.specs.Response.{header, currentProfile, headerLength, most}
 use Rattle.profiles.specs.Profiles.{profilesOf}
-use Rattle.layout.specs.Layout.{featureCount, profileCount, number, flags, bodyLength, offset, profilesPart}
+use Rattle.layout.specs.Layout.{Sheet, profiles, featureCount, number, flags, bodyLength, offset, profilesIn, profilesPart}
 use Rattle.sheet.specs.Check.{endBefore}
 use Rattle.sheet.specs.inner.Search.{firstFrom}
 use Rattle.responder.specs.declared.Plan.{Plan}
 
 -- the end of the wanted entries that start at r: all n, or with RT 2 only entry r if it has the number asked for
-unfoldable pub wantedEnd : (rt : ℕ) (s : List ℕ) (n sfn r : ℕ) → ℕ
+unfoldable pub wantedEnd : (rt : ℕ) (s : Sheet) (n sfn r : ℕ) → ℕ
 wantedEnd zero s n sfn r = n
 wantedEnd (suc zero) s n sfn r = n
 wantedEnd (suc (suc rt)) s n sfn r = elim (ltb r n && eqb (number s r) sfn) [ true ↦ r + 1 | false ↦ r ]
@@ -27,59 +27,66 @@ skips rt f = eqb rt 1 && not (eqb (text.current f) 1)
 abbrev pub descOf : (number flags len : ℕ) (body : List ℕ) → List ℕ
 descOf number flags len body = spell 2 number ++ (flags ∷ []) ++ (len ∷ []) ++ body
 
-unfoldable pub descBytes : List ℕ → ℕ → List ℕ
-descBytes s i = descOf (number s i) (flags s i) (bodyLength s i) (take (bodyLength s i) (drop (offset s i) s))
+unfoldable pub descBytes : Sheet → ℕ → List ℕ
+descBytes s i = descOf (number s i) (flags s i) (bodyLength s i) (take (bodyLength s i) (drop (offset s i) (s .bytes)))
 
-unfoldable pub piece : (rt : ℕ) (s : List ℕ) (i : ℕ) → List ℕ
+unfoldable pub piece : (rt : ℕ) (s : Sheet) (i : ℕ) → List ℕ
 piece rt s i = elim (skips rt (flags s i)) [ true ↦ [] | false ↦ descBytes s i ]
 
+-- the same from a descriptor's head as one number and from where its body stands
+unfoldable pub wholeBytes : (b : List ℕ) (head body : ℕ) → List ℕ
+wholeBytes b head body = spell 4 head ++ take (head % 256) (drop body b)
+
+unfoldable pub foundBytes : (rt : ℕ) (b : List ℕ) (head body : ℕ) → List ℕ
+foundBytes rt b head body = elim (skips rt (head / 256 % 256)) [ true ↦ [] | false ↦ wholeBytes b head body ]
+
 -- those of k entries from an index on
-unfoldable pub pieces : (rt : ℕ) (s : List ℕ) (from k : ℕ) → List ℕ
+unfoldable pub pieces : (rt : ℕ) (s : Sheet) (from k : ℕ) → List ℕ
 pieces rt s from zero = []
 pieces rt s from (suc k) = pieces rt s from k ++ piece rt s (from + k)
 
 -- how many bytes they are
-unfoldable pub pieceSize : (rt : ℕ) (s : List ℕ) (i : ℕ) → ℕ
+unfoldable pub pieceSize : (rt : ℕ) (s : Sheet) (i : ℕ) → ℕ
 pieceSize rt s i = elim (skips rt (flags s i)) [ true ↦ 0 | false ↦ 4 + bodyLength s i ]
 
-unfoldable pub piecesSize : (rt : ℕ) (s : List ℕ) (from k : ℕ) → ℕ
+unfoldable pub piecesSize : (rt : ℕ) (s : Sheet) (from k : ℕ) → ℕ
 piecesSize rt s from zero = 0
 piecesSize rt s from (suc k) = piecesSize rt s from k + pieceSize rt s (from + k)
 
 -- the same from the offsets, where none is passed over
-unfoldable pub span : (s : List ℕ) (from to : ℕ) → ℕ
+unfoldable pub span : (s : Sheet) (from to : ℕ) → ℕ
 span s from to = 4 * (to - from) + (endBefore s to - endBefore s from)
 
-unfoldable pub entriesSize : (rt : ℕ) (s : List ℕ) (from to : ℕ) → ℕ
+unfoldable pub entriesSize : (rt : ℕ) (s : Sheet) (from to : ℕ) → ℕ
 entriesSize rt s from to = elim (eqb rt 1) [ true ↦ piecesSize rt s from (to - from) | false ↦ span s from to ]
 
 -- feature 0, and how many bytes it is: it is sent where SFN is 0
 unfoldable pub zeroBytes : List ℕ → List ℕ
-zeroBytes s = descOf 0 3 (4 * profileCount s % 256) (profilesPart s)
+zeroBytes b = descOf 0 3 (4 * profiles b % 256) (profilesIn b)
 
-unfoldable pub zeroPart : (s : List ℕ) (sfn : ℕ) → List ℕ
-zeroPart s sfn = elim (eqb sfn 0) [ true ↦ zeroBytes s | false ↦ [] ]
+unfoldable pub zeroPart : (b : List ℕ) (sfn : ℕ) → List ℕ
+zeroPart b sfn = elim (eqb sfn 0) [ true ↦ zeroBytes b | false ↦ [] ]
 
-unfoldable pub zeroSize : (s : List ℕ) (sfn : ℕ) → ℕ
-zeroSize s sfn = elim (eqb sfn 0) [ true ↦ 4 + 4 * profileCount s | false ↦ 0 ]
+unfoldable pub zeroSize : (b : List ℕ) (sfn : ℕ) → ℕ
+zeroSize b sfn = elim (eqb sfn 0) [ true ↦ 4 + 4 * profiles b | false ↦ 0 ]
 
 -- which entries a request takes, and how many bytes stand behind the header
-unfoldable pub takenFrom : (s : List ℕ) (sfn : ℕ) → ℕ
+unfoldable pub takenFrom : (s : Sheet) (sfn : ℕ) → ℕ
 takenFrom s sfn = firstFrom s (featureCount s) sfn
 
-unfoldable pub takenTo : (s : List ℕ) (rt sfn : ℕ) → ℕ
+unfoldable pub takenTo : (s : Sheet) (rt sfn : ℕ) → ℕ
 takenTo s rt sfn = wantedEnd rt s (featureCount s) sfn (takenFrom s sfn)
 
-unfoldable pub takenSize : (s : List ℕ) (rt sfn : ℕ) → ℕ
-takenSize s rt sfn = zeroSize s sfn + entriesSize rt s (takenFrom s sfn) (takenTo s rt sfn)
+unfoldable pub takenSize : (s : Sheet) (rt sfn : ℕ) → ℕ
+takenSize s rt sfn = zeroSize (s .bytes) sfn + entriesSize rt s (takenFrom s sfn) (takenTo s rt sfn)
 
 -- the entries that are taken where those wanted start at one, with so many bytes
-unfoldable pub planOf : (s : List ℕ) (rt sfn from size : ℕ) → Plan
+unfoldable pub planOf : (s : Sheet) (rt sfn from size : ℕ) → Plan
 planOf s rt sfn from size = record { from = from; to = wantedEnd rt s (featureCount s) sfn from; size = size }
 
 -- the whole response that a plan takes; Data Length keeps its four bytes
-unfoldable pub fullBytes : (s : List ℕ) (rt sfn : ℕ) (p : Plan) → List ℕ
-fullBytes s rt sfn p = header ((p .size + 4) % 2 ^ 32) (currentProfile (profilesOf (profilesPart s))) ++ zeroPart s sfn ++ pieces rt s (p .from) (p .to - p .from)
+unfoldable pub fullBytes : (s : Sheet) (rt sfn : ℕ) (p : Plan) → List ℕ
+fullBytes s rt sfn p = header ((p .size + 4) % 2 ^ 32) (currentProfile (profilesOf (profilesPart s))) ++ zeroPart (s .bytes) sfn ++ pieces rt s (p .from) (p .to - p .from)
 
 -- how many bytes of it are due
 unfoldable pub limit : (a size : ℕ) → ℕ

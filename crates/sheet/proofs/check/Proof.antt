@@ -3,6 +3,7 @@ use native.Mathlib.Omega.{arith}
 use Rattle.refusal.proofs.First.{tests}
 use Rattle.sheet.specs.Check.{verdict}
 use Rattle.sheet.proofs.Laws.{verdict-counted}
+use Rattle.layout.specs.Layout.{stored}
 use borrow.Author.Needs.{needs}
 use Rattle.sheet.proofs.check.Statement.{statement}
 use Rattle.sheet.proofs.check.Tie as tie
@@ -16,7 +17,7 @@ unfolding verdict
 returns-2 c = search (tests, ← c .before .bodies-at .ensures)
 
 returns-3 : tie.Need-returns-3
-returns-3 c = cc (verdict-counted (c .before .before .before .before .before .before .before .args .s .now) (omega arith) (omega arith))
+returns-3 c = cc (verdict-counted (let a = c .before .before .before .before .before .before .before .args in stored (a .lay) (a .s .now)) (omega arith) (omega arith))
 
 pub check-spec : {M : Type 1} → statement M
 check-spec =

@@ -1,15 +1,16 @@
 -- `sheet::closed` meets its contract: the loop carries what is left of the search.
 use borrow.Author.Needs.{needs}
 use Prim.Native.Nat.{_-_}
+use Rattle.layout.specs.Layout.{stored}
 use Rattle.sheet.proofs.Bisection.{half-smaller, Turning, turning-start, turning-more, turning-end}
 use Rattle.sheet.proofs.closed.Statement.{statement}
 use Rattle.sheet.proofs.closed.Tie as tie
 
 abbrev Inv-loop : tie.InvT-loop
-Inv-loop s sfn from to low₀ high₀ low high = Turning s (sfn .0) from to low high
+Inv-loop lay s sfn from to low₀ high₀ low high = Turning (stored lay s) (sfn .0) from to low high
 
 abbrev μ-loop : tie.MeasureT-loop
-μ-loop s sfn from to low₀ high₀ low high = high - low
+μ-loop lay s sfn from to low₀ high₀ low high = high - low
 
 loop-holds : tie.Need-loop-holds Inv-loop μ-loop
 loop-holds c = search turning-start

@@ -2,16 +2,17 @@
 use borrow.Author.Needs.{needs}
 use mathlib.Core.Path.{_≡_, refl, sym, _∙_}
 use native.Mathlib.Omega.{arith}
+use Rattle.layout.specs.Layout.{stored}
 use Rattle.sheet.specs.inner.Search.{passing, nextFrom}
 use Rattle.sheet.proofs.Passing.{passing-more, passing-stop, passing-done, passing-none}
 use Rattle.sheet.proofs.next_from.Statement.{statement}
 use Rattle.sheet.proofs.next_from.Tie as tie
 
 abbrev Inv-loop : tie.InvT-loop
-Inv-loop s n sfn from i₀ left₀ i left = nextFrom s n (sfn .0) from ≡ passing left s n (sfn .0) i
+Inv-loop lay s n sfn from i₀ left₀ i left = nextFrom (stored lay s) n (sfn .0) from ≡ passing left (stored lay s) n (sfn .0) i
 
 abbrev μ-loop : tie.MeasureT-loop
-μ-loop s n sfn from i₀ left₀ i left = left
+μ-loop lay s n sfn from i₀ left₀ i left = left
 
 loop-holds : tie.Need-loop-holds Inv-loop μ-loop
 unfolding nextFrom

@@ -7,10 +7,10 @@ use Rattle.sweeper.proofs.say_rounds.Statement.{statement}
 use Rattle.sweeper.proofs.say_rounds.Tie as tie
 
 abbrev Inv-loop : tie.InvT-loop
-Inv-loop sheet rt a starts commands response₀ i₀ response i = length response ≡ length response₀
+Inv-loop lay sheet rt a starts commands response₀ i₀ response i = length response ≡ length response₀
 
 abbrev μ-loop : tie.MeasureT-loop
-μ-loop sheet rt a starts commands response₀ i₀ response i = length starts - i
+μ-loop lay sheet rt a starts commands response₀ i₀ response i = length starts - i
 
 pub say-rounds-spec : {M : Type 1} → statement M
 say-rounds-spec =

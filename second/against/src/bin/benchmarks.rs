@@ -9,13 +9,16 @@ use against::run::told;
 use against::timing::{head, line, Case, Effort};
 use gcf::raw;
 use second::command::Request;
+use second::convert::rearranged;
 use second::fast::bench::bench;
 use second::fast::checks::{check_descriptors, check_profile};
+use second::fast::columns;
 use second::fast::command::{respond, respond_checked};
 use second::fast::import::import;
 use second::fast::reading::read;
 use second::fast::rom;
 use second::fast::sheet::check;
+use second::sheet::Layout;
 use second::wire::{Feature, Profile};
 
 const USAGE: &str = "usage: benchmarks [--rounds N] [--milliseconds N] [--only WORDS]
@@ -45,6 +48,7 @@ fn main() {
     checks_of_sheets(&run);
     readings(&run);
     sweeps(&run);
+    sheets_in_columns(&run);
     checks_of_responses(&run);
     imports(&run);
 }
@@ -328,6 +332,124 @@ fn time_sweep(run: &Run, name: &str, sheet: &[u8], rt: u8, allocation: u16, room
         plain: Box::new(move |sheet, out| {
             let (response, collected) = out.split_at_mut(room);
             let outcome = bench(sheet, rt, allocation, response, collected, &mut other_starts);
+            outcome.map_or(0, |outcome| outcome.commands)
+        }),
+    });
+}
+
+/// Sheets in columns that are timed in rows too: a command from the last feature, the check, a bench sweep.
+fn sheets_in_columns(run: &Run) {
+    let parts: Vec<Part> = (1..=65_535).map(|number| (number, 3, body(8))).collect();
+    let rows = sheet_of(&profiles(2, 1), &parts);
+    let sheet = rearranged(Layout::Columns, Layout::Rows, &rows);
+    for rt in 0..2 {
+        let command = command(rt, 65_535, 65_535);
+        run.time(Case {
+            name: format!(
+                "command from the last of 65535 features, RT {rt}, sheet accepted before, in columns"
+            ),
+            input: &sheet,
+            room: MOST,
+            bytes: respond(&rows, &command, &mut vec![0; MOST]).unwrap_or(0),
+            pieces: None,
+            proved: Box::new(move |sheet, out| {
+                let mut numbers = [0];
+                let answer = raw::respond_columns_accepted(sheet, &command, out, &mut numbers);
+                usize::from(answer) + numbers[0] as usize
+            }),
+            plain: Box::new(move |sheet, out| columns::respond_checked(sheet, &command, out).unwrap_or(0)),
+        });
+    }
+    for (name, rows) in [("4,000 features of 4 bytes", small_bodies()), ("17,039,356 bytes", longest())] {
+        run.time(Case {
+            name: format!("check of a sheet, {name}, in columns"),
+            input: &rearranged(Layout::Columns, Layout::Rows, &rows),
+            room: 0,
+            bytes: 4 + 8 * usize::from(u16::from_be_bytes([rows[0], rows[1]])) + 4 * usize::from(rows[3]),
+            pieces: None,
+            proved: Box::new(|sheet, _| {
+                let mut numbers = [0];
+                usize::from(raw::check_columns(sheet, &mut numbers)) + numbers[0] as usize
+            }),
+            plain: Box::new(|sheet, _| {
+                let (number, place) = told(&columns::check(sheet));
+                usize::from(number) + place
+            }),
+        });
+    }
+    searches(run);
+    let rows = every_feature();
+    let sheet = rearranged(Layout::Columns, Layout::Rows, &rows);
+    for rt in 0..2 {
+        time_sweep_in_columns(run, &sheet, rt, 1_000, sent_in_full(&rows, rt));
+    }
+}
+
+/// The search for one feature that is not there, another one each time, in rows and in columns; there is little else to these commands.
+fn searches(run: &Run) {
+    let parts: Vec<Part> = (1..=32_767).map(|half| (2 * half, 3, body(0))).collect();
+    let rows = sheet_of(&profiles(2, 1), &parts);
+    let name = "search among 32,767 features, RT 2";
+    let (mut turn, mut other_turn) = (0, 0);
+    run.time(Case {
+        name: name.to_string(),
+        input: &rows,
+        room: MOST,
+        bytes: 8,
+        pieces: None,
+        proved: Box::new(move |sheet, out| {
+            let mut numbers = [0];
+            let answer = raw::respond_accepted(sheet, &odd_one(&mut turn), out, &mut numbers);
+            usize::from(answer) + numbers[0] as usize
+        }),
+        plain: Box::new(move |sheet, out| {
+            respond_checked(sheet, &odd_one(&mut other_turn), out).unwrap_or(0)
+        }),
+    });
+    let (mut turn, mut other_turn) = (0, 0);
+    run.time(Case {
+        name: format!("{name}, in columns"),
+        input: &rearranged(Layout::Columns, Layout::Rows, &rows),
+        room: MOST,
+        bytes: 8,
+        pieces: None,
+        proved: Box::new(move |sheet, out| {
+            let mut numbers = [0];
+            let answer = raw::respond_columns_accepted(sheet, &odd_one(&mut turn), out, &mut numbers);
+            usize::from(answer) + numbers[0] as usize
+        }),
+        plain: Box::new(move |sheet, out| {
+            columns::respond_checked(sheet, &odd_one(&mut other_turn), out).unwrap_or(0)
+        }),
+    });
+}
+
+/// A command for one feature with an odd number, far from the one before.
+fn odd_one(turn: &mut u16) -> [u8; 10] {
+    *turn = turn.wrapping_add(40_502);
+    command(2, *turn | 1, 65_535)
+}
+
+/// Times a bench sweep of 65,535 features in columns that collects so many bytes.
+fn time_sweep_in_columns(run: &Run, sheet: &[u8], rt: u8, allocation: u16, bytes: usize) {
+    let (mut starts, mut other_starts) = (vec![0; 65_536], vec![0; 65_536]);
+    let room = usize::from(allocation);
+    run.time(Case {
+        name: format!("bench sweep of 65,535 features, RT {rt}, allocation length {allocation}, in columns"),
+        input: sheet,
+        room: room + bytes,
+        bytes,
+        pieces: None,
+        proved: Box::new(move |sheet, out| {
+            let (response, collected) = out.split_at_mut(room);
+            let mut numbers = [0; 3];
+            let answer =
+                raw::bench_columns(sheet, rt, allocation, response, collected, &mut starts, &mut numbers);
+            usize::from(answer) + numbers[0] as usize
+        }),
+        plain: Box::new(move |sheet, out| {
+            let (response, collected) = out.split_at_mut(room);
+            let outcome = columns::bench(sheet, rt, allocation, response, collected, &mut other_starts);
             outcome.map_or(0, |outcome| outcome.commands)
         }),
     });

@@ -1,6 +1,6 @@
-//! gcf_bench.
+//! gcf_bench and gcf_bench_columns.
 
-use super::SHEET;
+use super::{laid_as, SHEET};
 use crate::lent::{Given, Memory};
 use crate::made::damage::damage;
 use crate::made::faults::{
@@ -11,8 +11,21 @@ use crate::made::sheets::{body, every_feature, longest, profiles, random_sheet, 
 use crate::random::Random;
 use crate::run::{told, Input, Kind, Run, Told};
 use gcf::raw;
+use second::sheet::Layout;
 
-pub const KIND: Kind = Kind { name: "gcf_bench", answers, fixed, random };
+pub const ROWS: Kind = Kind {
+    name: "gcf_bench",
+    answers,
+    fixed: |run| fixed(run, Layout::Rows),
+    random: |run, made| random(run, Layout::Rows, made),
+};
+
+pub const COLUMNS: Kind = Kind {
+    name: "gcf_bench_columns",
+    answers,
+    fixed: |run| fixed(run, Layout::Columns),
+    random: |run, made| random(run, Layout::Columns, made),
+};
 
 /// The sheet's, the start's, and of a round's those that an accepted sheet's own responses can cause.
 fn answers() -> Vec<u64> {
@@ -28,20 +41,22 @@ struct Rooms {
     numbers: usize,
 }
 
-/// Compares one bench sweep.
-fn compare(run: &mut Run, sheet: &Given, rt: u8, allocation: u16, rooms: Rooms) -> Told {
-    compare_count(run, sheet, rt, allocation, rooms, |commands| commands)
+/// Compares one bench sweep of a sheet in rows, as it stands in a layout.
+fn compare(run: &mut Run, layout: Layout, sheet: &Given, rt: u8, allocation: u16, rooms: Rooms) -> Told {
+    compare_count(run, layout, sheet, rt, allocation, rooms, |commands| commands)
 }
 
 /// Compares one bench sweep, where the second program's command count is found by `count`, given that of its own sweep.
 fn compare_count(
     run: &mut Run,
+    layout: Layout,
     sheet: &Given,
     rt: u8,
     allocation: u16,
     rooms: Rooms,
     count: impl Fn(usize) -> usize,
 ) -> Told {
+    let sheet = &*laid_as(layout, sheet);
     run.compare_told(
         &[
             Input::Bytes("sheet", sheet),
@@ -56,7 +71,11 @@ fn compare_count(
             .with_second(rooms.collected)
             .with_starts(rooms.starts),
         |memory| {
-            raw::bench(
+            let proved = match layout {
+                Layout::Rows => raw::bench,
+                Layout::Columns => raw::bench_columns,
+            };
+            proved(
                 sheet.proved(),
                 rt,
                 allocation,
@@ -68,6 +87,7 @@ fn compare_count(
         },
         |memory| {
             let outcome = second::bench::bench(
+                layout,
                 sheet.plain(),
                 rt,
                 allocation,
@@ -83,16 +103,16 @@ fn compare_count(
     )
 }
 
-fn fixed(run: &mut Run) {
-    each_allocation(run);
-    each_list(run);
-    each_room(run);
-    each_two_faults(run);
-    at_the_limit(run);
+fn fixed(run: &mut Run, layout: Layout) {
+    each_allocation(run, layout);
+    each_list(run, layout);
+    each_room(run, layout);
+    each_two_faults(run, layout);
+    at_the_limit(run, layout);
 }
 
 /// The short sheets with each allocation length up to 9 above the full length, and with the longest ones.
-fn each_allocation(run: &mut Run) {
+fn each_allocation(run: &mut Run, layout: Layout) {
     for sheet in short_sheets() {
         let given = Given::new(&sheet);
         let full = length_to_send(&sheet, 0, 0);
@@ -104,14 +124,14 @@ fn each_allocation(run: &mut Run) {
                     starts: 160,
                     numbers: allocation % 5,
                 };
-                compare(run, &given, rt, allocation as u16, rooms);
+                compare(run, layout, &given, rt, allocation as u16, rooms);
             }
         }
     }
 }
 
 /// Small sheets with gaps in their numbering: the command count is the length of the shortest of all lists of starts.
-fn each_list(run: &mut Run) {
+fn each_list(run: &mut Run, layout: Layout) {
     let starts = [0, 1, 2, 3, 4, 5, 6, 7, 65_535];
     for sizes in 0..81 {
         let part = |number, flags, at| (number, flags, body(4 * (sizes / 3_usize.pow(at) % 3)));
@@ -122,7 +142,7 @@ fn each_list(run: &mut Run) {
             let rooms = Rooms { response: 8 + room, collected: 64, starts: 6, numbers: 3 };
             for rt in 0..2 {
                 let allocation = 8 + room as u16;
-                compare_count(run, &given, rt, allocation, rooms, |_| {
+                compare_count(run, layout, &given, rt, allocation, rooms, |_| {
                     second::fewest::fewest(&sheet, rt, allocation, &starts).unwrap_or(0)
                 });
             }
@@ -131,13 +151,20 @@ fn each_list(run: &mut Run) {
 }
 
 /// Sheet E with allocation length 20 and each room from none to more than enough.
-fn each_room(run: &mut Run) {
+fn each_room(run: &mut Run, layout: Layout) {
     let given = Given::new(&E);
     for starts in 0..6 {
         for collected in 0..40 {
             for response in [0, 19, 20, 21, 30] {
                 for allocation in [20, 19, 43] {
-                    compare(run, &given, 0, allocation, Rooms { response, collected, starts, numbers: 3 });
+                    compare(
+                        run,
+                        layout,
+                        &given,
+                        0,
+                        allocation,
+                        Rooms { response, collected, starts, numbers: 3 },
+                    );
                 }
             }
         }
@@ -154,7 +181,7 @@ struct Asked {
 }
 
 /// Each two faults of sheet, request and buffers. The first descriptor of the sheet has 16 bytes, the second 256.
-fn each_two_faults(run: &mut Run) {
+fn each_two_faults(run: &mut Run, layout: Layout) {
     let mut faults: Vec<Fault<Asked>> = Vec::new();
     for of_sheet in some_sheet_faults() {
         faults.push(fault_at(of_sheet.told, move |asked: &mut Asked| of_sheet.make(&mut asked.sheet)));
@@ -174,12 +201,12 @@ fn each_two_faults(run: &mut Run) {
     faults.push(fault(24, |asked: &mut Asked| asked.rooms.collected = 271));
     let rooms = Rooms { response: 264, collected: 320, starts: 9, numbers: 3 };
     let good = Asked { sheet: good_sheet(), rt: 0, allocation: 264, rooms };
-    let told = compare(run, &Given::new(&good.sheet), good.rt, good.allocation, good.rooms);
+    let told = compare(run, layout, &Given::new(&good.sheet), good.rt, good.allocation, good.rooms);
     run.expect_told(told, (0, 0));
     each_pair(&good, &faults, &mut |asked, wanted| {
         for numbers in 0..5 {
             let rooms = Rooms { numbers, ..asked.rooms };
-            let told = compare(run, &Given::new(&asked.sheet), asked.rt, asked.allocation, rooms);
+            let told = compare(run, layout, &Given::new(&asked.sheet), asked.rt, asked.allocation, rooms);
             run.expect_told(told, wanted);
         }
     });
@@ -187,32 +214,32 @@ fn each_two_faults(run: &mut Run) {
 
 /// Sweeps of every feature, with the shortest responses and with longer ones, of the longest sheet, and of both with the
 /// faults of the last entry.
-fn at_the_limit(run: &mut Run) {
+fn at_the_limit(run: &mut Run, layout: Layout) {
     let (mut every_sheet, mut long_sheet) = (every_feature(), longest());
     let every = Given::new(&every_sheet);
     let rooms = Rooms { response: 3_000, collected: 262_160, starts: 65_540, numbers: 3 };
     for (rt, allocation) in [(0, 20), (0, 1_000), (1, 3_000)] {
-        let told = compare(run, &every, rt, allocation, rooms);
+        let told = compare(run, layout, &every, rt, allocation, rooms);
         run.expect_told(told, (0, 0));
     }
-    let told = compare(run, &every, 0, 20, Rooms { starts: 20_000, ..rooms });
+    let told = compare(run, layout, &every, 0, 20, Rooms { starts: 20_000, ..rooms });
     run.expect_told(told, (25, 0));
     let long = Given::new(&long_sheet);
     let rooms = Rooms { response: 65_534, collected: 17_000_000, starts: 300, numbers: 3 };
     for rt in 0..2 {
-        let told = compare(run, &long, rt, 65_535, rooms);
+        let told = compare(run, layout, &long, rt, 65_535, rooms);
         run.expect_told(told, (0, 0));
     }
     let rooms = Rooms { response: 300, collected: 300, starts: 300, numbers: 3 };
     for sheet in [&mut every_sheet, &mut long_sheet] {
         each_last_fault(sheet, &mut |sheet, wanted| {
-            let told = compare(run, &Given::new(sheet), 0, 300, rooms);
+            let told = compare(run, layout, &Given::new(sheet), 0, 300, rooms);
             run.expect_told(told, wanted);
         });
     }
 }
 
-fn random(run: &mut Run, random: &mut Random) {
+fn random(run: &mut Run, layout: Layout, random: &mut Random) {
     let most = random.one_of(&[3, 12, 12, 60]);
     let mut sheet = random_sheet(random, most);
     if random.once_in(6) {
@@ -233,6 +260,6 @@ fn random(run: &mut Run, random: &mut Random) {
             starts: if random.once_in(4) { random.below(6) } else { 70 },
             numbers: random.below(6),
         };
-        compare(run, &given, rt, allocation, rooms);
+        compare(run, layout, &given, rt, allocation, rooms);
     }
 }

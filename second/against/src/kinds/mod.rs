@@ -7,6 +7,7 @@ mod check_image;
 mod check_profile;
 mod check_sheet;
 mod commands;
+mod convert;
 mod held;
 mod images;
 mod import;
@@ -22,16 +23,26 @@ mod respond_image_accepted;
 mod sweep_start;
 mod sweep_take;
 
+use std::borrow::Cow;
+
+use crate::lent::Given;
 use crate::run::Kind;
 use gcf::raw;
+use second::convert::rearranged;
+use second::sheet::Layout;
 use second::sweep::Record;
 use second::wire::{Feature, Profile};
 
 /// Every function.
 pub const KINDS: &[Kind] = &[
-    check_sheet::KIND,
-    respond::KIND,
-    respond_accepted::KIND,
+    check_sheet::ROWS,
+    respond::ROWS,
+    respond_accepted::ROWS,
+    check_sheet::COLUMNS,
+    respond::COLUMNS,
+    respond_accepted::COLUMNS,
+    convert::TO_COLUMNS,
+    convert::TO_ROWS,
     check_image::KIND,
     respond_image::KIND,
     respond_image_accepted::KIND,
@@ -41,13 +52,30 @@ pub const KINDS: &[Kind] = &[
     most::KIND,
     sweep_start::KIND,
     sweep_take::KIND,
-    bench::KIND,
+    bench::ROWS,
+    bench::COLUMNS,
     check_descriptors::KIND,
     check_profile::KIND,
     import::KIND,
     make_sense::KIND,
     read_sense::KIND,
 ];
+
+/// A sheet in rows, good or damaged, as it stands in a layout.
+fn laid(layout: Layout, rows: &[u8]) -> Cow<'_, [u8]> {
+    match layout {
+        Layout::Rows => Cow::Borrowed(rows),
+        Layout::Columns => Cow::Owned(rearranged(layout, Layout::Rows, rows)),
+    }
+}
+
+/// The same of two copies.
+fn laid_as(layout: Layout, rows: &Given) -> Cow<'_, Given> {
+    match layout {
+        Layout::Rows => Cow::Borrowed(rows),
+        Layout::Columns => Cow::Owned(Given::new(&laid(layout, rows.plain()))),
+    }
+}
 
 /// A record, and the place of a refusal, as the numbers of a result.
 fn fields(record: Record, place: u16) -> [u64; 8] {

@@ -1,7 +1,7 @@
 //! Responses: good ones, cut ones, and ones whose Data Length lies.
 
 use second::command::{full_length, most_bytes, send, Request};
-use second::sheet::Sheet;
+use second::sheet::{Layout, Sheet};
 use second::wire::Feature;
 
 use super::sheets::{at_edges, body, profiles, random_parts, random_sheet, sheet_of, starts_for, E};
@@ -63,7 +63,7 @@ pub fn places(parts: &[Part]) -> Vec<usize> {
 
 /// What an accepted sheet sends, by the plain side; nothing where the sheet is not accepted.
 pub fn sent(sheet: &[u8], rt: u8, sfn: u16, allocation: u16) -> Vec<u8> {
-    let sheet = match Sheet::accept(sheet) {
+    let sheet = match Sheet::accept(Layout::Rows, sheet) {
         Ok(sheet) => sheet,
         Err(_) => return Vec::new(),
     };
@@ -78,7 +78,7 @@ pub fn sent(sheet: &[u8], rt: u8, sfn: u16, allocation: u16) -> Vec<u8> {
 
 /// The length of the full response, at most the return limit; 0 where the sheet is not accepted.
 pub fn length_to_send(sheet: &[u8], rt: u8, sfn: u16) -> usize {
-    Sheet::accept(sheet).map_or(0, |sheet| full_length(sheet, rt, Feature(sfn)).min(MOST))
+    Sheet::accept(Layout::Rows, sheet).map_or(0, |sheet| full_length(sheet, rt, Feature(sfn)).min(MOST))
 }
 
 /// Complete responses to RT 0 from 0, each short enough to cut at every byte.

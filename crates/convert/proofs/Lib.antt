@@ -1,0 +1,2 @@
+-- Laws of the conversions.
+pub mod Converted

@@ -1,0 +1,77 @@
+// Reads a drive sheet from standard input and writes it in the other layout to standard output. A refusal is a line on standard error, and nothing is
+// written then. Argument: given where the sheet is in columns, so that rows are written.
+ghost use mathlib.Core.Path.{_≡_};
+ghost use Prim.Native.Nat.{_≤_};
+ghost use lib.ListN.{length};
+ghost use Rattle.io.specs.Counts.{Counts};
+ghost use Rattle.refusal.specs.First.{unless};
+ghost use Rattle.lent.specs.Maker.{outcome, refusing, making};
+ghost use Rattle.layout.specs.Layout.{stored};
+ghost use Rattle.layout.specs.Contents.{laid};
+ghost use Rattle.sheet.specs.Check.{verdict};
+use layout::Layout;
+use lent::Made;
+
+// The longest sheet that is taken, as for an answer.
+const MOST: usize = 1048576;
+
+// One byte more: an input that fills it is too long, and is not shortened.
+const ROOM: usize = MOST + 1;
+
+// The sheet laid out anew, whole: the buffer has room for it, so that 42 is never given.
+// Asks: a buffer as long as the sheet or longer; `convert_input` lends one as long as the longest sheet that is taken.
+fn laid_out(to: Layout, lay: Layout, sheet: &[u8], out: &mut [u8]) -> Made
+    requires { ⌜ length (now sheet) ≤ length (now out) ⌝ }
+    ensures { λ r. ⌜ Counts (r .count) (now (out .exit)) ⌝ }
+    ensures { λ r. ⌜ outcome r (now (out .exit)) ≡ unless (verdict (stored lay (now (sheet .entry)))) (refusing (now (out .entry)))
+        (making (laid to (stored lay (now (sheet .entry))) .bytes) (now (out .entry))) ⌝ }
+{
+    convert::convert(to, lay, sheet, out)
+}
+
+// ---- the program
+
+fn other(lay: Layout) -> Layout {
+    match lay {
+        Layout::Rows => Layout::Columns,
+        Layout::Columns => Layout::Rows,
+    }
+}
+
+// Asks: the same.
+fn convert_sheet(sheet: &[u8], out: &mut [u8])
+    requires { ⌜ length (now sheet) ≤ length (now out) ⌝ }
+{
+    let lay = told::layout_given(1);
+    let made = laid_out(other(lay), lay, sheet, out);
+    let refusal = made.refusal;
+    if refusal.number != 0 {
+        told::say_sheet_refused(refusal, lay, sheet);
+        return;
+    }
+    let count = made.count;
+    streams::say(&out[..count]);
+}
+
+// Asks: a buffer for the longest sheet that is taken; `main` lends it.
+fn convert_input(input: &mut [u8], out: &mut [u8])
+    requires { ⌜ length (now out) ≡ 1048576 ⌝ }
+{
+    let got = streams::read(input);
+    if got.failed {
+        return;
+    }
+    let count = got.count;
+    if count > MOST {
+        told::say_sheet_too_long();
+        return;
+    }
+    convert_sheet(&input[..count], out);
+}
+
+fn main() {
+    let mut input = [0u8; ROOM];
+    let mut out = [0u8; MOST];
+    convert_input(&mut input, &mut out);
+    streams::mark_end();
+}

@@ -1,0 +1,19 @@
+-- `layout::length_place` meets its contract, by the two layouts.
+use native.Mathlib.Omega.{arith}
+use Rattle.layout.specs.Layout.{lengthPlace}
+use borrow.Author.Needs.{needs}
+use Rattle.layout.proofs.length_place.Statement.{statement}
+use Rattle.layout.proofs.length_place.Tie as tie
+
+returns : tie.Need-returns
+unfolding lengthPlace
+returns c = rw (c .enum-told .given .1, lengthPlace) (omega arith)
+
+returns-2 : tie.Need-returns-2
+unfolding lengthPlace
+returns-2 c = rw (c .enum-told2 .given .1, lengthPlace) (omega arith)
+
+pub length-place-spec : {M : Type 1} → statement M
+length-place-spec =
+    tie.close
+    (tie.spec (λ c. search needs) (λ c. search needs) (λ c. search needs) (λ c. search needs) (λ c. search needs) (λ c. search needs) (λ c. search needs) (λ c. search needs) returns returns-2)
