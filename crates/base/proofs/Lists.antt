@@ -21,9 +21,6 @@ bytes-append [] ys h k i = k i
 bytes-append (x ∷ xs) ys h k zero = h 0
 bytes-append (x ∷ xs) ys h k (suc i) = bytes-append xs ys (λ j. h (suc j)) k i
 
-pub bytes-two : (a b : ℕ) → a < 256 → b < 256 → Bytes (a ∷ b ∷ [])
-bytes-two a b h k = bytes-append (a ∷ []) (b ∷ []) (bytes-one a h) (bytes-one b k)
-
 pub bytes-drop : (n : ℕ) (s : List ℕ) → Bytes s → Bytes (drop n s)
 bytes-drop n s h i = rw getD-drop (h (n + i))
 

@@ -10,7 +10,7 @@ use Rattle.base.proofs.Lists.{drop-behind}
 use Rattle.fields.specs.Field.{field, spell}
 use Rattle.fields.proofs.Laws.{length-spell, field-here}
 use Rattle.refusal.specs.declared.Refusal.{Refusal}
-use Rattle.refusal.specs.First.{refuse, accept, placed}
+use Rattle.refusal.specs.First.{accept, placed}
 use Rattle.text.specs.Drive.{Desc, Listed, Drive}
 use Rattle.text.specs.Response.{bytes, feature0, selected, currentProfile, header, dataLength, full, sent}
 use Rattle.text.specs.Reading.{statedProfile, statedEnd, readFault}

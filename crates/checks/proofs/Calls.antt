@@ -23,9 +23,6 @@ pub call-false : (a b : Bool) → a ≡ b → a ≡ false → b ≡ false
 call-false a b e h = sym e ∙ h
 
 -- a number, compared
-pub call-eq : (r a k : ℕ) → r ≡ a → r ≡ k → eqb a k ≡ true
-call-eq r a k e h = eq-eqb a k (sym e ∙ h)
-
 pub call-ne : (r a k : ℕ) → r ≡ a → (r ≡ k → ⊥) → eqb a k ≡ false
 call-ne r a k e h = ne-eqb a k (λ z. h (e ∙ z))
 

@@ -11,3 +11,4 @@ pub mod Words
 pub mod Reserved
 pub mod Lowest
 pub mod Resumed
+pub mod Lines

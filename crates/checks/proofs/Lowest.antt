@@ -1,12 +1,12 @@
 -- The feature that a judgement names is the lowest that is missing, and where it names none nothing is. Assumes nothing.
-use borrow.Author.Tests.{leb-true, eqb-true, eq-eqb}
+use borrow.Author.Tests.{ltb-true, eqb-true, eq-eqb}
 use mathlib.Core.Path.{_≡_, refl, sym, ap, subst, _∙_}
 use mathlib.Core.Bool.{Bool, true, false, not, _&&_, _||_, true≢false}
 use mathlib.Core.List.{List, [], _∷_}
 use Prim.Native.Nat.{ℕ, zero, suc, _≤_}
-use native.Mathlib.Nat.{le-refl}
+use native.Mathlib.Nat.{le-refl, le-of-lt}
 use native.Mathlib.Omega.{arith}
-use lib.Dec.{eqb, leb}
+use lib.Dec.{ltb, eqb}
 use Rattle.refusal.specs.First.{accept}
 use Rattle.base.specs.Lists.{All}
 use Rattle.base.proofs.Lists.{all-map}
@@ -33,12 +33,12 @@ every-all test [] e = tt
 every-all test (n ∷ ns) e = let a = and-true (test n) (every test ns) e in (a .0, every-all test ns (a .1))
 
 -- the lines of one profile ascend
-abbrev pub notAbove : Need → Need → Bool
-notAbove m n = not (eqb (m .0 .0) (n .0 .0)) || leb (m .1 .0) (n .1 .0)
+abbrev pub under : Need → Need → Bool
+under m n = not (eqb (m .0 .0) (n .0 .0)) || ltb (m .1 .0) (n .1 .0)
 
 abbrev pub ascends : List Need → Bool
 ascends [] = true
-ascends (n ∷ ns) = every (notAbove n) ns && ascends ns
+ascends (n ∷ ns) = every (under n) ns && ascends ns
 
 pub required-ascends : ascends required ≡ true
 unfolding required
@@ -54,13 +54,13 @@ module _ (p : ℕ) (ds : List Desc) where
   lacks-profile n h = eqb-true _ _ (and-true _ _ h .0)
 
   -- in a list of lines that ascend, below one that is not met there is none
-  above : (m : Need) (ns : List Need) → every (notAbove m) ns ≡ true → lacks p ds m ≡ true → All (NotBelow (m .1 .0)) ns
-  above m ns e h = all-map (λ n. notAbove m n ≡ true) (NotBelow (m .1 .0)) step ns (every-all (notAbove m) ns e)
+  above : (m : Need) (ns : List Need) → every (under m) ns ≡ true → lacks p ds m ≡ true → All (NotBelow (m .1 .0)) ns
+  above m ns e h = all-map (λ n. under m n ≡ true) (NotBelow (m .1 .0)) step ns (every-all (under m) ns e)
     where
-      step : (n : Need) → notAbove m n ≡ true → NotBelow (m .1 .0) n
+      step : (n : Need) → under m n ≡ true → NotBelow (m .1 .0) n
       step n a k =
           let q : eqb (m .0 .0) (n .0 .0) ≡ true = eq-eqb _ _ (lacks-profile m h ∙ sym (lacks-profile n k)) in
-          leb-true _ _ (rw q at a)
+          le-of-lt (ltb-true _ _ (rw q at a))
 
   abbrev first : List Need → Said
   first ns = pick (lacks p ds) (λ n. says accept false (n .1 .0 ∷ [])) (says accept true []) ns
@@ -81,7 +81,7 @@ module _ (p : ℕ) (ds : List Desc) where
     pub missing : some (named f) ns ≡ true
     pub lowest : All (NotBelow f) ns
 
-  least-here : (n : Need) (ns : List Need) → every (notAbove n) ns ≡ true → lacks p ds n ≡ true → Least (n .1 .0) (n ∷ ns)
+  least-here : (n : Need) (ns : List Need) → every (under n) ns ≡ true → lacks p ds n ≡ true → Least (n .1 .0) (n ∷ ns)
   least-here n ns a h =
       record {
         missing = pick-here (named (n .1 .0)) _ _ n ns (true-and _ _ h (eq-eqb (n .1 .0) (n .1 .0) refl));
@@ -99,10 +99,10 @@ module _ (p : ℕ) (ds : List Desc) where
   unfolding pick
   first-least f [] a e = absurd (true≢false (ap (λ (x : Said). x .conforms) e))
   first-least f (n ∷ ns) a e =
-      let b = and-true (every (notAbove n) ns) (ascends ns) a in
+      let b = and-true (every (under n) ns) (ascends ns) a in
       go (lacks p ds n) refl (b .0) (first-least f ns (b .1))
     where
-      go : (t : Bool) → lacks p ds n ≡ t → every (notAbove n) ns ≡ true → (first ns ≡ says accept false (f ∷ []) → Least f ns) → Least f (n ∷ ns)
+      go : (t : Bool) → lacks p ds n ≡ t → every (under n) ns ≡ true → (first ns ≡ says accept false (f ∷ []) → Least f ns) → Least f (n ∷ ns)
       go true h b more =
           let m : (n .1 .0 ∷ []) ≡ (f ∷ []) = ap (λ (x : Said). x .missing) (sym (pick-here (lacks p ds) _ _ n ns h) ∙ e) in
           let q : n .1 .0 ≡ f = cc in

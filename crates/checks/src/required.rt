@@ -1,12 +1,13 @@
 // The table of required features, and what a response lacks of it.
 ghost use mathlib.Core.Path.{_≡_};
+ghost use lib.ListN.{getD};
 ghost use Rattle.text.specs.Reading.{descAt};
 ghost use Rattle.reading.specs.Places.{descs};
 ghost use Rattle.reading.specs.Completed.{completeFault};
 ghost use Rattle.reading.specs.inner.Between.{from};
-ghost use Rattle.checks.specs.Required.{givesRule, gives, hasTable};
+ghost use Rattle.checks.specs.Required.{line, required, givesRule, gives, hasTable};
 ghost use Rattle.checks.specs.Judge.{said, lowest};
-ghost use Rattle.checks.specs.inner.Resumed.{notBelow, leftFor, lacksFirst};
+ghost use Rattle.checks.specs.inner.Resumed.{asksNothing, numbered, behind, stepHere, stepFrom, stepFor};
 use super::Judgement;
 use text::Feature;
 use text::Header;
@@ -16,38 +17,52 @@ use text::Profile;
 // and the bits that must be set there.
 pub struct Need(pub Profile, pub Feature, pub u8, pub u8, pub u8);
 
+// A step of the walk over the descriptors: for the next line it goes on at a place, or the response lacks what the line asks for.
+pub enum Step {
+    On(usize),
+    Lacking,
+}
+
 // Logical units not conforming to a standard profile.
 const NON_STANDARD: Profile = Profile(0xFFFF);
 
 const DVD_RAM: Profile = Profile(0x0012);
 
-// The lines of a profile ascend. Of 0010h the Page Present bit, bit 0 of byte 10, is asked for.
-const REQUIRED: [Need; 15] = [
-    Need(NON_STANDARD, Feature(0x0000), 0, 0, 0),
-    Need(NON_STANDARD, Feature(0x0001), 0, 0, 0),
-    Need(DVD_RAM, Feature(0x0000), 0, 0, 0),
-    Need(DVD_RAM, Feature(0x0001), 0, 0, 0),
-    Need(DVD_RAM, Feature(0x0002), 0, 0, 0),
-    Need(DVD_RAM, Feature(0x0003), 0, 0, 0),
-    Need(DVD_RAM, Feature(0x0010), 8, 6, 0x01),
-    Need(DVD_RAM, Feature(0x001F), 0, 0, 0),
-    Need(DVD_RAM, Feature(0x0020), 0, 0, 0),
-    Need(DVD_RAM, Feature(0x0023), 0, 0, 0),
-    Need(DVD_RAM, Feature(0x0024), 0, 0, 0),
-    Need(DVD_RAM, Feature(0x0100), 0, 0, 0),
-    Need(DVD_RAM, Feature(0x0101), 0, 0, 0),
-    Need(DVD_RAM, Feature(0x0105), 0, 0, 0),
-    Need(DVD_RAM, Feature(0x0107), 0, 0, 0),
-];
+// How many lines the table has.
+const LINES: usize = 15;
 
-// Whether there is a table for the profile.
+// A line of the table; behind the last one that one again. The lines of a profile ascend. Of 0010h the Page Present bit, bit 0 of byte 10, is asked for.
+// Each arm is numbers only, so that the compiler makes read-only data of them.
+fn need_at(i: usize) -> Need
+    ensures { λ r. ⌜ r ≡ getD required i (line 0x0012 0x0107) ⌝ }
+{
+    match i {
+        0 => Need(NON_STANDARD, Feature(0x0000), 0, 0, 0),
+        1 => Need(NON_STANDARD, Feature(0x0001), 0, 0, 0),
+        2 => Need(DVD_RAM, Feature(0x0000), 0, 0, 0),
+        3 => Need(DVD_RAM, Feature(0x0001), 0, 0, 0),
+        4 => Need(DVD_RAM, Feature(0x0002), 0, 0, 0),
+        5 => Need(DVD_RAM, Feature(0x0003), 0, 0, 0),
+        6 => Need(DVD_RAM, Feature(0x0010), 8, 6, 0x01),
+        7 => Need(DVD_RAM, Feature(0x001F), 0, 0, 0),
+        8 => Need(DVD_RAM, Feature(0x0020), 0, 0, 0),
+        9 => Need(DVD_RAM, Feature(0x0023), 0, 0, 0),
+        10 => Need(DVD_RAM, Feature(0x0024), 0, 0, 0),
+        11 => Need(DVD_RAM, Feature(0x0100), 0, 0, 0),
+        12 => Need(DVD_RAM, Feature(0x0101), 0, 0, 0),
+        13 => Need(DVD_RAM, Feature(0x0105), 0, 0, 0),
+        _ => Need(DVD_RAM, Feature(0x0107), 0, 0, 0),
+    }
+}
+
+// Whether there is a table for the profile: whether a line names it.
 pub fn has_table(profile: Profile) -> bool
     ensures { λ r. ⌜ r ≡ hasTable (profile .0) ⌝ }
 {
-    let table = REQUIRED;
     let mut i = 0;
-    while i < table.len() {
-        if table[i].0.0 == profile.0 {
+    while i < LINES {
+        let need = need_at(i);
+        if need.0.0 == profile.0 {
             return true;
         }
         i += 1;
@@ -68,54 +83,63 @@ fn gives_rule(need: Need, len: usize, byte: u8) -> bool
     kept == mask
 }
 
-// Whether the descriptor at a place is what a line asks for.
-fn gives_at(need: Need, s: &[u8], at: usize) -> bool
-    ensures { λ r. ⌜ r ≡ gives need (descAt (now (s .entry)) at) ⌝ }
+// Whether a line asks for its feature only, whatever the body is.
+fn asks_nothing(need: Need) -> bool
+    ensures { λ r. ⌜ r ≡ asksNothing need ⌝ }
 {
-    let number = reading::number_at(s, at);
+    if need.2 != 0 {
+        return false;
+    }
+    need.4 == 0
+}
+
+// Whether the descriptor at a place, whose number is at hand, is what a line asks for. Most lines need no look at the body.
+fn gives_at(need: Need, number: Feature, s: &[u8], at: usize) -> bool
+    ensures { λ r. ⌜ r ≡ gives need (numbered (number .0) (descAt (now (s .entry)) at)) ⌝ }
+{
     if number.0 != need.1.0 {
         return false;
+    }
+    if asks_nothing(need) {
+        return true;
     }
     let body = reading::body_at(s, at);
     gives_rule(need, body.len(), fields::byte(body, need.3 as usize))
 }
 
-// The place, from a place on, of the first descriptor that is not below a feature; the end where there is none.
-fn place_from(f: Feature, s: &[u8], first: usize) -> usize
-    ensures { λ r. ⌜ from (now (s .entry)) r ≡ notBelow (f .0) (from (now (s .entry)) first) ⌝ }
+// The step of a line at a descriptor whose number, not below the line's feature, is at hand.
+fn step_at(need: Need, number: Feature, s: &[u8], at: usize) -> Step
+    ensures { λ r. ⌜ behind (now (s .entry)) r ≡ stepHere need (number .0) (now (s .entry)) at ⌝ }
+{
+    if gives_at(need, number, s, at) {
+        return Step::On(reading::next_at(s, at));
+    }
+    Step::Lacking
+}
+
+// The step of a line from a place on: only the first descriptor that is not below its feature can give it.
+fn step_from(need: Need, s: &[u8], first: usize) -> Step
+    ensures { λ r. ⌜ behind (now (s .entry)) r ≡ stepFrom need (from (now (s .entry)) first) ⌝ }
 {
     let mut at = first;
     while at < s.len() {
         let number = reading::number_at(s, at);
-        if f.0 <= number.0 {
-            return at;
+        if need.1.0 <= number.0 {
+            return step_at(need, number, s, at);
         }
         at = reading::next_at(s, at);
     }
-    at
+    Step::Lacking
 }
 
-// The place where a line's descriptor stands if there is one; for the line of another profile the place itself.
-fn place_for(profile: Profile, need: Need, s: &[u8], at: usize) -> usize
-    ensures { λ r. ⌜ from (now (s .entry)) r ≡ leftFor (profile .0) need (from (now (s .entry)) at) ⌝ }
+// The step of a line; that of another profile's line stays at the place.
+fn step_for(profile: Profile, need: Need, s: &[u8], at: usize) -> Step
+    ensures { λ r. ⌜ behind (now (s .entry)) r ≡ stepFor (profile .0) need (from (now (s .entry)) at) ⌝ }
 {
     if need.0.0 != profile.0 {
-        return at;
+        return Step::On(at);
     }
-    place_from(need.1, s, at)
-}
-
-// Whether a line is the profile's and the descriptor at its place is not what it asks for.
-fn lacking(profile: Profile, need: Need, s: &[u8], at: usize) -> bool
-    ensures { λ r. ⌜ r ≡ lacksFirst (profile .0) need (from (now (s .entry)) at) ⌝ }
-{
-    if need.0.0 != profile.0 {
-        return false;
-    }
-    if s.len() <= at {
-        return true;
-    }
-    !gives_at(need, s, at)
+    step_from(need, s, at)
 }
 
 // The lowest feature that a complete response lacks of a profile. Its lines ascend, and so do the descriptors: one walk over both.
@@ -124,16 +148,15 @@ pub fn lowest_missing(profile: Profile, s: &[u8]) -> Judgement
     requires { ⌜ completeFault (now s) .number ≡ 0 ⌝ }
     ensures { λ r. ⌜ said r ≡ lowest (profile .0) (descs (now (s .entry))) ⌝ }
 {
-    let table = REQUIRED;
     let mut i = 0;
     let mut at = Header::LENGTH;
-    while i < table.len() {
-        let need = table[i];
-        at = place_for(profile, need, s, at);
-        if lacking(profile, need, s, at) {
+    while i < LINES {
+        let need = need_at(i);
+        let Step::On(next) = step_for(profile, need, s, at) else {
             let feature = need.1;
             return Judgement::Missing(feature);
-        }
+        };
+        at = next;
         i += 1;
     }
     Judgement::Conforms

@@ -1,19 +1,19 @@
 -- The answers of a conversion case by case, and that one undoes another. Names no layout. Assumes nothing.
-use mathlib.Core.Path.{_≡_, refl, sym, ap, _∙_}
-use mathlib.Core.List.{List, [], _∷_, _++_}
-use Prim.Native.Nat.{ℕ, _+_, _*_, _-_, _≤_, _<_}
+use mathlib.Core.Path.{_≡_, sym, ap, _∙_}
+use mathlib.Core.List.{List, _++_}
+use Prim.Native.Nat.{ℕ, _≤_, _<_}
 use native.Mathlib.Omega.{arith}
 use lib.ListN.{length, take, drop}
 use lib.Seq.{take-append-seam}
 use Rattle.base.specs.Lists.{Bytes}
 use Rattle.lent.specs.Wrote.{Wrote}
 use Rattle.lent.specs.declared.Made.{Made}
-use Rattle.lent.specs.Maker.{Outcome, outcome, refused, written, refusing, making, makes}
+use Rattle.lent.specs.Maker.{Outcome, outcome, refused, written, refusing, making}
 use Rattle.lent.proofs.Maker.{written-making, makes-fault, makes-short, makes-made, makes-zero}
 use Rattle.refusal.specs.declared.Refusal.{Refusal}
 use Rattle.refusal.specs.First.{refuse}
 use Rattle.layout.specs.declared.Layout.{Layout}
-use Rattle.layout.specs.Layout.{Sheet, stored, sheetSize, profilesAt}
+use Rattle.layout.specs.Layout.{Sheet, sheetSize, profilesAt}
 use Rattle.layout.specs.Contents.{laid}
 use Rattle.layout.proofs.Laid.{laid-length, laid-bytes}
 use Rattle.sheet.specs.Check.{verdict, Accepted}

@@ -9,7 +9,7 @@ use contract.Monad.{conj, fact}
 use contract.Lifetimes.{Lfts}
 use denote.Triple.Entry.{Res}
 use denote.Triple.Clauses.{Ended, closing}
-use lib.ListN.{length, getD}
+use lib.ListN.{length, getD, take, drop}
 use Rattle.base.proofs.Decided.{Contract, Stated, Call, Outcome, asked, allowed, decides, joined, _&_}
 use Rattle.base.proofs.Promise.{promises}
 use Rattle.base.specs.Lists.{each}
@@ -80,11 +80,13 @@ inside4-tied x = promises-asking (x .𝓤) (λ o e. e)
 
 -- ---- lent
 
-pub place-decided : DecidedAsking place.ended (λ M. place.clauses) (λ M. place.spec) (λ x. x .args .1 .0 + length (x .args .1 .1 .0 .now) ≤ length (x .args .0 .now)) (λ κs r. r)
+pub place-decided : DecidedAsking place.ended (λ M. place.clauses) (λ M. place.spec)
+    (λ x. (x .args .1 .0 + x .args .1 .1 .1 .1 .0 ≤ length (x .args .0 .now)) × (x .args .1 .1 .1 .0 + x .args .1 .1 .1 .1 .0 ≤ length (x .args .1 .1 .0 .now))) (λ κs r. r)
 place-decided x = decides-asking (x .𝓤) (λ o o′ p q. (same p q .0, same p q .1 & refl))
 
-pub place-tied : PromisedAsking place.ended (λ M. place.clauses) (λ M. place.spec) (λ x. x .args .1 .0 + length (x .args .1 .1 .0 .now) ≤ length (x .args .0 .now))
-    (λ x o. Wrote (x .args .0 .now) (x .args .1 .0) (x .args .1 .1 .0 .now) (o .0) (o .1 .0))
+pub place-tied : PromisedAsking place.ended (λ M. place.clauses) (λ M. place.spec)
+    (λ x. (x .args .1 .0 + x .args .1 .1 .1 .1 .0 ≤ length (x .args .0 .now)) × (x .args .1 .1 .1 .0 + x .args .1 .1 .1 .1 .0 ≤ length (x .args .1 .1 .0 .now)))
+    (λ x o. Wrote (x .args .0 .now) (x .args .1 .0) (take (x .args .1 .1 .1 .1 .0) (drop (x .args .1 .1 .1 .0) (x .args .1 .1 .0 .now))) (o .0) (o .1 .0))
 place-tied x = promises-asking (x .𝓤) (λ o e. e)
 
 pub place4-decided : DecidedAsking place4.ended (λ M. place4.clauses) (λ M. place4.spec) (λ x. (length (x .args .1 .1 .0 .now) ≡ 4) × (x .args .1 .0 + 4 ≤ length (x .args .0 .now))) (λ κs r. r)

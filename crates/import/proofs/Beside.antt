@@ -82,11 +82,9 @@ entry-head s at offset bs h =
     ∙ ap (λ (k : ℕ). take k (drop at s) ++ spell 4 offset) (sym n)
 
 -- its body is what stands behind them
-pub body-part : (s : List ℕ) (at len : ℕ) → len ≡ lengthAt s at → descAt s at .body ≡ take (at + 4 + len - (at + 4)) (drop (at + 4) s)
+pub body-part : (s : List ℕ) (at len : ℕ) → len ≡ lengthAt s at → descAt s at .body ≡ take len (drop (at + 4) s)
 unfolding descAt
-body-part s at len e =
-    let n : lengthAt s at ≡ at + 4 + len - (at + 4) = omega arith in
-    ap (λ (k : ℕ). take k (drop (at + 4) s)) n
+body-part s at len e = ap (λ (k : ℕ). take k (drop (at + 4) s)) (sym e)
 
 pub body-none : (s : List ℕ) (at len : ℕ) → len ≡ lengthAt s at → len ≡ 0 → descAt s at .body ≡ []
 unfolding descAt

@@ -42,9 +42,7 @@ fn put_body(sheet: &mut [u8], at: usize, s: &[u8], place: usize, len: usize) -> 
     if len == 0 {
         return at;
     }
-    let start = place + 4;
-    let end = start + len;
-    lent::place(sheet, at, &s[start..end])
+    lent::place(sheet, at, s, place + 4, len)
 }
 
 // ---- the sheet

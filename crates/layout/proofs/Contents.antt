@@ -1,20 +1,20 @@
 -- What is read where contents were written, and contents written from what was read: with Laws and Heads the only laws that know the layouts. Assumes nothing.
 use mathlib.Core.Path.{_≡_, refl, sym, ap, _∙_}
 use mathlib.Core.List.{List, [], _∷_, _++_, append-assoc, append-nil}
-use Prim.Native.Nat.{ℕ, zero, suc, _+_, _*_, _^_, _≤_, _<_}
+use Prim.Native.Nat.{ℕ, zero, suc, _+_, _*_, _≤_, _<_}
 use native.Mathlib.Nat.{add-assoc, zero-add}
 use native.Mathlib.Numerals.{add-one}
 use native.Mathlib.Omega.{arith}
 use lib.ListN.{length, getD, take, drop, length-append}
 use lib.Seq.{length-take-le, drop-cons}
 use Rattle.base.specs.Lists.{each, flat, Bytes, All}
-use Rattle.base.proofs.Lists.{bytes-one, bytes-append, bytes-flat, all-map, length-flat, length-each, drop-flat, flat-append, each-snoc, drop-behind, drop-inside, take-more, take-row}
+use Rattle.base.proofs.Lists.{bytes-one, bytes-append, bytes-flat, all-map, length-flat, drop-flat, flat-append, each-snoc, drop-behind, drop-inside, take-more, take-row}
 use Rattle.fields.specs.Field.{field, spell}
 use Rattle.fields.proofs.Laws.{length-spell, bytes-spell, field-here, byte-here, spell-field}
 use Rattle.layout.specs.declared.Layout.{Layout}
 use Rattle.layout.specs.declared.Layout.the-variants.{Rows, Columns}
 use Rattle.layout.specs.declared.Entry.{Entry}
-use Rattle.layout.specs.Layout.{Sheet, stored, sheetSize, featureCount, profilesAt, numberPlace, flagsPlace, lengthPlace, offsetPlace, number, flags, bodyLength, offset}
+use Rattle.layout.specs.Layout.{Sheet, sheetSize, featureCount, profilesAt, numberPlace, flagsPlace, lengthPlace, offsetPlace, number, flags, bodyLength, offset}
 use Rattle.layout.specs.Contents.{entryOf, numberBytes, flagsByte, lengthByte, offsetBytes, rowBytes, contents, entries, Fits}
 
 -- ---- lengths

@@ -1,18 +1,17 @@
 -- The head of a descriptor as one number, and what is found of an entry: with Laws and Contents the only laws that know the layouts. Assumes nothing.
-use mathlib.Core.Path.{_≡_, refl, sym, ap, _∙_}
-use mathlib.Core.List.{List, [], _∷_, _++_, append-assoc}
+use mathlib.Core.Path.{_≡_, refl}
+use mathlib.Core.List.{List}
 use Prim.Native.Nat.{ℕ, _+_, _*_, _/_, _%_, _≤_, _<_}
 use native.Mathlib.Omega.{arith}
 use lib.ListN.{length}
 use Rattle.base.specs.Lists.{Bytes}
 use Rattle.fields.specs.Field.{field, spell}
-use Rattle.fields.proofs.Laws.{field-last, field-one}
+use Rattle.fields.proofs.Laws.{field-last}
 use Rattle.layout.specs.declared.Layout.{Layout}
-use Rattle.layout.specs.declared.Layout.the-variants.{Rows, Columns}
+use Rattle.layout.specs.declared.Layout.the-variants.{Rows}
 use Rattle.layout.specs.declared.Entry.{Entry}
-use Rattle.layout.specs.Layout.{Sheet, stored, sheetSize, features, featureCount, numberPlace, flagsPlace, lengthPlace, offsetPlace, number, flags, bodyLength, offset}
+use Rattle.layout.specs.Layout.{Sheet, stored, sheetSize, features, featureCount, numberPlace, flagsPlace, lengthPlace, number, flags, bodyLength, offset}
 use Rattle.layout.specs.Contents.{entryOf, headBytes, headNumber, Fits}
-use Rattle.layout.specs.inner.Room.{Room}
 use Rattle.layout.specs.inner.Found.{foundOf}
 use Rattle.layout.proofs.Laws.{offset-inside}
 use Rattle.layout.proofs.Laid.{entry-fits}

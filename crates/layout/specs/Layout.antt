@@ -1,5 +1,5 @@
 -- Where a drive sheet's fields stand, in either layout: counts, contents, profiles, bodies. Assumes nothing: these are definitions.
-use mathlib.Core.List.{List, [], _∷_, _++_}
+use mathlib.Core.List.{List, _++_}
 use Prim.Native.Nat.{ℕ, _+_, _*_}
 use lib.ListN.{length, getD, take, drop}
 use Rattle.fields.specs.Field.{field, spell}

@@ -6,7 +6,7 @@ use native.Mathlib.Nat.{zero-add}
 use native.Mathlib.Decide.{decLe}
 use native.Mathlib.Omega.{arith}
 use lib.ListN.{length, set, take, drop, replicate, length-append, length-take, length-replicate, take-append-drop, drop-of-length-le, replicate-append-replicate}
-use lib.Seq.{sets, length-sets, sets-eq, length-take-le, take-append-seam, drop-drop}
+use lib.Seq.{sets, length-sets, sets-eq, length-take-le, take-length, take-append-seam, drop-drop}
 use Rattle.lent.specs.Wrote.{Wrote}
 use Rattle.lent.proofs.Sets.{sets-out, sets-room, sets-append, sets-left}
 
@@ -27,16 +27,16 @@ room {d} {b} {e} {at} {r} xs h w = record {
   holds = w .holds ∙ ap (sets d at) h ∙ sets-room d at xs (length d - at) (omega arith);
 }
 
--- what has room ends where the buffer ends, or before
-pub room-end : (d b xs : List ℕ) (at : ℕ) → at < length d → b ≡ take (length d - at) xs → at + length b ≤ length d
-room-end d b xs at h k = omega (arith, ap length k, length-take (length d - at) xs)
+-- and all of something is all that it has
+pub all : {d e : List ℕ} {at r : ℕ} (xs : List ℕ) → Wrote d at (take (length xs) xs) r e → Wrote d at xs r e
+all {d} {e} {at} {r} xs w = rw (← take-length xs) w
 
 -- a single element that has room
 pub stored : (d : List ℕ) (at x : ℕ) → at < length d → Wrote d at (x ∷ []) (at + 1) (set d at x)
 stored d at x h = record { next = omega arith; holds = refl }
 
 -- a block b that has room, as a copy into the part of d that it fills leaves it
-pub copied : (d b e : List ℕ) (at : ℕ) → at + length b ≤ length d → e ≡ b
+copied : (d b e : List ℕ) (at : ℕ) → at + length b ≤ length d → e ≡ b
     → Wrote d at b (at + length b) (take at d ++ (e ++ drop (at + length b - at) (drop at d)))
 copied d b e at h k =
     let n : at + length b - at ≡ length b = omega arith in
@@ -46,6 +46,10 @@ copied d b e at h k =
 pub copied-all : (n : ℕ) (d b e : List ℕ) (at : ℕ) → length b ≡ n → at + n ≤ length d → e ≡ b
     → Wrote d at b (at + n) (take at d ++ (e ++ drop (at + n - at) (drop at d)))
 copied-all n d b e at l h k = rw (← l) (copied d b e at (omega (arith, l, h)) k)
+
+-- what is written, said otherwise
+pub written-as : {d e : List ℕ} {at r : ℕ} {xs ys : List ℕ} → xs ≡ ys → Wrote d at xs r e → Wrote d at ys r e
+written-as h w = rw (← h) w
 
 -- ---- what a writing leaves
 

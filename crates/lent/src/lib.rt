@@ -3,7 +3,8 @@
 ghost use mathlib.Core.Path.{_≡_};
 ghost use mathlib.Core.List.{[], _∷_};
 ghost use Prim.Native.Nat.{_+_, _≤_};
-ghost use lib.ListN.{length, replicate};
+ghost use lib.Dec.{leb};
+ghost use lib.ListN.{length, take, drop, replicate};
 ghost use Rattle.fields.specs.Field.{spell};
 ghost use Rattle.lent.specs.Wrote.{Wrote};
 ghost use Rattle.lent.specs.Maker.{refused, written};
@@ -59,22 +60,37 @@ pub fn put2(out: &mut [u8], at: usize, v: u16) -> usize
     put(out, a, (v % 256) as u8)
 }
 
-// Puts a field of four bytes.
+// Whether so many bytes have four at an index.
+fn has4(len: usize, at: usize) -> bool
+    ensures { λ r. ⌜ r ≡ leb (at + 4) len ⌝ }
+{
+    if len < 4 {
+        return false;
+    }
+    at <= len - 4
+}
+
+// Puts a field of four bytes, all at once where there is room for them.
 pub fn put4(out: &mut [u8], at: usize, v: u32) -> usize
     ensures { λ r. ⌜ Wrote (now (out .entry)) at (spell 4 v) r (now (out .exit)) ⌝ }
 {
+    if has4(out.len(), at) {
+        return set4(out, at, v);
+    }
     let a = put2(out, at, (v / 65536) as u16);
     put2(out, a, (v % 65536) as u16)
 }
 
-// Copies a part of something else to where there is room for it.
-// Asks: room for all of the part; whoever copies has looked at the buffer's length.
-pub fn place(out: &mut [u8], at: usize, part: &[u8]) -> usize
-    requires { ⌜ at + length (now part) ≤ length (now out) ⌝ }
-    ensures { λ r. ⌜ Wrote (now (out .entry)) at (now (part .entry)) r (now (out .exit)) ⌝ }
+// Copies so many bytes of something else, from an index on, to where there is room for them. It is long, and so stays a function of its own for whoever calls
+// it: what it is told goes in registers, where a part would go through memory.
+// Asks: bytes that are there, and room for all of them; whoever copies has looked at both lengths.
+pub fn place(out: &mut [u8], at: usize, s: &[u8], from: usize, count: usize) -> usize
+    requires { ⌜ (at + count ≤ length (now out)) × (from + count ≤ length (now s)) ⌝ }
+    ensures { λ r. ⌜ Wrote (now (out .entry)) at (take count (drop from (now (s .entry)))) r (now (out .exit)) ⌝ }
 {
-    let end = at + part.len();
-    blocks::fill(part, &mut out[at..end]);
+    let end = at + count;
+    let stop = from + count;
+    blocks::fill(&s[from..stop], &mut out[at..end]);
     end
 }
 
@@ -111,8 +127,11 @@ pub fn copy(out: &mut [u8], at: usize, part: &[u8]) -> usize
     if out.len() <= at {
         return at;
     }
-    let block = fields::part(part, 0, out.len() - at);
-    place(out, at, block)
+    let room = out.len() - at;
+    if part.len() <= room {
+        return place(out, at, part, 0, part.len());
+    }
+    place(out, at, part, 0, room)
 }
 
 // Notes a sixteen-bit number in a list of them.

@@ -1,6 +1,6 @@
 -- The bytes of a sheet's entries are the bytes of its descriptors. Assumes nothing.
 use mathlib.Core.Path.{_≡_, ap}
-use mathlib.Core.List.{List, append-assoc}
+use mathlib.Core.List.{append-assoc}
 use Prim.Native.Nat.{ℕ, _+_, _<_}
 use native.Mathlib.Omega.{arith}
 use lib.ListN.{length, take, drop}

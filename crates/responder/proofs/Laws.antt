@@ -5,11 +5,13 @@ use mathlib.Core.List.{List, [], _++_, append-assoc, append-nil}
 use Prim.Native.Nat.{ℕ, zero, suc, _+_, _-_, _*_, _/_, _%_, _^_, _≤_, _<_}
 use native.Mathlib.Nat.{add-zero, add-suc}
 use native.Mathlib.Omega.{arith}
-use lib.ListN.{length, take, drop, length-take}
+use lib.Dec.{eqb}
+use lib.ListN.{length, take, drop}
 use borrow.Author.Tests.{lt-ltb, le-ltb, eq-eqb, ne-eqb}
 use Rattle.base.specs.Lists.{Bytes}
 use Rattle.fields.specs.Field.{field, spell}
-use Rattle.fields.proofs.Laws.{field-lt}
+use lib.Arith.{digits-div, digits-mod}
+use Rattle.fields.proofs.Laws.{field-lt, spell-split}
 use Rattle.lent.specs.Wrote.{Wrote}
 use Rattle.lent.proofs.Laws.{nowhere, then}
 use Rattle.text.specs.declared.Header.{Header}
@@ -19,9 +21,23 @@ use Rattle.layout.specs.declared.Found.{Found}
 use Rattle.layout.specs.Contents.{entryOf}
 use Rattle.layout.specs.inner.Found.{foundOf}
 use Rattle.layout.proofs.Heads.{found-offset, found-length, found-flags, found-head}
-use Rattle.layout.specs.Layout.{Sheet, features, profiles, number, lengthPlace, offsetPlace, flags, featureCount, bodyLength, offset, profilesIn, profilesPart}
+use Rattle.layout.specs.Layout.{Sheet, features, profiles, number, lengthPlace, offsetPlace, flags, bodyLength, offset, profilesIn}
 use Rattle.sheet.specs.Check.{endBefore}
-use Rattle.responder.specs.inner.Index.{wantedEnd, skips, descBytes, piece, wholeBytes, foundBytes, pieces, pieceSize, piecesSize, span, entriesSize, zeroBytes, zeroPart, zeroSize}
+use Rattle.responder.specs.inner.Index.{wantedEnd, skips, descOf, descBytes, piece, wholeBytes, foundBytes, pieces, pieceSize, piecesSize, span, entriesSize, zeroOf, atZero, zeroBytes, zeroPart, zeroSize}
+
+-- ---- what goes as numbers of four bytes
+
+-- the profile, behind two bytes that are 0
+pub header-words : (n p : ℕ) → p < 65536 → spell 4 n ++ spell 4 p ≡ header n p
+unfolding header spell
+header-words n p h =
+    let z : p / 65536 ≡ 0 = omega (arith, h) in
+    ap (λ (w : List ℕ). spell 4 n ++ w) (spell-split 2 2 p ∙ ap (λ (k : ℕ). spell 2 k ++ spell 2 p) z) ∙ sym (append-assoc (spell 4 n) (spell 2 0) (spell 2 p))
+
+-- feature 0's number, flags and length
+pub zero-words : (l : ℕ) (body : List ℕ) → l < 256 → spell 4 (3 * 256 + l) ++ body ≡ descOf 0 3 l body
+unfolding spell
+zero-words l body h = rw (digits-div 3 h, digits-mod 3 h) refl
 
 -- ---- one entry
 
@@ -58,11 +74,11 @@ pub whole-head : (b : List ℕ) (head body : ℕ) → head % 256 ≡ 0 → whole
 unfolding wholeBytes
 whole-head b head body e = rw e (append-nil (spell 4 head))
 
--- with one, the body that was cut out goes behind the head
-pub whole-body : (b : List ℕ) (head body : ℕ) {d e f : List ℕ} {at r r′ : ℕ} → Wrote d at (spell 4 head) r e → Wrote e r (take (body + head % 256 - body) (drop body b)) r′ f
+-- with one, the body goes behind the head
+pub whole-body : (b : List ℕ) (head body k : ℕ) {d e f : List ℕ} {at r r′ : ℕ} → k ≡ head % 256 → Wrote d at (spell 4 head) r e → Wrote e r (take k (drop body b)) r′ f
     → Wrote d at (wholeBytes b head body) r′ f
 unfolding wholeBytes
-whole-body b head body w v = let e : body + head % 256 - body ≡ head % 256 = omega arith in rw (← e) (then w v)
+whole-body b head body k h w v = rw (← h) (then w v)
 
 -- found in a sheet it is the entry's
 found-whole : (s : Sheet) (i : ℕ) → Bytes (s .bytes) → wholeBytes (s .bytes) (foundOf s i .head) (offset s i) ≡ descBytes s i
@@ -187,15 +203,21 @@ pub header-bytes : (b : List ℕ) (size : ℕ) {len profile : ℕ} {part : List 
 unfolding headerOf
 header-bytes b size p q r e = ap (λ (g : Header). header (g .data_length) (g .profile .0)) e ∙ rw (q, p, r)
 
+module _ (sfn : ℕ) (bs : List ℕ) where
+  pub zero-sent : sfn ≡ 0 → atZero sfn bs ≡ bs
+  unfolding atZero
+  zero-sent e = rw (eq-eqb sfn 0 e, atZero)
+
+  pub zero-left : (sfn ≡ 0 → ⊥) → atZero sfn bs ≡ []
+  unfolding atZero
+  zero-left e = rw (ne-eqb sfn 0 e, atZero)
+
+-- of the profiles that a sheet has
+pub zero-part : (b : List ℕ) (sfn : ℕ) {count : ℕ} {list : List ℕ} → count ≡ profiles b → list ≡ profilesIn b → atZero sfn (zeroOf count list) ≡ zeroPart b sfn
+unfolding atZero zeroPart zeroBytes
+zero-part b sfn e h = λ j. elim (eqb sfn 0) [ true ↦ zeroOf (e j) (h j) | false ↦ [] ]
+
 module _ (b : List ℕ) (sfn : ℕ) where
-  pub zero-sent : sfn ≡ 0 → zeroPart b sfn ≡ zeroBytes b
-  unfolding zeroPart
-  zero-sent e = rw (eq-eqb sfn 0 e, zeroPart)
-
-  pub zero-left : (sfn ≡ 0 → ⊥) → zeroPart b sfn ≡ []
-  unfolding zeroPart
-  zero-left e = rw (ne-eqb sfn 0 e, zeroPart)
-
   pub zero-size-sent : sfn ≡ 0 → zeroSize b sfn ≡ 4 + 4 * profiles b
   unfolding zeroSize
   zero-size-sent e = rw (eq-eqb sfn 0 e, zeroSize)

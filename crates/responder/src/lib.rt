@@ -3,6 +3,8 @@ ghost use mathlib.Core.Path.{_≡_};
 ghost use Prim.Native.Nat.{_+_, _-_, _*_, _%_, _^_, _≤_, _<_, min};
 ghost use lib.ListN.{length};
 ghost use Rattle.layout.specs.Layout.{stored};
+ghost use Rattle.layout.specs.inner.Room.{Room};
+ghost use Rattle.sheet.specs.Check.{endBefore};
 ghost use Rattle.lent.specs.Wrote.{Wrote};
 ghost use Rattle.text.specs.Response.{header};
 ghost use Rattle.lent.specs.Maker.{outcome};
@@ -10,7 +12,7 @@ ghost use Rattle.responder.specs.Answer.{answered};
 ghost use Rattle.responder.specs.Trusting.{trusting, trustingCommand};
 ghost use Rattle.responder.specs.Sized.{sized};
 ghost use Rattle.responder.specs.inner.Fitted.{Fitted};
-ghost use Rattle.responder.specs.inner.Index.{wantedEnd, skips, descOf, descBytes, piece, wholeBytes, foundBytes, pieces, pieceSize, piecesSize, span, entriesSize, zeroBytes, zeroPart, zeroSize, takenFrom, takenSize, planOf, fullBytes, limit};
+ghost use Rattle.responder.specs.inner.Index.{wantedEnd, skips, descOf, descBytes, piece, wholeBytes, foundBytes, pieces, pieceSize, piecesSize, span, entriesSize, zeroOf, atZero, zeroSize, takenFrom, takenSize, planOf, fullBytes, limit};
 use layout::Layout;
 use lent::Made;
 use text::Command;
@@ -80,14 +82,45 @@ fn difference(a: usize, b: usize) -> usize
     a - b
 }
 
-// From the offsets, with no look at the entries between.
-fn span_size(lay: Layout, s: &[u8], from: u16, to: u16) -> usize
+// Where the body before that of entry i of n ends, with no look at the sheet's end.
+// Asks: a sheet of n features that has its contents, and an index that is not behind them; `span_size` has looked.
+fn end_in(lay: Layout, s: &[u8], n: u16, i: u16) -> usize
+    requires { ⌜ Room (now s) n × (i ≤ n) ⌝ }
+    ensures { λ r. ⌜ r ≡ endBefore (stored lay (now (s .entry))) i ⌝ }
+{
+    if i == 0 {
+        return layout::bodies_at(s);
+    }
+    let last = layout::entry_in(lay, s, n, i - 1);
+    last.offset as usize + last.length as usize
+}
+
+// From the offsets of any sheet, with no look at the entries between.
+fn span_slowly(lay: Layout, s: &[u8], from: u16, to: u16) -> usize
     ensures { λ r. ⌜ (r ≡ span (stored lay (now (s .entry))) from to) × (r < 5000000000) ⌝ }
 {
     let start = sheet::end_before(lay, s, from);
     let end = sheet::end_before(lay, s, to);
-    let bodies = difference(end, start);
-    4 * difference(to as usize, from as usize) + bodies
+    4 * difference(to as usize, from as usize) + difference(end, start)
+}
+
+// The same, quickly where the sheet has its contents.
+fn span_size(lay: Layout, s: &[u8], from: u16, to: u16) -> usize
+    ensures { λ r. ⌜ (r ≡ span (stored lay (now (s .entry))) from to) × (r < 5000000000) ⌝ }
+{
+    let n = layout::feature_count(s);
+    if n < from {
+        return span_slowly(lay, s, from, to);
+    }
+    if n < to {
+        return span_slowly(lay, s, from, to);
+    }
+    if s.len() < layout::profiles_behind(n) {
+        return span_slowly(lay, s, from, to);
+    }
+    let start = end_in(lay, s, n, from);
+    let end = end_in(lay, s, n, to);
+    4 * difference(to as usize, from as usize) + difference(end, start)
 }
 
 fn entries_size(lay: Layout, s: &[u8], rt: u8, from: u16, to: u16) -> usize
@@ -193,12 +226,12 @@ fn put_whole(out: &mut [u8], at: usize, s: &[u8], head: u32, body: usize) -> usi
     if length == 0 {
         return behind;
     }
-    let end = body + length;
     // most bodies have four bytes: they go with no further look at the length
     if length == 4 {
+        let end = body + 4;
         return lent::place4(out, behind, &s[body..end]);
     }
-    lent::place(out, behind, &s[body..end])
+    lent::place(out, behind, s, body, length)
 }
 
 // Asks: the same as `put_whole`.
@@ -282,23 +315,20 @@ fn put_pieces(out: &mut [u8], at: usize, lay: Layout, s: &[u8], rt: u8, from: u1
     put_rest(out, fitting.next, lay, s, rt, fitting.i, to)
 }
 
-// Feature 0, straight from the profiles. Its fields are put here and not by `put_fields`, whose second caller would cost every command a frame of its own.
-fn put_zero(out: &mut [u8], at: usize, s: &[u8]) -> usize
-    ensures { λ r. ⌜ Wrote (now (out .entry)) at (zeroBytes (now (s .entry))) r (now (out .exit)) ⌝ }
+// Feature 0, straight from the profiles: its number, its flags, which are 3, and its length go as one number.
+fn put_zero(out: &mut [u8], at: usize, count: u16, list: &[u8]) -> usize
+    ensures { λ r. ⌜ Wrote (now (out .entry)) at (zeroOf count (now (list .entry))) r (now (out .exit)) ⌝ }
 {
-    let length = 4 * (layout::profile_count(s) as usize) % 256;
-    let body = layout::profiles_part(s);
-    let a = lent::put2(out, at, 0);
-    let b = lent::put(out, a, 3);
-    let behind = lent::put(out, b, length as u8);
-    lent::copy(out, behind, body)
+    let length = 4 * (count as usize) % 256;
+    let behind = lent::put4(out, at, 3 * 256 + length as u32);
+    lent::copy(out, behind, list)
 }
 
-fn put_zero_part(out: &mut [u8], at: usize, s: &[u8], sfn: Feature) -> usize
-    ensures { λ r. ⌜ Wrote (now (out .entry)) at (zeroPart (now (s .entry)) (sfn .0)) r (now (out .exit)) ⌝ }
+fn put_zero_part(out: &mut [u8], at: usize, sfn: Feature, count: u16, list: &[u8]) -> usize
+    ensures { λ r. ⌜ Wrote (now (out .entry)) at (atZero (sfn .0) (zeroOf count (now (list .entry)))) r (now (out .exit)) ⌝ }
 {
     if sfn.0 == 0 {
-        return put_zero(out, at, s);
+        return put_zero(out, at, count, list);
     }
     at
 }
@@ -308,8 +338,8 @@ fn put_header(out: &mut [u8], at: usize, h: Header) -> usize
 {
     let profile = h.profile;
     let a = lent::put4(out, at, h.data_length);
-    let b = lent::put2(out, a, 0);
-    lent::put2(out, b, profile.0)
+    // two bytes that are 0 stand before the profile
+    lent::put4(out, a, profile.0 as u32)
 }
 
 // Data Length with so many bytes behind the header. It has four bytes; what an accepted sheet gives always fits.
@@ -319,14 +349,16 @@ fn data_length(size: usize) -> u32
     ((size % 0x1_0000_0000 + 4) % 0x1_0000_0000) as u32
 }
 
-// The whole response that a plan takes.
+// The whole response that a plan takes. The profiles are looked for once, for the header and for feature 0.
 fn put_full(out: &mut [u8], lay: Layout, s: &[u8], rt: u8, sfn: Feature, p: Plan) -> usize
     ensures { λ r. ⌜ Wrote (now (out .entry)) 0 (fullBytes (stored lay (now (s .entry))) rt (sfn .0) p) r (now (out .exit)) ⌝ }
 {
-    let profile = profiles::current(layout::profiles_part(s));
+    let count = layout::profile_count(s);
+    let list = layout::profiles_part(s);
+    let profile = profiles::current(list);
     let header = Header::new(data_length(p.size), profile);
     let a = put_header(out, 0, header);
-    let b = put_zero_part(out, a, s, sfn);
+    let b = put_zero_part(out, a, sfn, count, list);
     put_pieces(out, b, lay, s, rt, p.from, p.to)
 }
 

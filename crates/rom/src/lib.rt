@@ -150,7 +150,10 @@ fn put_head(out: &mut [u8], image: &[u8], size: usize) -> usize
 {
     let length = less_passed(fields::get4(image, 0), image.len(), size);
     let a = lent::put4(out, 0, length);
-    lent::copy(out, a, fields::part(image, 4, 4))
+    if image.len() < Header::LENGTH {
+        return lent::copy(out, a, fields::part(image, 4, 4));
+    }
+    lent::put4(out, a, fields::inside4(image, 4))
 }
 
 // The whole response, where the first descriptor numbered sfn or higher is at a place and size bytes are wanted.

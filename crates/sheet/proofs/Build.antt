@@ -13,7 +13,6 @@ use Rattle.fields.proofs.Laws.{length-spell, bytes-spell, spell-field, field-he
 use Rattle.refusal.specs.declared.Refusal.{Refusal}
 use Rattle.text.specs.Drive.{Desc, Drive, Good, profileBytes}
 use Rattle.layout.specs.declared.Layout.{Layout}
-use Rattle.layout.specs.declared.Entry.{Entry}
 use Rattle.layout.specs.Layout.{Sheet, sheetSize, features, profiles, featureCount, profileCount, number, flags, bodyLength, offset, profilesIn, profilesPart}
 use Rattle.layout.specs.Contents.{entryOf, contents, Fits}
 use Rattle.layout.proofs.Contents.{length-contents, bytes-contents, entry-written, contents-back}

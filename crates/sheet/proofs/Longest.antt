@@ -1,7 +1,6 @@
 -- How long a sheet is: 17,039,356 bytes at most, and that length is reached. Assumes nothing.
 use mathlib.Core.Path.{_≡_, refl, ap, _∙_}
 use mathlib.Core.Bool.{false}
-use mathlib.Core.List.{List}
 use Prim.Native.Nat.{ℕ, zero, suc, _+_, _*_, _%_, _≤_, _<_}
 use native.Mathlib.Omega.{arith}
 use lib.ListN.{length, length-append, replicate, length-replicate}
@@ -16,7 +15,7 @@ use Rattle.layout.specs.Layout.{Sheet, sheetSize, featureCount, bodiesAt}
 use Rattle.layout.proofs.Contents.{length-contents}
 use Rattle.sheet.specs.Check.{endBefore, flagsRule, Accepted}
 use Rattle.sheet.specs.Facts.{Facts}
-use Rattle.sheet.specs.Meaning.{entriesOf, sheetOf, Fine}
+use Rattle.sheet.specs.Meaning.{sheetOf, Fine}
 use Rattle.sheet.proofs.Accepted.{facts, featureCount-lt, end-next}
 use Rattle.profiles.specs.Profiles.{Distinct}
 use Rattle.text.proofs.Profiles.{length-profiles}

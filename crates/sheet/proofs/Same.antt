@@ -1,6 +1,5 @@
 -- Sheets that say the same, each in its layout: the same refusal, and where it is accepted the same drive. Names no layout. Assumes nothing.
 use mathlib.Core.Path.{_≡_, refl, sym, ap, _∙_}
-use mathlib.Core.List.{List, _∷_}
 use mathlib.Core.Bool.{not}
 use Prim.Native.Nat.{ℕ, zero, suc, _+_, _*_, _-_, _≤_, _<_}
 use native.Mathlib.Omega.{arith}
@@ -12,11 +11,10 @@ use Rattle.base.proofs.Lists.{each-same}
 use Rattle.refusal.specs.declared.Refusal.{Refusal}
 use Rattle.refusal.specs.First.{refuse, accept, _if_else_, _orElse_, firstOf, placed}
 use Rattle.refusal.proofs.First.{first-same}
-use Rattle.text.specs.Drive.{Desc, Drive}
 use Rattle.profiles.specs.Profiles.{recordsFault, profilesOf}
 use Rattle.layout.specs.declared.Layout.{Layout}
 use Rattle.layout.specs.declared.Entry.{Entry}
-use Rattle.layout.specs.Layout.{Sheet, sheetSize, profiles, featureCount, profileCount, profilesAt, bodiesAt, number, flags, bodyLength, offset, profilesIn, profilesPart}
+use Rattle.layout.specs.Layout.{Sheet, sheetSize, profiles, featureCount, profilesAt, number, flags, bodyLength, offset, profilesIn, profilesPart}
 use Rattle.layout.specs.Contents.{entryOf, laid}
 use Rattle.layout.specs.Same.{SameSheet}
 use Rattle.layout.proofs.Laid.{laid-same, laid-back, laid-bytes}

@@ -13,7 +13,7 @@ use Rattle.base.proofs.Lists.{drop-behind}
 use Rattle.fields.specs.Field.{spell}
 use Rattle.fields.proofs.Laws.{length-spell, field-here, byte-here}
 use Rattle.refusal.specs.declared.Refusal.{Refusal}
-use Rattle.refusal.specs.First.{refuse, accept, _if_else_}
+use Rattle.refusal.specs.First.{accept, _if_else_}
 use Rattle.text.specs.Flags.{current}
 use Rattle.text.specs.Drive.{Desc}
 use Rattle.text.specs.Response.{bytes, headerLength}

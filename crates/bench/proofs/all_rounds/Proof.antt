@@ -1,6 +1,6 @@
 -- `bench::all_rounds` meets its contract: the loop carries the run from where it stands, the first entry and the bytes that are left, and how many of the
 -- response buffer can be dirty; a refused round, or the mark that it has ended, ends it.
-use mathlib.Core.Path.{_≡_, sym, ap, _∙_}
+use mathlib.Core.Path.{_≡_, sym, _∙_}
 use mathlib.Core.Bool.{false}
 use Prim.Native.Nat.{_-_}
 use native.Mathlib.Omega.{arith}

@@ -1,26 +1,47 @@
 -- The one walk over the lines of a profile and the descriptors of a response. Assumes nothing: these are definitions.
-use mathlib.Core.Bool.{Bool, true, false, not, _&&_}
+use mathlib.Core.Bool.{Bool, true, false, _&&_}
 use mathlib.Core.List.{List, [], _∷_}
 use Prim.Native.Nat.{ℕ}
 use lib.Dec.{ltb, eqb}
 use Rattle.text.specs.Drive.{Desc}
+use Rattle.text.specs.Reading.{descAt}
+use Rattle.reading.specs.Places.{nextAt}
+use Rattle.reading.specs.inner.Between.{from}
 use Rattle.checks.specs.declared.required.Need.{Need}
+use Rattle.checks.specs.declared.required.Step.{Step}
+use Rattle.checks.specs.declared.required.Step.the-variants.{On, Lacking}
 use Rattle.checks.specs.Required.{gives}
 
--- the descriptors from the first on that is not below feature f
-unfoldable pub notBelow : (f : ℕ) → List Desc → List Desc
-notBelow f [] = []
-notBelow f (d ∷ ds) = elim (ltb (d .number) f) [ true ↦ notBelow f ds | false ↦ d ∷ ds ]
+-- a line asks for its feature only, whatever the body is
+unfoldable pub asksNothing : Need → Bool
+asksNothing n = eqb (n .2) 0 && eqb (n .4) 0
 
--- those that are left for a line: for the line of another profile all of them
-unfoldable pub leftFor : (profile : ℕ) → Need → List Desc → List Desc
-leftFor p n ds = elim (eqb (n .0 .0) p) [ true ↦ notBelow (n .1 .0) ds | false ↦ ds ]
+-- a descriptor with this number in the place of its own
+abbrev pub numbered : ℕ → Desc → Desc
+numbered number d = record { number = number; flags = d .flags; body = d .body }
 
--- the first of them is what the line asks for
-unfoldable pub firstGives : Need → List Desc → Bool
-firstGives n [] = false
-firstGives n (d ∷ ds) = gives n d
+-- behind a line: the descriptors that are left for the next one, or that no descriptor gives it
+pub data Behind : Type 0 where
+  left : List Desc → Behind
+  lacking : Behind
 
--- a line of the profile that the first of them does not give
-unfoldable pub lacksFirst : (profile : ℕ) → Need → List Desc → Bool
-lacksFirst p n ds = eqb (n .0 .0) p && not (firstGives n ds)
+abbrev pub behind : List ℕ → Step → Behind
+behind s (On at) = left (from s at)
+behind s Lacking = lacking
+
+-- the step of a line where d is the first descriptor that is not below its feature, and ds stand behind d
+unfoldable pub stepAt : Need → (d : Desc) → List Desc → Behind
+stepAt n d ds = elim (gives n d) [ true ↦ left ds | false ↦ lacking ]
+
+-- at a place, with the number of its descriptor at hand
+abbrev pub stepHere : Need → (number : ℕ) → List ℕ → (at : ℕ) → Behind
+stepHere n number s at = stepAt n (numbered number (descAt s at)) (from s (nextAt s at))
+
+-- with all these descriptors left
+unfoldable pub stepFrom : Need → List Desc → Behind
+stepFrom n [] = lacking
+stepFrom n (d ∷ ds) = elim (ltb (d .number) (n .1 .0)) [ true ↦ stepFrom n ds | false ↦ stepAt n d ds ]
+
+-- a line of another profile passes none
+unfoldable pub stepFor : (profile : ℕ) → Need → List Desc → Behind
+stepFor p n ds = elim (eqb (n .0 .0) p) [ true ↦ stepFrom n ds | false ↦ left ds ]

@@ -1,6 +1,5 @@
 -- `convert::convert` meets its contract: the sheet's refusal, 42, or the sheet laid out anew.
 use mathlib.Core.Path.{refl}
-use native.Mathlib.Omega.{arith}
 use Rattle.layout.specs.Layout.{stored}
 use Rattle.convert.proofs.Converted.{refused-first, refused-short, laid-out, has-room}
 use borrow.Author.Needs.{needs}

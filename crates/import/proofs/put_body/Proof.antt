@@ -9,9 +9,7 @@ returns : tie.Need-returns
 returns c = rw (body-none _ _ _ (c .before .before .before .pre .0) (c .if1 .taken)) (nothing _ _)
 
 returns-2 : tie.Need-returns-2
-returns-2 c = rw (body-part _ _ _ (c .before .before .before .before .before .before .before .before .pre .0)) (c .before .before .place .ensures)
+returns-2 c = rw (body-part _ _ _ (c .before .before .before .before .before .before .before .pre .0)) (c .before .before .place .ensures)
 
 pub put-body-spec : {M : Type 1} → statement M
-put-body-spec =
-    tie.close
-    (tie.spec returns (λ c. search needs) (λ c. search needs) (λ c. search needs) (λ c. search needs) (λ c. search needs) (λ c κs. search needs) (λ c. search needs) returns-2)
+put-body-spec = tie.close (tie.spec returns (λ c. search needs) (λ c κs. search needs) (λ c. search needs) returns-2)

@@ -1,5 +1,4 @@
 -- `layout::head_in` meets its contract: in rows the head stands in one piece, in columns it is put together.
-use mathlib.Core.Path.{_∙_}
 use native.Mathlib.Omega.{arith}
 use Rattle.layout.specs.Layout.{number, flags, bodyLength}
 use Rattle.layout.specs.Contents.{entryOf, headNumber}

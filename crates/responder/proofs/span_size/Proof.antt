@@ -8,13 +8,13 @@ use Rattle.responder.proofs.span_size.Statement.{statement}
 use Rattle.responder.proofs.span_size.Tie as tie
 
 add-result : tie.Need-add-result
-add-result c = omega (arith, end-low (let a = c .before .before .before .before .before .args in stored (a .lay) (a .s .now)) (c .before .before .before .before .before .args .to) (λ i. omega (arith, c .before .before .before .before .shared-slice-known .given i)))
+add-result c = omega (arith, end-low (let a = c .before .before .before .before .before .before .before .before .before .before .args in stored (a .lay) (a .s .now)) (c .before .before .before .before .before .before .before .before .before .before .args .to) (λ i. omega (arith, c .before .before .before .before .before .before .before .before .before .shared-slice-known .given i)))
 
-returns : tie.Need-returns
+returns-4 : tie.Need-returns-4
 unfolding span
-returns c = let k = end-low (let a = c .before .before .before .before .before .args in stored (a .lay) (a .s .now)) (c .before .before .before .before .before .args .to) (λ i. omega (arith, c .before .before .before .before .shared-slice-known .given i)) in (omega arith, omega arith)
+returns-4 c = let k = end-low (let a = c .before .before .before .before .before .before .before .before .before .before .args in stored (a .lay) (a .s .now)) (c .before .before .before .before .before .before .before .before .before .before .args .to) (λ i. omega (arith, c .before .before .before .before .before .before .before .before .before .shared-slice-known .given i)) in (omega arith, omega arith)
 
 pub span-size-spec : {M : Type 1} → statement M
 span-size-spec =
     tie.close
-    (tie.spec (λ c κs. search needs) (λ c κs. search needs) (λ c κs. search needs) (λ c κs. search needs) (λ c. search needs) add-result returns)
+    (tie.spec (λ c κs. search needs) (λ c κs. search needs) (λ c. search needs) (λ c κs. search needs) (λ c. search needs) (λ c κs. search needs) (λ c κs. search needs) (λ c. search needs) (λ c κs. search needs) (λ c κs. search needs) (λ c κs. search needs) (λ c. search needs) (λ c κs. search needs) add-result returns-4)

@@ -60,9 +60,16 @@ span s from to = 4 * (to - from) + (endBefore s to - endBefore s from)
 unfoldable pub entriesSize : (rt : ℕ) (s : Sheet) (from to : ℕ) → ℕ
 entriesSize rt s from to = elim (eqb rt 1) [ true ↦ piecesSize rt s from (to - from) | false ↦ span s from to ]
 
--- feature 0, and how many bytes it is: it is sent where SFN is 0
+-- feature 0 of a list of so many profiles; and what is sent where SFN is 0
+abbrev pub zeroOf : (count : ℕ) (list : List ℕ) → List ℕ
+zeroOf count list = descOf 0 3 (4 * count % 256) list
+
+unfoldable pub atZero : (sfn : ℕ) → List ℕ → List ℕ
+atZero sfn bs = elim (eqb sfn 0) [ true ↦ bs | false ↦ [] ]
+
+-- that of a sheet, and how many bytes it is
 unfoldable pub zeroBytes : List ℕ → List ℕ
-zeroBytes b = descOf 0 3 (4 * profiles b % 256) (profilesIn b)
+zeroBytes b = zeroOf (profiles b) (profilesIn b)
 
 unfoldable pub zeroPart : (b : List ℕ) (sfn : ℕ) → List ℕ
 zeroPart b sfn = elim (eqb sfn 0) [ true ↦ zeroBytes b | false ↦ [] ]

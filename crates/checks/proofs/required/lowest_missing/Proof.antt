@@ -1,6 +1,5 @@
 -- `checks::required::lowest_missing` meets its contract: the loop carries what is left of the walk over lines and descriptors.
 use Prim.Native.Nat.{_-_}
-use mathlib.Core.Path.{refl}
 use lib.ListN.{length}
 use Rattle.reading.specs.Places.{descs}
 use Rattle.checks.specs.Required.{required}
@@ -11,27 +10,17 @@ use Rattle.checks.proofs.required.lowest_missing.Statement.{statement}
 use Rattle.checks.proofs.required.lowest_missing.Tie as tie
 
 abbrev Inv-loop : tie.InvT-loop
-Inv-loop profile s table i₀ at₀ i at = Left (profile .0) s (lowest (profile .0) (descs s)) i at
+Inv-loop profile s i₀ at₀ i at = Left (profile .0) s (lowest (profile .0) (descs s)) i at
 
 abbrev μ-loop : tie.MeasureT-loop
-μ-loop profile s table i₀ at₀ i at = length required - i
+μ-loop profile s i₀ at₀ i at = length required - i
 
 loop-holds : tie.Need-loop-holds Inv-loop μ-loop
 loop-holds c = search left-start
 
-mul-need : tie.Need-mul-need Inv-loop μ-loop
-unfolding required
-mul-need c = search needs
-
-array-copy-out-need : tie.Need-array-copy-out-need Inv-loop μ-loop
-unfolding required
-array-copy-out-need c = search needs
-
 returns : tie.Need-returns Inv-loop μ-loop
 unfolding required
-returns c =
-    left-found _ _ _ _ _ (c .before .before .before .before .before .before .loop .inv) _ _ _ (c .before .before .before .before .before .loop-test .taken) refl
-    (c .before .before .before .place-for .ensures) _ (c .before .before .lacking .ensures) (c .before .if1 .taken)
+returns c = search left-found
 
 add-i : tie.Need-add-i Inv-loop μ-loop
 unfolding required
@@ -43,9 +32,7 @@ loop-less c = search needs
 
 loop-again : tie.Need-loop-again Inv-loop μ-loop
 unfolding required
-loop-again c =
-    left-next _ _ _ _ _ (c .before .before .before .before .before .loop .inv) _ _ _ (c .before .before .before .before .loop-test .taken) refl
-    (c .before .before .place-for .ensures) _ (c .before .lacking .ensures) (c .if1 .left)
+loop-again c = search left-next
 
 returns-2 : tie.Need-returns-2 Inv-loop μ-loop
 unfolding required
@@ -54,4 +41,4 @@ returns-2 c = left-end _ _ _ _ _ (c .before .loop .inv) (c .loop-test .left)
 pub lowest-missing-spec : {M : Type 1} → statement M
 lowest-missing-spec =
     tie.close
-    (tie.spec Inv-loop μ-loop loop-holds mul-need array-copy-out-need (λ c κs. search needs) (λ c κs. search needs) returns add-i loop-less loop-again returns-2)
+    (tie.spec Inv-loop μ-loop loop-holds (λ c κs. search needs) (λ c κs. search needs) (λ c. search needs) (λ c. search needs) returns add-i loop-less loop-again returns-2)

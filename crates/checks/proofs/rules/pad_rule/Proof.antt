@@ -1,6 +1,5 @@
 -- `checks::rules::pad_rule` meets its contract.
 use Rattle.checks.proofs.Words.{pad-some, pad-none}
-use borrow.Author.Needs.{needs}
 use Rattle.checks.proofs.rules.pad_rule.Statement.{statement}
 use Rattle.checks.proofs.rules.pad_rule.Tie as tie
 

@@ -1,14 +1,13 @@
--- `lent::blocks::block64` meets its contract: four blocks, one behind the other.
+-- `lent::blocks::block64` meets its contract: two blocks, one behind the other.
 use native.Mathlib.Omega.{arith}
-use borrow.Author.Needs.{needs}
 use Rattle.lent.proofs.Copying.{same-less}
+use borrow.Author.Needs.{needs}
 use Rattle.lent.proofs.blocks.block64.Statement.{statement}
 use Rattle.lent.proofs.blocks.block64.Tie as tie
 
 returns : tie.Need-returns
-returns c = same-less _ (omega arith) (c .before .before .block164 .ensures)
+returns c = same-less _ (omega arith) (c .before .before .block322 .ensures)
 
 pub block64-spec : {M : Type 1} → statement M
 block64-spec =
-    tie.close
-    (tie.spec (λ c. search needs) (λ c. search needs) (λ c. search needs) (λ c κs. search needs) (λ c κs. search needs) (λ c κs. search needs) (λ c κs. search needs) (λ c. search needs) returns)
+    tie.close (tie.spec (λ c. search needs) (λ c κs. search needs) (λ c κs. search needs) (λ c. search needs) returns)

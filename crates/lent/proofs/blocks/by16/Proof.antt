@@ -1,35 +1,21 @@
--- `lent::blocks::by16` meets its contract: block after block, and the last 16 bytes whatever stood there.
-use Prim.Native.Nat.{_≤_, _-_}
+-- `lent::blocks::by16` meets its contract: a block, and the last 16 bytes whatever stood there.
+use Prim.Native.Nat.{_-_}
 use native.Mathlib.Omega.{arith}
-use borrow.Author.Needs.{needs}
 use lib.ListN.{length}
-use Rattle.lent.specs.inner.Same.{Same}
 use Rattle.lent.proofs.Copying.{same-start, same-less, same-end}
+use borrow.Author.Needs.{needs}
 use Rattle.lent.proofs.blocks.by16.Statement.{statement}
 use Rattle.lent.proofs.blocks.by16.Tie as tie
 
-abbrev Inv-loop : tie.InvT-loop
-Inv-loop s out₀ i₀ out i = Same s i out × (i ≤ length s)
+block16-requires : tie.Need-block16-requires
+block16-requires c κs = (same-start _ _ (c .before .before .before .pre .0), omega arith)
 
-abbrev μ-loop : tie.MeasureT-loop
-μ-loop s out₀ i₀ out i = length s - i
+block16-requires-2 : tie.Need-block16-requires-2
+block16-requires-2 c κs = (same-less (length (c .before .before .before .before .before .before .before .args .s .now) - 16) (omega arith) (c .before .before .before .block16 .ensures), omega arith)
 
-loop-holds : tie.Need-loop-holds Inv-loop μ-loop
-loop-holds c = (same-start _ _ (c .before .before .pre .0), omega arith)
-
-block-requires : tie.Need-block16-requires Inv-loop μ-loop
-block-requires c κs = (c .before .before .loop .inv .0, omega arith)
-
-loop-again : tie.Need-loop-again Inv-loop μ-loop
-loop-again c = (c .before .before .block16 .ensures, omega arith)
-
-block-requires-2 : tie.Need-block16-requires-2 Inv-loop μ-loop
-block-requires-2 c κs = (same-less (length (c .before .before .before .before .before .args .s .now) - 16) (omega arith) (c .before .before .loop .inv .0), omega arith)
-
-returns : tie.Need-returns Inv-loop μ-loop
+returns : tie.Need-returns
 returns c = same-end (omega arith) (c .before .before .block162 .ensures)
 
 pub by16-spec : {M : Type 1} → statement M
 by16-spec =
-    tie.close
-    (tie.spec Inv-loop μ-loop loop-holds (λ c. omega arith) block-requires (λ c. omega arith) (λ c. omega arith) loop-again (λ c. omega arith) block-requires-2 (λ c. search needs) returns)
+    tie.close (tie.spec block16-requires (λ c. search needs) block16-requires-2 (λ c. search needs) returns)

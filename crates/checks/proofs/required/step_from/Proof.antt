@@ -1,20 +1,20 @@
--- `checks::required::place_from` meets its contract: the loop carries what is left of the search.
+-- `checks::required::step_from` meets its contract: the loop carries what is left of the search.
 use Prim.Native.Nat.{_-_}
 use mathlib.Core.Path.{_≡_, refl}
 use lib.ListN.{length}
 use Rattle.reading.specs.inner.Between.{from}
 use Rattle.reading.proofs.Places.{from-less}
-use Rattle.checks.specs.inner.Resumed.{notBelow}
+use Rattle.checks.specs.inner.Resumed.{stepFrom}
 use Rattle.checks.proofs.Resumed.{place-found, place-next, place-end}
 use borrow.Author.Needs.{needs}
-use Rattle.checks.proofs.required.place_from.Statement.{statement}
-use Rattle.checks.proofs.required.place_from.Tie as tie
+use Rattle.checks.proofs.required.step_from.Statement.{statement}
+use Rattle.checks.proofs.required.step_from.Tie as tie
 
 abbrev Inv-loop : tie.InvT-loop
-Inv-loop f s first at₀ at = notBelow (f .0) (from s first) ≡ notBelow (f .0) (from s at)
+Inv-loop need s first at₀ at = stepFrom need (from s first) ≡ stepFrom need (from s at)
 
 abbrev μ-loop : tie.MeasureT-loop
-μ-loop f s first at₀ at = length s - at
+μ-loop need s first at₀ at = length s - at
 
 loop-holds : tie.Need-loop-holds Inv-loop μ-loop
 loop-holds c = refl
@@ -31,7 +31,7 @@ loop-again c = search place-next
 returns-2 : tie.Need-returns-2 Inv-loop μ-loop
 returns-2 c = search place-end
 
-pub place-from-spec : {M : Type 1} → statement M
-place-from-spec =
+pub step-from-spec : {M : Type 1} → statement M
+step-from-spec =
     tie.close
-    (tie.spec Inv-loop μ-loop loop-holds (λ c κs. search needs) returns (λ c κs. search needs) loop-less loop-again returns-2)
+    (tie.spec Inv-loop μ-loop loop-holds (λ c κs. search needs) (λ c κs. search needs) returns (λ c κs. search needs) loop-less loop-again returns-2)
