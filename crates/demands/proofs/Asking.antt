@@ -18,7 +18,7 @@ use Rattle.lent.specs.Wrote.{Wrote}
 use Rattle.lent.proofs.Laws.{same}
 use Rattle.profiles.specs.Profiles.{recordsFault}
 use Rattle.layout.specs.Layout.{stored}
-use Rattle.layout.specs.Contents.{entryOf, contents}
+use Rattle.layout.specs.Contents.{entryOf, headBytes, contents}
 use Rattle.layout.specs.inner.Room.{Room}
 use Rattle.layout.specs.inner.Found.{foundOf}
 use Rattle.fields.proofs.inside as inside
@@ -30,6 +30,7 @@ use Rattle.lent.proofs.set4 as set4
 use Rattle.profiles.proofs.fault as profiles-fault
 use Rattle.layout.proofs.entry_in as entry-in
 use Rattle.layout.proofs.find as find
+use Rattle.layout.proofs.put_head as put-head
 use Rattle.layout.proofs.place_row as place-row
 use Rattle.layout.proofs.put_contents as put-contents
 
@@ -126,6 +127,15 @@ find-decided x = decides-asking (x .𝓤) (λ o o′ p q. (joined p q, refl))
 pub find-tied : PromisedAsking find.ended (λ M. find.clauses) (λ M. find.spec) (λ x. Room (x .args .1 .0 .now) (x .args .1 .1 .0) × (x .args .1 .1 .1 .0 < x .args .1 .1 .0))
     (λ x o. o .0 ≡ foundOf (stored (x .args .0) (x .args .1 .0 .now)) (x .args .1 .1 .1 .0))
 find-tied x = promises-asking (x .𝓤) (λ o e. e)
+
+pub put-head-decided : DecidedAsking put-head.ended (λ M. put-head.clauses) (λ M. put-head.spec)
+    (λ x. Room (x .args .1 .1 .1 .0 .now) (x .args .1 .1 .1 .1 .0) × (x .args .1 .1 .1 .1 .1 .0 < x .args .1 .1 .1 .1 .0) × (x .args .1 .0 + 4 ≤ length (x .args .0 .now))) (λ κs r. r)
+put-head-decided x = decides-asking (x .𝓤) (λ o o′ p q. (same p q .0, same p q .1 & refl))
+
+pub put-head-tied : PromisedAsking put-head.ended (λ M. put-head.clauses) (λ M. put-head.spec)
+    (λ x. Room (x .args .1 .1 .1 .0 .now) (x .args .1 .1 .1 .1 .0) × (x .args .1 .1 .1 .1 .1 .0 < x .args .1 .1 .1 .1 .0) × (x .args .1 .0 + 4 ≤ length (x .args .0 .now)))
+    (λ x o. Wrote (x .args .0 .now) (x .args .1 .0) (headBytes (entryOf (stored (x .args .1 .1 .0) (x .args .1 .1 .1 .0 .now)) (x .args .1 .1 .1 .1 .1 .0))) (o .0) (o .1 .0))
+put-head-tied x = promises-asking (x .𝓤) (λ o e. e)
 
 pub place-row-decided : DecidedAsking place-row.ended (λ M. place-row.clauses) (λ M. place-row.spec) (λ x. (length (x .args .1 .1 .0 .now) ≡ 4) × (x .args .1 .0 + 8 ≤ length (x .args .0 .now))) (λ κs r. r)
 place-row-decided x = decides-asking (x .𝓤) (λ o o′ p q. (same p q .0, same p q .1 & refl))

@@ -18,7 +18,7 @@ use Rattle.layout.specs.Same.{SameSheet}
 use Rattle.layout.proofs.Contents.{length-contents, bytes-contents, entry-written, contents-back}
 
 -- what is read of bytes fits
-pub entry-fits : (s : Sheet) (i : ℕ) → Bytes (s .bytes) → Fits (entryOf s i)
+entry-fits : (s : Sheet) (i : ℕ) → Bytes (s .bytes) → Fits (entryOf s i)
 unfolding entryOf number flags bodyLength offset
 entry-fits s i b = record {
   number-fits = field-lt 2 (s .bytes) (numberPlace (s .layout) (featureCount s) i) b;

@@ -1,6 +1,6 @@
 -- The contents written, in either layout, and a sheet laid out anew. Assumes nothing: these are definitions.
 use mathlib.Core.List.{List, [], _∷_, _++_}
-use Prim.Native.Nat.{ℕ, _+_, _*_, _<_}
+use Prim.Native.Nat.{ℕ, _<_}
 use lib.ListN.{take, drop}
 use Rattle.base.specs.Lists.{each, flat}
 use Rattle.fields.specs.Field.{spell}
@@ -26,14 +26,10 @@ lengthByte e = e .length ∷ []
 abbrev pub offsetBytes : Entry → List ℕ
 offsetBytes e = spell 4 (e .offset)
 
--- the head, which is how a descriptor starts: number, flags and body length; and the same as one number
+-- the head, which is how a descriptor starts: number, flags and body length; and all four
 abbrev pub headBytes : Entry → List ℕ
 headBytes e = numberBytes e ++ flagsByte e ++ lengthByte e
 
-unfoldable pub headNumber : Entry → ℕ
-headNumber e = e .number .0 * 65536 + e .flags .0 * 256 + e .length
-
--- all four
 unfoldable pub rowBytes : Entry → List ℕ
 rowBytes e = numberBytes e ++ flagsByte e ++ lengthByte e ++ offsetBytes e
 

@@ -1,14 +1,14 @@
 // Where a drive sheet's fields stand, read and written: nothing above this crate knows the layout of the contents. A field behind the sheet's end reads as 0.
 ghost use mathlib.Core.Path.{_≡_};
 ghost use Prim.Native.Nat.{_+_, _*_, _≤_, _<_};
-ghost use mathlib.Core.List.{_++_};
-ghost use lib.ListN.{length};
+ghost use mathlib.Core.List.{[], _∷_, _++_};
+ghost use lib.ListN.{length, getD, take, drop};
 ghost use Rattle.fields.specs.Field.{spell};
 ghost use Rattle.fields.specs.Part.{PartOf};
 ghost use Rattle.lent.specs.Wrote.{Wrote};
 ghost use Rattle.layout.specs.Layout.{stored, features, profiles, profilesBehind, profilesIn, countsBytes, numberPlace, flagsPlace, lengthPlace, offsetPlace, number, flags, bodyLength, offset};
 ghost use Rattle.base.specs.Lists.{each, flat};
-ghost use Rattle.layout.specs.Contents.{entryOf, headNumber, rowBytes, contents};
+ghost use Rattle.layout.specs.Contents.{entryOf, headBytes, rowBytes, contents};
 ghost use Rattle.layout.specs.inner.Found.{foundOf};
 ghost use Rattle.layout.specs.inner.Piece.{pieceBytes};
 ghost use Rattle.layout.specs.inner.Room.{Room};
@@ -145,27 +145,10 @@ pub fn entry_in(lay: Layout, s: &[u8], n: u16, i: u16) -> Entry
     }
 }
 
-// The head of entry i's descriptor as one number: feature number, flags, body length.
-// Asks: the same as `entry_in`.
-fn head_in(lay: Layout, s: &[u8], n: u16, i: u16) -> u32
-    requires { ⌜ Room (now s) n × (i < n) ⌝ }
-    ensures { λ r. ⌜ r ≡ headNumber (entryOf (stored lay (now (s .entry))) i) ⌝ }
-{
-    let at = number_place(lay, n, i);
-    match lay {
-        Layout::Rows => fields::inside4(s, at),
-        Layout::Columns => {
-            let number = fields::inside2(s, at);
-            let flags = fields::inside(s, flags_place(lay, n, i));
-            let length = fields::inside(s, length_place(lay, n, i));
-            number as u32 * 65536 + flags as u32 * 256 + length as u32
-        }
-    }
-}
-
-// What a writer of descriptors wants of an entry: the head as one number, and where the offset stands.
+// What a writer of descriptors looks at before it writes: flags and body length, and where the offset stands.
 pub struct Found {
-    pub head: u32,
+    pub flags: Flags,
+    pub length: u8,
     pub place: usize,
 }
 
@@ -174,9 +157,45 @@ pub fn find(lay: Layout, s: &[u8], n: u16, i: u16) -> Found
     requires { ⌜ Room (now s) n × (i < n) ⌝ }
     ensures { λ r. ⌜ r ≡ foundOf (stored lay (now (s .entry))) i ⌝ }
 {
+    let flags = Flags(fields::inside(s, flags_place(lay, n, i)));
+    let length = fields::inside(s, length_place(lay, n, i));
     Found {
-        head: head_in(lay, s, n, i),
+        flags,
+        length,
         place: offset_place(lay, n, i),
+    }
+}
+
+// Number, flags and body length gathered from where they stand.
+// Asks: a sheet that has these bytes; `put_head` asks for all of its contents.
+fn gathered(s: &[u8], number: usize, flags: usize, len: usize) -> [u8; 4]
+    requires { ⌜ (number + 2 ≤ length (now s)) × (flags < length (now s)) × (len < length (now s)) ⌝ }
+    ensures { λ r. ⌜ r ≡ take 2 (drop number (now (s .entry))) ++ (getD (now (s .entry)) flags 0 ∷ getD (now (s .entry)) len 0 ∷ []) ⌝ }
+{
+    let mut head = [0u8; 4];
+    let end = number + 2;
+    bytes::copy(&s[number..end], &mut head[..2]);
+    head[2] = fields::inside(s, flags);
+    head[3] = fields::inside(s, len);
+    head
+}
+
+// Writes number, flags and body length of entry i of n, which is how a descriptor starts, with no look at the sheet's end or the buffer's.
+// Asks: the same as `entry_in`, and room for the four bytes; whoever writes has looked at the buffer's length.
+pub fn put_head(out: &mut [u8], at: usize, lay: Layout, s: &[u8], n: u16, i: u16) -> usize
+    requires { ⌜ Room (now s) n × (i < n) × (at + 4 ≤ length (now out)) ⌝ }
+    ensures { λ r. ⌜ Wrote (now (out .entry)) at (headBytes (entryOf (stored lay (now (s .entry))) i)) r (now (out .exit)) ⌝ }
+{
+    let number = number_place(lay, n, i);
+    match lay {
+        Layout::Rows => {
+            let end = number + 4;
+            lent::place4(out, at, &s[number..end])
+        }
+        Layout::Columns => {
+            let head = gathered(s, number, flags_place(lay, n, i), length_place(lay, n, i));
+            lent::place4(out, at, &head)
+        }
     }
 }
 

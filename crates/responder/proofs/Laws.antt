@@ -18,9 +18,9 @@ use Rattle.text.specs.declared.Header.{Header}
 use Rattle.text.specs.Response.{header, headerOf, currentProfile}
 use Rattle.profiles.specs.Profiles.{profilesOf}
 use Rattle.layout.specs.declared.Found.{Found}
-use Rattle.layout.specs.Contents.{entryOf}
+use Rattle.layout.specs.Contents.{entryOf, headBytes}
 use Rattle.layout.specs.inner.Found.{foundOf}
-use Rattle.layout.proofs.Heads.{found-offset, found-length, found-flags, found-head}
+use Rattle.layout.proofs.Heads.{found-offset}
 use Rattle.layout.specs.Layout.{Sheet, features, profiles, number, lengthPlace, offsetPlace, flags, bodyLength, offset, profilesIn}
 use Rattle.sheet.specs.Check.{endBefore}
 use Rattle.responder.specs.inner.Index.{wantedEnd, skips, descOf, descBytes, piece, wholeBytes, foundBytes, pieces, pieceSize, piecesSize, span, entriesSize, zeroOf, atZero, zeroBytes, zeroPart, zeroSize}
@@ -60,40 +60,41 @@ module _ (rt : ℕ) (s : Sheet) (i : ℕ) where
 
 -- ---- one that was found
 
-module _ (rt : ℕ) (b : List ℕ) (head body : ℕ) where
-  pub found-none : skips rt (head / 256 % 256) ≡ true → foundBytes rt b head body ≡ []
+module _ (rt : ℕ) (s : Sheet) (i f body len : ℕ) where
+  pub found-none : skips rt f ≡ true → foundBytes rt s i f body len ≡ []
   unfolding foundBytes
   found-none e = rw (e, foundBytes)
 
-  pub found-some : skips rt (head / 256 % 256) ≡ false → foundBytes rt b head body ≡ wholeBytes b head body
+  pub found-some : skips rt f ≡ false → foundBytes rt s i f body len ≡ wholeBytes s i body len
   unfolding foundBytes
   found-some e = rw (e, foundBytes)
 
--- with no body the head is all
-pub whole-head : (b : List ℕ) (head body : ℕ) → head % 256 ≡ 0 → wholeBytes b head body ≡ spell 4 head
-unfolding wholeBytes
-whole-head b head body e = rw e (append-nil (spell 4 head))
+module _ (s : Sheet) (i body len : ℕ) where
+  -- with no body the head is all
+  pub whole-head : len ≡ 0 → wholeBytes s i body len ≡ headBytes (entryOf s i)
+  unfolding wholeBytes
+  whole-head e = rw e (append-nil (headBytes (entryOf s i)))
 
--- with one, the body goes behind the head
-pub whole-body : (b : List ℕ) (head body k : ℕ) {d e f : List ℕ} {at r r′ : ℕ} → k ≡ head % 256 → Wrote d at (spell 4 head) r e → Wrote e r (take k (drop body b)) r′ f
-    → Wrote d at (wholeBytes b head body) r′ f
-unfolding wholeBytes
-whole-body b head body k h w v = rw (← h) (then w v)
+  -- with one, the body goes behind the head
+  pub whole-body : (k : ℕ) {d e f : List ℕ} {at r r′ : ℕ} → k ≡ len → Wrote d at (headBytes (entryOf s i)) r e → Wrote e r (take k (drop body (s .bytes))) r′ f
+      → Wrote d at (wholeBytes s i body len) r′ f
+  unfolding wholeBytes
+  whole-body k h w v = rw (← h) (then w v)
 
--- found in a sheet it is the entry's
-found-whole : (s : Sheet) (i : ℕ) → Bytes (s .bytes) → wholeBytes (s .bytes) (foundOf s i .head) (offset s i) ≡ descBytes s i
+-- with what the entry says of its body it is the entry's
+found-whole : (s : Sheet) (i : ℕ) → wholeBytes s i (offset s i) (bodyLength s i) ≡ descBytes s i
 unfolding wholeBytes descBytes entryOf
-found-whole s i k = rw (found-length s i k, found-head s i k)
+found-whole s i = refl
 
-found-entry : (rt : ℕ) (s : Sheet) (i : ℕ) → Bytes (s .bytes) → foundBytes rt (s .bytes) (foundOf s i .head) (offset s i) ≡ piece rt s i
-unfolding foundBytes piece
-found-entry rt s i k = λ j. elim (skips rt (found-flags s i k j)) [ true ↦ [] | false ↦ found-whole s i k j ]
+found-entry : (rt : ℕ) (s : Sheet) (i : ℕ) → foundBytes rt s i (foundOf s i .flags .0) (offset s i) (foundOf s i .length) ≡ piece rt s i
+unfolding foundBytes piece foundOf
+found-entry rt s i = λ j. elim (skips rt (flags s i)) [ true ↦ [] | false ↦ found-whole s i j ]
 
-pub found-piece : (rt : ℕ) (s : Sheet) (i : ℕ) (f : Found) (body : ℕ) → Bytes (s .bytes) → f ≡ foundOf s i → body ≡ field 4 (s .bytes) (f .place)
-    → foundBytes rt (s .bytes) (f .head) body ≡ piece rt s i
-found-piece rt s i f body k e h =
+pub found-piece : (rt : ℕ) (s : Sheet) (i : ℕ) (f : Found) (body : ℕ) → f ≡ foundOf s i → body ≡ field 4 (s .bytes) (f .place)
+    → foundBytes rt s i (f .flags .0) body (f .length) ≡ piece rt s i
+found-piece rt s i f body e h =
     let o : body ≡ offset s i = h ∙ ap (λ (f : Found). field 4 (s .bytes) (f .place)) e ∙ found-offset s i in
-    (λ j. foundBytes rt (s .bytes) (e j .head) (o j)) ∙ found-entry rt s i k
+    (λ j. foundBytes rt s i (e j .flags .0) (o j) (e j .length)) ∙ found-entry rt s i
 
 -- ---- a loop over entries, at index i from `from` on
 

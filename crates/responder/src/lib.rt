@@ -215,34 +215,53 @@ fn put_slowly(out: &mut [u8], at: usize, lay: Layout, s: &[u8], rt: u8, i: u16) 
     put_entry(out, at, lay, s, i)
 }
 
-// A descriptor from its head as one number and from where its body stands, with no look at the room.
-// Asks: room for it, and a sheet that has the body, which `put_fitting` has shown before.
-fn put_whole(out: &mut [u8], at: usize, s: &[u8], head: u32, body: usize) -> usize
-    requires { ⌜ (at + 4 + head % 256 ≤ length (now out)) × (body + head % 256 ≤ length (now s)) ⌝ }
-    ensures { λ r. ⌜ Wrote (now (out .entry)) at (wholeBytes (now (s .entry)) head body) r (now (out .exit)) ⌝ }
+// The descriptor of entry i of n from where its body stands and how long that is, with no look at the room.
+// Asks: an entry of a sheet that has its contents, room for the descriptor, and a sheet that has the body, which `put_fitting` has shown before.
+fn put_whole(
+    out: &mut [u8],
+    at: usize,
+    lay: Layout,
+    s: &[u8],
+    n: u16,
+    i: u16,
+    body: usize,
+    len: usize,
+) -> usize
+    requires { ⌜ Room (now s) n × (i < n) × (at + 4 + len ≤ length (now out)) × (body + len ≤ length (now s)) ⌝ }
+    ensures { λ r. ⌜ Wrote (now (out .entry)) at (wholeBytes (stored lay (now (s .entry))) i body len) r (now (out .exit)) ⌝ }
 {
-    let behind = lent::set4(out, at, head);
-    let length = (head % 256) as usize;
-    if length == 0 {
+    let behind = layout::put_head(out, at, lay, s, n, i);
+    if len == 0 {
         return behind;
     }
     // most bodies have four bytes: they go with no further look at the length
-    if length == 4 {
+    if len == 4 {
         let end = body + 4;
         return lent::place4(out, behind, &s[body..end]);
     }
-    lent::place(out, behind, s, body, length)
+    lent::place(out, behind, s, body, len)
 }
 
 // Asks: the same as `put_whole`.
-fn put_piece(out: &mut [u8], at: usize, s: &[u8], rt: u8, head: u32, body: usize) -> usize
-    requires { ⌜ (at + 4 + head % 256 ≤ length (now out)) × (body + head % 256 ≤ length (now s)) ⌝ }
-    ensures { λ r. ⌜ Wrote (now (out .entry)) at (foundBytes rt (now (s .entry)) head body) r (now (out .exit)) ⌝ }
+fn put_piece(
+    out: &mut [u8],
+    at: usize,
+    lay: Layout,
+    s: &[u8],
+    rt: u8,
+    n: u16,
+    i: u16,
+    flags: Flags,
+    body: usize,
+    len: usize,
+) -> usize
+    requires { ⌜ Room (now s) n × (i < n) × (at + 4 + len ≤ length (now out)) × (body + len ≤ length (now s)) ⌝ }
+    ensures { λ r. ⌜ Wrote (now (out .entry)) at (foundBytes rt (stored lay (now (s .entry))) i (flags .0) body len) r (now (out .exit)) ⌝ }
 {
-    if skipped(rt, Flags((head / 256 % 256) as u8)) {
+    if skipped(rt, flags) {
         return at;
     }
-    put_whole(out, at, s, head, body)
+    put_whole(out, at, lay, s, n, i, body, len)
 }
 
 // How far a writing of entries has come: the next entry, and where its descriptor starts.
@@ -251,7 +270,7 @@ struct Progress {
     next: usize,
 }
 
-// Entries one by one, as long as the sheet has the body and the buffer room for the descriptor; each is looked up once.
+// Entries one by one, as long as the sheet has the body and the buffer room for the descriptor.
 fn put_fitting(
     out: &mut [u8],
     at: usize,
@@ -277,15 +296,15 @@ fn put_fitting(
     }
     while i < to {
         let entry = layout::find(lay, s, n, i);
-        let length = (entry.head % 256) as usize;
-        if out.len() < next + 4 + length {
+        let len = entry.length as usize;
+        if out.len() < next + 4 + len {
             return Progress { i, next };
         }
         let body = fields::inside4(s, entry.place) as usize;
-        if s.len() < body + length {
+        if s.len() < body + len {
             return Progress { i, next };
         }
-        next = put_piece(out, next, s, rt, entry.head, body);
+        next = put_piece(out, next, lay, s, rt, n, i, entry.flags, body, len);
         i += 1;
     }
     Progress { i, next }

@@ -55,7 +55,7 @@ returns-5 : tie.Need-returns-5 Inv-loop μ-loop
 returns-5 c = let h = c .before .before .before .before .before .before .loop .inv in record { ordered = h .0; within = h .1; wrote = h .2 }
 
 put-piece-requires : tie.Need-put-piece-requires Inv-loop μ-loop
-put-piece-requires c κs = (omega arith, omega arith)
+put-piece-requires c κs = ((c .before .before .before .before .before .before .before .before .before .before .before .before .feature-count .ensures, omega arith), omega arith, omega arith, omega arith)
 
 loop-less : tie.Need-loop-less Inv-loop μ-loop
 loop-less c = one-less (c .before .before .before .before .before .before .before .before .before .loop-test .taken)
@@ -64,7 +64,7 @@ loop-again : tie.Need-loop-again Inv-loop μ-loop
 loop-again c =
     let a = c .before .before .before .before .before .before .before .before .before .before .before .before .before .before .before .before .before .before .args in
     let l = c .before .before .before .before .before .before .before .before .before .before .loop in
-    let e = found-piece (a .rt) (stored (a .lay) (a .s .now)) (l .i) _ _ (λ j. c .before .before .before .before .before .before .before .before .before .before .before .before .before .before .before .before .shared-slice-known .given j .fits) (c .before .before .before .before .before .before .before .before .find .ensures) (c .before .before .before .before .before .inside4 .ensures) in
+    let e = found-piece (a .rt) (stored (a .lay) (a .s .now)) (l .i) _ _ (c .before .before .before .before .before .before .before .before .find .ensures) (c .before .before .before .before .before .inside4 .ensures) in
     let t = one-on (l .inv .0) (c .before .before .before .before .before .before .before .before .before .loop-test .taken) in
     (t .0, t .1, rw (pieces-more (a .rt) (stored (a .lay) (a .s .now)) (a .from) (l .i) (l .inv .0), ← e) (then (l .inv .2) (c .before .before .put-piece .ensures)), inside (c .before .before .put-piece .ensures) (l .inv .3))
 

@@ -1,7 +1,7 @@
 -- The response by index of the sheet's entries: what the box's inner functions find, add up and write. Assumes nothing: these are definitions.
 use mathlib.Core.Bool.{Bool, true, false, not, _&&_}
 use mathlib.Core.List.{List, [], _∷_, _++_}
-use Prim.Native.Nat.{ℕ, zero, suc, _+_, _-_, _*_, _/_, _%_, _^_, min}
+use Prim.Native.Nat.{ℕ, zero, suc, _+_, _-_, _*_, _%_, _^_, min}
 use lib.Dec.{ltb, eqb}
 use lib.ListN.{take, drop}
 use Rattle.fields.specs.Field.{spell}
@@ -9,6 +9,7 @@ use Rattle.text.specs.Flags as text
 use Rattle.text.specs.Response.{header, currentProfile, headerLength, most}
 use Rattle.profiles.specs.Profiles.{profilesOf}
 use Rattle.layout.specs.Layout.{Sheet, profiles, featureCount, number, flags, bodyLength, offset, profilesIn, profilesPart}
+use Rattle.layout.specs.Contents.{entryOf, headBytes}
 use Rattle.sheet.specs.Check.{endBefore}
 use Rattle.sheet.specs.inner.Search.{firstFrom}
 use Rattle.responder.specs.declared.Plan.{Plan}
@@ -33,12 +34,12 @@ descBytes s i = descOf (number s i) (flags s i) (bodyLength s i) (take (bodyLeng
 unfoldable pub piece : (rt : ℕ) (s : Sheet) (i : ℕ) → List ℕ
 piece rt s i = elim (skips rt (flags s i)) [ true ↦ [] | false ↦ descBytes s i ]
 
--- the same from a descriptor's head as one number and from where its body stands
-unfoldable pub wholeBytes : (b : List ℕ) (head body : ℕ) → List ℕ
-wholeBytes b head body = spell 4 head ++ take (head % 256) (drop body b)
+-- the same with a body that stands there and is so long, whatever the entry says of it; and with these flags
+unfoldable pub wholeBytes : (s : Sheet) (i body len : ℕ) → List ℕ
+wholeBytes s i body len = headBytes (entryOf s i) ++ take len (drop body (s .bytes))
 
-unfoldable pub foundBytes : (rt : ℕ) (b : List ℕ) (head body : ℕ) → List ℕ
-foundBytes rt b head body = elim (skips rt (head / 256 % 256)) [ true ↦ [] | false ↦ wholeBytes b head body ]
+unfoldable pub foundBytes : (rt : ℕ) (s : Sheet) (i f body len : ℕ) → List ℕ
+foundBytes rt s i f body len = elim (skips rt f) [ true ↦ [] | false ↦ wholeBytes s i body len ]
 
 -- those of k entries from an index on
 unfoldable pub pieces : (rt : ℕ) (s : Sheet) (from k : ℕ) → List ℕ
