@@ -26,6 +26,10 @@ const USAGE: &str = "usage: benchmarks [--rounds N] [--milliseconds N] [--only W
   --milliseconds N   how long one timing takes at least (0.5 if not given): short, so that most are not interrupted
   --only WORDS       only the cases with these words in their names";
 
+/// Answers a command from a sheet that was accepted before: the exported function of a layout, and the plain Rust for it.
+type Proved = fn(&[u8], &[u8], &mut [u8], &mut [u64]) -> u8;
+type Plain = fn(&[u8], &[u8], &mut [u8]) -> Result<usize, u8>;
+
 /// What the command line asks for.
 struct Run {
     effort: Effort,
@@ -389,39 +393,26 @@ fn sheets_in_columns(run: &Run) {
 fn searches(run: &Run) {
     let parts: Vec<Part> = (1..=32_767).map(|half| (2 * half, 3, body(0))).collect();
     let rows = sheet_of(&profiles(2, 1), &parts);
-    let name = "search among 32,767 features, RT 2";
-    let (mut turn, mut other_turn) = (0, 0);
-    run.time(Case {
-        name: name.to_string(),
-        input: &rows,
-        room: MOST,
-        bytes: 8,
-        pieces: None,
-        proved: Box::new(move |sheet, out| {
-            let mut numbers = [0];
-            let answer = raw::respond_accepted(sheet, &odd_one(&mut turn), out, &mut numbers);
-            usize::from(answer) + numbers[0] as usize
-        }),
-        plain: Box::new(move |sheet, out| {
-            respond_checked(sheet, &odd_one(&mut other_turn), out).unwrap_or(0)
-        }),
-    });
-    let (mut turn, mut other_turn) = (0, 0);
-    run.time(Case {
-        name: format!("{name}, in columns"),
-        input: &rearranged(Layout::Columns, Layout::Rows, &rows),
-        room: MOST,
-        bytes: 8,
-        pieces: None,
-        proved: Box::new(move |sheet, out| {
-            let mut numbers = [0];
-            let answer = raw::respond_columns_accepted(sheet, &odd_one(&mut turn), out, &mut numbers);
-            usize::from(answer) + numbers[0] as usize
-        }),
-        plain: Box::new(move |sheet, out| {
-            columns::respond_checked(sheet, &odd_one(&mut other_turn), out).unwrap_or(0)
-        }),
-    });
+    let sides: [(&str, Layout, Proved, Plain); 2] = [
+        ("", Layout::Rows, raw::respond_accepted, respond_checked),
+        (", in columns", Layout::Columns, raw::respond_columns_accepted, columns::respond_checked),
+    ];
+    for (where_it_stands, layout, proved, plain) in sides {
+        let (mut turn, mut other_turn) = (0, 0);
+        run.time(Case {
+            name: format!("search among 32,767 features, RT 2{where_it_stands}"),
+            input: &rearranged(layout, Layout::Rows, &rows),
+            room: MOST,
+            bytes: 8,
+            pieces: None,
+            proved: Box::new(move |sheet, out| {
+                let mut numbers = [0];
+                let answer = proved(sheet, &odd_one(&mut turn), out, &mut numbers);
+                usize::from(answer) + numbers[0] as usize
+            }),
+            plain: Box::new(move |sheet, out| plain(sheet, &odd_one(&mut other_turn), out).unwrap_or(0)),
+        });
+    }
 }
 
 /// A command for one feature with an odd number, far from the one before.
