@@ -21,12 +21,12 @@ use Rattle.reading.specs.inner.Between.{from}
 use Rattle.reading.proofs.Places.{from-step, from-end}
 use Rattle.reading.proofs.Completed.{descs-from}
 use Rattle.checks.specs.declared.required.Need.{Need}
-use Rattle.checks.specs.declared.required.Step.{Step}
-use Rattle.checks.specs.declared.required.Step.the-variants.{On, Lacking}
+use Rattle.checks.specs.declared.required.Onward.{Onward}
+use Rattle.checks.specs.declared.required.Onward.the-variants.{On, Lacking}
 use Rattle.base.specs.Pick.{pick, some}
 use Rattle.checks.specs.Required.{required, gives, lacks}
 use Rattle.checks.specs.Judge.{Said, says, lowest}
-use Rattle.checks.specs.inner.Resumed.{Behind, left, lacking, behind, stepAt, stepHere, stepFrom, stepFor}
+use Rattle.checks.specs.inner.Resumed.{After, left, lacking, after, stepAt, stepHere, stepFrom, stepFor}
 use Rattle.checks.proofs.Bools.{and-true, and-no}
 use Rattle.base.proofs.Pick.{pick-here, pick-past}
 use Rattle.checks.proofs.Lowest.{every, every-all, under, ascends, required-ascends}
@@ -52,8 +52,8 @@ module _ (n : Need) (d : Desc) (ds : List Desc) where
   step-unmet b e t = rw (← e, t, stepAt)
 
 -- a loop over the descriptors, at a place, where w is its answer: the first that is not below the feature, a further turn, the end
-module _ (n : Need) (s : List ℕ) (w : Behind) (at : ℕ) (e : w ≡ stepFrom n (from s at)) where
-  pub place-found : (number : ℕ) (v : Behind) → at < length s → number ≡ numberAt s at → n .1 .0 ≤ number
+module _ (n : Need) (s : List ℕ) (w : After) (at : ℕ) (e : w ≡ stepFrom n (from s at)) where
+  pub place-found : (number : ℕ) (v : After) → at < length s → number ≡ numberAt s at → n .1 .0 ≤ number
       → v ≡ stepHere n number s at → v ≡ w
   unfolding descAt
   place-found number v l q h r =
@@ -99,11 +99,11 @@ module _ (n : Need) where
     asc : Asc low rest
     kept : (m : Need) → n .1 .0 < m .1 .0 → some (gives m) ds ≡ some (gives m) rest
 
-  abbrev Tells : List Desc → Behind → Type 0
+  abbrev Tells : List Desc → After → Type 0
   Tells ds (left rest) = Met ds rest
   Tells ds lacking = some (gives n) ds ≡ false
 
-  past : (d : Desc) (ds : List Desc) → d .number < n .1 .0 → (w : Behind) → Tells ds w → Tells (d ∷ ds) w
+  past : (d : Desc) (ds : List Desc) → d .number < n .1 .0 → (w : After) → Tells ds w → Tells (d ∷ ds) w
   past d ds h (left rest) o =
       record {
         given = skip n d ds (λ e. omega arith) ∙ o .given;
@@ -152,7 +152,7 @@ module _ (p : ℕ) where
     asc : Asc low rest
     kept : (m : Need) → under n m ≡ true → lacks p ds m ≡ lacks p rest m
 
-  abbrev Told : Need → List Desc → Behind → Type 0
+  abbrev Told : Need → List Desc → After → Type 0
   Told n ds (left rest) = Passed n ds rest
   Told n ds lacking = lacks p ds n ≡ true
 
@@ -167,7 +167,7 @@ module _ (p : ℕ) where
           let l : n .1 .0 < m .1 .0 = ltb-true (n .1 .0) (m .1 .0) (rw q at h) in
           rw (lacks, o .kept m l)
 
-      mine : n .0 .0 ≡ p → (w : Behind) → Tells n ds w → Told n ds w
+      mine : n .0 .0 ≡ p → (w : After) → Tells n ds w → Told n ds w
       mine t (left rest) o =
           record {
             given = rw (lacks, o .given, eq-eqb (n .0 .0) p t);
@@ -220,15 +220,15 @@ module _ (p : ℕ) where
     left-end l = sym (x .is ∙ ap (first (from s at)) (drop-of-length-le required l))
 
     -- with line i and its step v at hand
-    module _ (d n : Need) (v : Step) (l : i < length required) (q : n ≡ getD required i d) (e : behind s v ≡ stepFor p n (from s at)) where
+    module _ (d n : Need) (v : Onward) (l : i < length required) (q : n ≡ getD required i d) (e : after s v ≡ stepFor p n (from s at)) where
       line-here : drop i required ≡ n ∷ drop (suc i) required
       line-here = rw q (drop-cons required i d l)
 
       split : (every (under n) (drop (suc i) required) ≡ true) × (ascends (drop (suc i) required) ≡ true)
       split = and-true _ _ (subst (λ (ns : List Need). ascends ns ≡ true) line-here (x .lines))
 
-      told-as : (y : Step) → v ≡ y → Told n (from s at) (behind s y)
-      told-as y k = subst (Told n (from s at)) (sym e ∙ ap (behind s) k) (told n (x .lo) (from s at) (x .asc))
+      told-as : (y : Onward) → v ≡ y → Told n (from s at) (after s y)
+      told-as y k = subst (Told n (from s at)) (sym e ∙ ap (after s) k) (told n (x .lo) (from s at) (x .asc))
 
       pub left-found : v ≡ Lacking → says accept false (n .1 .0 ∷ []) ≡ w
       left-found k = sym (x .is ∙ ap (first (from s at)) line-here ∙ pick-here (lacks p (from s at)) found _ n _ (told-as Lacking k))

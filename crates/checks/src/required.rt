@@ -7,7 +7,7 @@ ghost use Rattle.reading.specs.Completed.{completeFault};
 ghost use Rattle.reading.specs.inner.Between.{from};
 ghost use Rattle.checks.specs.Required.{line, required, givesRule, gives, hasTable};
 ghost use Rattle.checks.specs.Judge.{said, lowest};
-ghost use Rattle.checks.specs.inner.Resumed.{asksNothing, numbered, behind, stepHere, stepFrom, stepFor};
+ghost use Rattle.checks.specs.inner.Resumed.{asksNothing, withNumber, after, stepHere, stepFrom, stepFor};
 use super::Judgement;
 use text::Feature;
 use text::Header;
@@ -18,7 +18,7 @@ use text::Profile;
 pub struct Need(pub Profile, pub Feature, pub u8, pub u8, pub u8);
 
 // A step of the walk over the descriptors: for the next line it goes on at a place, or the response lacks what the line asks for.
-pub enum Step {
+pub enum Onward {
     On(usize),
     Lacking,
 }
@@ -95,7 +95,7 @@ fn asks_nothing(need: Need) -> bool
 
 // Whether the descriptor at a place, whose number is at hand, is what a line asks for. Most lines need no look at the body.
 fn gives_at(need: Need, number: Feature, s: &[u8], at: usize) -> bool
-    ensures { λ r. ⌜ r ≡ gives need (numbered (number .0) (descAt (now (s .entry)) at)) ⌝ }
+    ensures { λ r. ⌜ r ≡ gives need (withNumber (number .0) (descAt (now (s .entry)) at)) ⌝ }
 {
     if number.0 != need.1.0 {
         return false;
@@ -108,18 +108,18 @@ fn gives_at(need: Need, number: Feature, s: &[u8], at: usize) -> bool
 }
 
 // The step of a line at a descriptor whose number, not below the line's feature, is at hand.
-fn step_at(need: Need, number: Feature, s: &[u8], at: usize) -> Step
-    ensures { λ r. ⌜ behind (now (s .entry)) r ≡ stepHere need (number .0) (now (s .entry)) at ⌝ }
+fn step_at(need: Need, number: Feature, s: &[u8], at: usize) -> Onward
+    ensures { λ r. ⌜ after (now (s .entry)) r ≡ stepHere need (number .0) (now (s .entry)) at ⌝ }
 {
     if gives_at(need, number, s, at) {
-        return Step::On(reading::next_at(s, at));
+        return Onward::On(reading::next_at(s, at));
     }
-    Step::Lacking
+    Onward::Lacking
 }
 
 // The step of a line from a place on: only the first descriptor that is not below its feature can give it.
-fn step_from(need: Need, s: &[u8], first: usize) -> Step
-    ensures { λ r. ⌜ behind (now (s .entry)) r ≡ stepFrom need (from (now (s .entry)) first) ⌝ }
+fn step_from(need: Need, s: &[u8], first: usize) -> Onward
+    ensures { λ r. ⌜ after (now (s .entry)) r ≡ stepFrom need (from (now (s .entry)) first) ⌝ }
 {
     let mut at = first;
     while at < s.len() {
@@ -129,15 +129,15 @@ fn step_from(need: Need, s: &[u8], first: usize) -> Step
         }
         at = reading::next_at(s, at);
     }
-    Step::Lacking
+    Onward::Lacking
 }
 
 // The step of a line; that of another profile's line stays at the place.
-fn step_for(profile: Profile, need: Need, s: &[u8], at: usize) -> Step
-    ensures { λ r. ⌜ behind (now (s .entry)) r ≡ stepFor (profile .0) need (from (now (s .entry)) at) ⌝ }
+fn step_for(profile: Profile, need: Need, s: &[u8], at: usize) -> Onward
+    ensures { λ r. ⌜ after (now (s .entry)) r ≡ stepFor (profile .0) need (from (now (s .entry)) at) ⌝ }
 {
     if need.0.0 != profile.0 {
-        return Step::On(at);
+        return Onward::On(at);
     }
     step_from(need, s, at)
 }
@@ -152,7 +152,7 @@ pub fn lowest_missing(profile: Profile, s: &[u8]) -> Judgement
     let mut at = Header::LENGTH;
     while i < LINES {
         let need = need_at(i);
-        let Step::On(next) = step_for(profile, need, s, at) else {
+        let Onward::On(next) = step_for(profile, need, s, at) else {
             let feature = need.1;
             return Judgement::Missing(feature);
         };

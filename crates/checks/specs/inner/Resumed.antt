@@ -8,8 +8,8 @@ use Rattle.text.specs.Reading.{descAt}
 use Rattle.reading.specs.Places.{nextAt}
 use Rattle.reading.specs.inner.Between.{from}
 use Rattle.checks.specs.declared.required.Need.{Need}
-use Rattle.checks.specs.declared.required.Step.{Step}
-use Rattle.checks.specs.declared.required.Step.the-variants.{On, Lacking}
+use Rattle.checks.specs.declared.required.Onward.{Onward}
+use Rattle.checks.specs.declared.required.Onward.the-variants.{On, Lacking}
 use Rattle.checks.specs.Required.{gives}
 
 -- a line asks for its feature only, whatever the body is
@@ -17,31 +17,31 @@ unfoldable pub asksNothing : Need → Bool
 asksNothing n = eqb (n .2) 0 && eqb (n .4) 0
 
 -- a descriptor with this number in the place of its own
-abbrev pub numbered : ℕ → Desc → Desc
-numbered number d = record { number = number; flags = d .flags; body = d .body }
+abbrev pub withNumber : ℕ → Desc → Desc
+withNumber number d = record { number = number; flags = d .flags; body = d .body }
 
 -- behind a line: the descriptors that are left for the next one, or that no descriptor gives it
-pub data Behind : Type 0 where
-  left : List Desc → Behind
-  lacking : Behind
+pub data After : Type 0 where
+  left : List Desc → After
+  lacking : After
 
-abbrev pub behind : List ℕ → Step → Behind
-behind s (On at) = left (from s at)
-behind s Lacking = lacking
+abbrev pub after : List ℕ → Onward → After
+after s (On at) = left (from s at)
+after s Lacking = lacking
 
 -- the step of a line where d is the first descriptor that is not below its feature, and ds stand behind d
-unfoldable pub stepAt : Need → (d : Desc) → List Desc → Behind
+unfoldable pub stepAt : Need → (d : Desc) → List Desc → After
 stepAt n d ds = elim (gives n d) [ true ↦ left ds | false ↦ lacking ]
 
 -- at a place, with the number of its descriptor at hand
-abbrev pub stepHere : Need → (number : ℕ) → List ℕ → (at : ℕ) → Behind
-stepHere n number s at = stepAt n (numbered number (descAt s at)) (from s (nextAt s at))
+abbrev pub stepHere : Need → (number : ℕ) → List ℕ → (at : ℕ) → After
+stepHere n number s at = stepAt n (withNumber number (descAt s at)) (from s (nextAt s at))
 
 -- with all these descriptors left
-unfoldable pub stepFrom : Need → List Desc → Behind
+unfoldable pub stepFrom : Need → List Desc → After
 stepFrom n [] = lacking
 stepFrom n (d ∷ ds) = elim (ltb (d .number) (n .1 .0)) [ true ↦ stepFrom n ds | false ↦ stepAt n d ds ]
 
 -- a line of another profile passes none
-unfoldable pub stepFor : (profile : ℕ) → Need → List Desc → Behind
+unfoldable pub stepFor : (profile : ℕ) → Need → List Desc → After
 stepFor p n ds = elim (eqb (n .0 .0) p) [ true ↦ stepFrom n ds | false ↦ left ds ]
