@@ -18,13 +18,11 @@ const MOST: usize = 1048576;
 // One byte more: an input that fills it is too long, and is not shortened.
 const ROOM: usize = MOST + 1;
 
-// The sheet laid out anew, whole: the buffer has room for it, so that 42 is never given.
-// Asks: a buffer as long as the sheet or longer; `convert_input` lends one as long as the longest sheet that is taken.
+// The sheet laid out anew, whole where the buffer is as long as the sheet: no sheet that is taken is longer, so that 42 is never given.
 fn laid_out(to: Layout, lay: Layout, sheet: &[u8], out: &mut [u8]) -> Made
-    requires { ⌜ length (now sheet) ≤ length (now out) ⌝ }
     ensures { λ r. ⌜ Counts (r .count) (now (out .exit)) ⌝ }
-    ensures { λ r. ⌜ outcome r (now (out .exit)) ≡ unless (verdict (stored lay (now (sheet .entry)))) (refusing (now (out .entry)))
-        (making (laid to (stored lay (now (sheet .entry))) .bytes) (now (out .entry))) ⌝ }
+    ensures { λ r. ⌜ (length (now (sheet .entry)) ≤ length (now (out .entry)) → outcome r (now (out .exit)) ≡ unless (verdict (stored lay (now (sheet .entry)))) (refusing (now (out .entry)))
+        (making (laid to (stored lay (now (sheet .entry))) .bytes) (now (out .entry)))) ⌝ }
 {
     convert::convert(to, lay, sheet, out)
 }
@@ -38,10 +36,7 @@ fn other(lay: Layout) -> Layout {
     }
 }
 
-// Asks: the same.
-fn convert_sheet(sheet: &[u8], out: &mut [u8])
-    requires { ⌜ length (now sheet) ≤ length (now out) ⌝ }
-{
+fn convert_sheet(sheet: &[u8], out: &mut [u8]) {
     let lay = told::layout_given(1);
     let made = laid_out(other(lay), lay, sheet, out);
     let refusal = made.refusal;
@@ -53,10 +48,7 @@ fn convert_sheet(sheet: &[u8], out: &mut [u8])
     streams::say(&out[..count]);
 }
 
-// Asks: a buffer for the longest sheet that is taken; `main` lends it.
-fn convert_input(input: &mut [u8], out: &mut [u8])
-    requires { ⌜ length (now out) ≡ 1048576 ⌝ }
-{
+fn convert_input(input: &mut [u8], out: &mut [u8]) {
     let got = streams::read(input);
     if got.failed {
         return;

@@ -12,8 +12,5 @@ slice-aggregate-convert-input c = sym (length-replicate {A = ℕ} 1048577 0)
 slice-aggregate-convert-input-2 : tie.Need-slice-aggregate-convert-input-2
 slice-aggregate-convert-input-2 c = sym (length-replicate {A = ℕ} 1048576 0)
 
-convert-input-requires : tie.Need-convert-input-requires
-convert-input-requires c κs = length-replicate {A = ℕ} 1048576 0
-
 pub main-spec : {M : Type 1} → statement M
-main-spec = tie.close (tie.spec slice-aggregate-convert-input slice-aggregate-convert-input-2 convert-input-requires (λ c κs. search needs) (λ c. search needs))
+main-spec = tie.close (tie.spec slice-aggregate-convert-input slice-aggregate-convert-input-2 (λ c κs. search needs) (λ c κs. search needs) (λ c. search needs))
