@@ -83,7 +83,7 @@ def inner_table():
     return rows + [f"| `{file}` | {reach(file)} | {first_sentence(file)} |" for file in antt.spec_files() if is_inner(file)]
 
 
-NUMBER = re.compile(r"(?<=How many lines must be believed\?\*\* )[\d,]+")
+NUMBER = re.compile(r"(?<=How many lines must be believed\?\*\* )\d[\d,]*\d")
 
 
 def cases():
