@@ -171,6 +171,24 @@ first-accept f i (suc k) h =
     orElse-none (f i) (firstOf f (suc i) k) (h i (omega arith) (omega arith))
     ∙ first-accept f (suc i) k (λ j l m. h j (omega arith) (omega arith))
 
+-- all before index i refuse nothing, and that one does: it is the answer
+first-found : (f : ℕ → Refusal) (i j k : ℕ) → j < k → ((m : ℕ) → i ≤ m → m < i + j → f m .number ≡ 0) → (f (i + j) .number ≡ 0 → ⊥) → firstOf f i k ≡ f (i + j)
+unfolding firstOf
+first-found f i j zero l h n = absurd (omega arith)
+first-found f i zero (suc k) l h n =
+    let e : i ≡ i + 0 = omega arith in
+    orElse-fault (f i) (firstOf f (suc i) k) (λ z. n (sym (ap (λ (m : ℕ). f m .number) e) ∙ z)) ∙ ap f e
+first-found f i (suc j) (suc k) l h n =
+    let e : suc i + j ≡ i + suc j = omega arith in
+    orElse-none (f i) (firstOf f (suc i) k) (h i (omega arith) (omega arith))
+    ∙ first-found f (suc i) j k (omega arith) (λ m a b. h m (omega arith) (omega arith)) (λ z. n (sym (ap (λ (m : ℕ). f m .number) e) ∙ z))
+    ∙ ap f e
+
+pub first-at : (f : ℕ → Refusal) (n i : ℕ) {r : Refusal} → i < n → ((j : ℕ) → j < i → f j .number ≡ 0) → f i ≡ r → (r .number ≡ 0 → ⊥) → firstOf f 0 n ≡ r
+first-at f n i l h e k =
+    let z : 0 + i ≡ i = omega arith in
+    first-found f 0 i n l (λ m a b. h m (omega arith)) (λ x. k (sym (ap (λ (q : Refusal). q .number) (ap f z ∙ e)) ∙ x)) ∙ ap f z ∙ e
+
 -- rules that agree at each index have the same first refusal
 pub first-same : (f g : ℕ → Refusal) (i k : ℕ) → ((j : ℕ) → i ≤ j → j < i + k → f j ≡ g j) → firstOf f i k ≡ firstOf g i k
 unfolding firstOf

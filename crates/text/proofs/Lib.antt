@@ -13,3 +13,4 @@ pub mod Narrowing
 pub mod Received
 pub mod Decides
 pub mod Lines
+pub mod Promised
