@@ -3,3 +3,4 @@ pub mod Laws
 pub mod Contents
 pub mod Laid
 pub mod Heads
+pub mod Promised

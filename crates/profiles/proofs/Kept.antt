@@ -19,7 +19,7 @@ use Rattle.profiles.proofs.Loops.{lists-yes, lists-no}
 -- ---- the numbers before a record
 
 -- none of k records from record i on has the number m
-lists-differs : (m : ℕ) (b : List ℕ) (i k : ℕ) → lists m b i k ≡ false → (j : ℕ) → j < k → profileNumber b (i + j) ≡ m → ⊥
+pub lists-differs : (m : ℕ) (b : List ℕ) (i k : ℕ) → lists m b i k ≡ false → (j : ℕ) → j < k → profileNumber b (i + j) ≡ m → ⊥
 lists-differs m b i zero e j l q = absurd (omega arith)
 lists-differs m b i (suc k) e zero l q = true≢false (sym (lists-yes m b i k (ap (profileNumber b) (omega arith) ∙ q)) ∙ e)
 lists-differs m b i (suc k) e (suc j) l q =
@@ -63,7 +63,7 @@ rule-accept b i f =
       if-false,
     )
 
-record-accept : (b : List ℕ) (i : ℕ) → Kept b i → recordFault b i ≡ accept
+pub record-accept : (b : List ℕ) (i : ℕ) → Kept b i → recordFault b i ≡ accept
 unfolding recordFault
 record-accept b i f = placed-none _ (suc i) (ap (λ (r : Refusal). r .number) (rule-accept b i f))
 

@@ -3,3 +3,4 @@ pub mod Loops
 pub mod Kept
 pub mod Again
 pub mod Lines
+pub mod Promised

@@ -44,7 +44,7 @@ module _ (s : List ℕ) where
   pub descs-from : completeFault s .number ≡ 0 → descs s ≡ from s 8
   descs-from e = let c = complete-zero e in wholes-from s (c .read) (c .ends)
 
-  reading-refusal : reading 65534 0 0 s .refusal ≡ readFault 65534 0 0 s
+  pub reading-refusal : reading 65534 0 0 s .refusal ≡ readFault 65534 0 0 s
   unfolding nothingRead taken
   reading-refusal = reading-cases 65534 0 0 s (λ r ds. r .refusal ≡ readFault 65534 0 0 s) (λ k. refl) (λ k. sym (known _ (readFault-plain 65534 0 0 s) k))
 

@@ -11,3 +11,4 @@ pub mod Bisection
 pub mod Passing
 pub mod Lines
 pub mod Decides
+pub mod Promised
