@@ -5,3 +5,4 @@ pub mod Checked
 pub mod Own
 pub mod Numbers
 pub mod Lines
+pub mod Promised
