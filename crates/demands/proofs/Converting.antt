@@ -41,6 +41,7 @@ use Rattle.responder.proofs.respond as respond
 use Rattle.bench.specs.Bench.{Buffers, buffers, state, Ending, ending, failing, rounds, firstFault, benched}
 use Rattle.bench.proofs.bench as bench
 use Rattle.sweep.specs.Sweep.{startRule, fresh}
+use Rattle.demands.proofs.Sending.{Leaves, leaves}
 
 -- ---- a conversion
 
@@ -57,12 +58,14 @@ pub record Converts (l : Layout) (s : Sheet) (d : List ℕ) (o : maker.Outcome) 
   pub undone : Bytes (s .bytes) → Accepted s → (laid (s .layout) (laid l s) ≡ s) × ((e : List ℕ) → sheetSize s ≤ length e → converted (s .layout) (laid l s) e ≡ maker.making (s .bytes) e)
   pub same-verdict : Bytes (s .bytes) → profilesAt s ≤ sheetSize s → verdict (laid l s) ≡ verdict s
   pub same-meaning : Bytes (s .bytes) → Accepted s → meaning (laid l s) ≡ meaning s
+  pub left : Leaves (laid l s .bytes) d o
 
 laid-stored : (l : Layout) (s : Sheet) {b : List ℕ} → b ≡ laid l s .bytes → stored l b ≡ laid l s
 unfolding laid
 laid-stored l s e = ap (stored l) e
 
 pub converts : (l : Layout) (s : Sheet) (d : List ℕ) → Converts l s d (converted l s d)
+unfolding converted
 converts l s d = record {
   exact = refl;
   refuses-sheet = converted-fault l s d;
@@ -73,6 +76,7 @@ converts l s d = record {
   undone = λ b k. (laid-undone l s b k, λ e h. converted-back l s e b k h);
   same-verdict = laid-verdict l s;
   same-meaning = laid-meaning l s;
+  left = leaves (verdict s) 41 (laid l s .bytes) d;
 }
 
 -- ---- sheets that say the same, each in its layout, are answered alike: refused ones by the same number and place

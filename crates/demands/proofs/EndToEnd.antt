@@ -1,5 +1,5 @@
 -- Two calls, one after the other, over the functions' own contracts: what `respond` leaves in the buffer is read by `read`; the sheet that `import` leaves
--- is answered from by `respond`; what `sense::make` wrote is read by `sense::read`; and `gcf_respond` leaves what `respond` leaves. Assumes nothing.
+-- is answered from by `respond`, and so is what `convert` makes of it; what `sense::make` wrote is read by `sense::read`; and `gcf_respond` leaves what `respond` leaves. Assumes nothing.
 use mathlib.Core.Path.{_≡_, refl, sym, ap, _∙_}
 use mathlib.Core.List.{List}
 use Prim.Native.Nat.{ℕ, zero, suc, _≤_}
@@ -8,24 +8,32 @@ use native.Mathlib.Omega.{arith}
 use lib.ListN.{length, take, drop}
 use lib.Seq.{take-append-seam}
 use borrow.Author.Tests.{eqb-false}
-use base.Logic.{ent}
-use contract.Monad.{conj, fact}
+use base.Logic.{ent, id⊢, via}
+use contract.Monad.{conj, conj-mono, fact}
 use contract.Lifetimes.{Lfts}
 use denote.Triple.Entry.{Args}
 use Rattle.base.specs.Lists.{Bytes}
 use Rattle.base.proofs.Decided.{Call, Outcome, allowed}
 use Rattle.text.specs.declared.Reading.{Reading}
 use Rattle.text.specs.Command.{rtOf, sfnOf, allocationOf, commandFault}
+use Rattle.refusal.specs.declared.Refusal.{Refusal}
 use Rattle.refusal.proofs.First.{if-zero}
 use Rattle.layout.specs.declared.Layout.the-variants.{Rows}
+use Rattle.layout.specs.declared.Layout.{Layout}
 use Rattle.layout.specs.Layout.{Sheet, stored}
+use Rattle.layout.specs.Contents.{laid}
 use Rattle.sheet.specs.Check.{verdict, Accepted}
 use Rattle.sheet.specs.Meaning.{meaning}
+use Rattle.sheet.proofs.Same.{accepted-room}
 use Rattle.lent.specs.Maker as maker
 use Rattle.responder.specs.Answer.{due}
 use Rattle.responder.proofs.respond as respond
 use Rattle.reading.proofs.read as read
+use Rattle.capture.specs.Capture.{captureFault}
+use Rattle.import.specs.Import.{sheetFrom}
+use Rattle.import.proofs.Sheet.{from-bytes}
 use Rattle.import.proofs.import as import
+use Rattle.convert.proofs.convert as convert
 use Rattle.sense.specs.Sense.{heard, kindOf, sensed}
 use Rattle.sense.proofs.make as sense-make
 use Rattle.sense.proofs.read as sense-read
@@ -35,7 +43,11 @@ use Rattle.base.proofs.Promise.{by, beside, both}
 use Rattle.demands.proofs.Sending.{Answers, demand2}
 use Rattle.demands.proofs.Readings.{ReadBack, Reads, reads}
 use Rattle.demands.proofs.Importing.{Imports, imports}
+use Rattle.demands.proofs.Converting.{Converts, converts}
 use Rattle.demands.proofs.Senses.{Makes, makes-sense}
+
+pair : {φ ψ : Type 0} → φ → ψ → φ × ψ
+pair f g = (f, g)
 
 -- ---- what an answer without a number says
 
@@ -119,6 +131,53 @@ module _ (x : Call import.ended (λ M. import.clauses)) (κs : Lfts (respond.end
       → length (x .args .0 .now) ≤ allocationOf (args .1 .1 .0 .now) → length (x .args .0 .now) ≤ length (args .1 .1 .1 .0 .now)
       → maker.outcome (p .0) (p .1 .1 .1 .1 .0) ≡ maker.making (x .args .0 .now) (args .1 .1 .1 .0 .now)))
   import-end-to-end o p = both (x .𝓤) (λ e f. replayed (by (Imports _ _) (imports _ _) e) (by (Answers _ _ _) (demand2 _ _ _) f))
+
+-- ---- and with `convert` between them: the sheet that `import` left, laid out as l, answers the same
+
+replayed-laid : {r d : List ℕ} {l : Layout} {s t : Sheet} {f c e : List ℕ} {o q p : maker.Outcome} → Imports r d o → Converts l s f q → Answers t c e p
+    → o .made .refusal .number ≡ 0 → q .made .refusal .number ≡ 0 → Bytes r
+    → s ≡ stored Rows (take (o .made .count) (o .buffer)) → t ≡ stored l (take (q .made .count) (q .buffer))
+    → commandFault c .number ≡ 0 → rtOf c ≡ 0 → sfnOf c ≡ 0 → length r ≤ allocationOf c → length r ≤ length e
+    → p ≡ maker.making r e
+unfolding maker.refusing
+replayed-laid {r} {d} {l} {s} {t} {f} {c} {e} i k a z y b there laid-there plain is-rt is-sfn enough fits =
+    let h = i .stores b z in
+    let is : s ≡ sheetFrom r = there ∙ h .sheet in
+    let bs : Bytes (s .bytes) = by (λ (x : Sheet). Bytes (x .bytes)) (from-bytes r b (imports-none i z)) is in
+    let ok : Accepted s = by Accepted (h .accepted) there in
+    let at : t ≡ laid l s = laid-there ∙ k .stands bs y .1 in
+    let x : due t c ≡ r = rw (at, k .same-meaning bs ok, there, is-rt, is-sfn) (h .back (allocationOf c) enough) in
+    a .sends (by Accepted (ap (λ (v : Refusal). v .number) (k .same-verdict bs (accepted-room s bs ok)) ∙ ok) at) plain (rw x fits)
+    ∙ ap (λ (xs : List ℕ). maker.making xs e) x
+  where
+    -- what is not refused was not refused by the capture
+    imports-none : {r d : List ℕ} {o : maker.Outcome} → Imports r d o → o .made .refusal .number ≡ 0 → captureFault r .number ≡ 0
+    imports-none {r} {d} {o} i z = go (captureFault r .number) refl
+      where
+        go : (n : ℕ) → captureFault r .number ≡ n → n ≡ 0
+        go zero e = refl
+        go (suc n) e = absurd (omega (arith, z, e, ap (λ (x : maker.Outcome). x .made .refusal .number) (i .refuses-capture (λ w. omega arith))))
+
+module _ (x : Call import.ended (λ M. import.clauses)) (κs : Lfts (convert.ended .signature .lifetimes)) (args : Args (convert.ended .signature) κs)
+    (κs₂ : Lfts (respond.ended .signature .lifetimes)) (args₂ : Args (respond.ended .signature) κs₂) where
+  abbrev converting : Call convert.ended (λ M. convert.clauses)
+  converting = beside x κs args tt
+
+  abbrev answering : Call respond.ended (λ M. respond.clauses)
+  answering = beside x κs₂ args₂ tt
+
+  pub import-convert-end-to-end : (o : Outcome import.ended (λ M. import.clauses) x) (q : Outcome convert.ended (λ M. convert.clauses) converting) (p : Outcome respond.ended (λ M. respond.clauses) answering)
+      → ent (x .𝓤) (conj (x .𝓤) (allowed import.ended (λ M. import.clauses) x o)
+      (conj (x .𝓤) (allowed convert.ended (λ M. convert.clauses) converting q) (allowed respond.ended (λ M. respond.clauses) answering p))) (fact (x .𝓤) (
+      o .0 .refusal .number ≡ 0 → q .0 .refusal .number ≡ 0 → Bytes (x .args .0 .now)
+      → stored (args .1 .0) (args .1 .1 .0 .now) ≡ stored Rows (take (o .0 .count) (o .1 .1 .0))
+      → stored (args₂ .0) (args₂ .1 .0 .now) ≡ stored (args .0) (take (q .0 .count) (q .1 .1 .1 .1 .0))
+      → commandFault (args₂ .1 .1 .0 .now) .number ≡ 0 → rtOf (args₂ .1 .1 .0 .now) ≡ 0 → sfnOf (args₂ .1 .1 .0 .now) ≡ 0
+      → length (x .args .0 .now) ≤ allocationOf (args₂ .1 .1 .0 .now) → length (x .args .0 .now) ≤ length (args₂ .1 .1 .1 .0 .now)
+      → maker.outcome (p .0) (p .1 .1 .1 .1 .0) ≡ maker.making (x .args .0 .now) (args₂ .1 .1 .1 .0 .now)))
+  import-convert-end-to-end o q p =
+      via (x .𝓤) _ (conj-mono (x .𝓤) (id⊢ (x .𝓤) _) (both (x .𝓤) pair))
+      (both (x .𝓤) (λ e fg. replayed-laid (by (Imports _ _) (imports _ _) e) (by (Converts _ _ _) (converts _ _ _) (fg .0)) (by (Answers _ _ _) (demand2 _ _ _) (fg .1))))
 
 -- ---- sense data end to end: `make` is called, then `read` with the bytes that it wrote
 

@@ -1,21 +1,25 @@
--- The ties of the functions that the others stand on: every outcome that a function's own contract allows is the definition's value, in one line. Assumes nothing.
-use mathlib.Core.Path.{_≡_}
+-- The ties of the functions that the others stand on: every outcome that a function's own contract allows is the definition's value and, where the paper has a
+-- sentence on it, what that says in plain numbers. Assumes nothing.
+use mathlib.Core.Path.{_≡_, _∙_}
 use mathlib.Core.List.{[], _∷_}
 use lib.Dec.{eqb}
-use Prim.Native.Nat.{_+_, _*_}
+use Prim.Native.Nat.{_+_, _*_, _/_, _%_}
 use lib.ListN.{length, take, drop, getD, replicate}
-use Rattle.base.proofs.Promise.{Promised, promises}
+use Rattle.base.proofs.Promise.{Promised, promises, by}
 use Rattle.fields.specs.Field.{field, spell}
 use Rattle.fields.specs.Part.{PartOf}
-use Rattle.refusal.specs.First.{accept, placed}
+use Rattle.refusal.specs.First.{refuse, accept, placed}
 use Rattle.lent.specs.Wrote.{Wrote}
 use Rattle.text.specs.Flags as text
+use Rattle.text.specs.declared.Command.{Command}
 use Rattle.text.specs.Command.{commandFault, commandOf}
 use Rattle.text.specs.Response.{currentProfile, headerOf}
 use Rattle.profiles.specs.Profiles.{profilesOf}
 use Rattle.text.specs.Reading.{numberAt, flagsAt, lengthAt, descAt}
 use Rattle.reading.specs.Places.{nextAt}
-use Rattle.reading.specs.Completed.{completed}
+use Rattle.text.proofs.Promised.{two, Commands, commands, Understood, understood, Flagging, flagging}
+use Rattle.profiles.proofs.Promised.{Currents, currents}
+use Rattle.layout.proofs.Promised.{laying}
 use Rattle.reading.specs.Judged.{judged}
 use Rattle.layout.specs.Layout.{stored}
 use Rattle.layout.specs.Layout as layout
@@ -66,6 +70,7 @@ use Rattle.reading.proofs.next_at as next-at
 use Rattle.reading.proofs.body_at as body-at
 use Rattle.reading.proofs.complete as complete
 use Rattle.reading.proofs.judge as judge
+use Rattle.demands.proofs.Readings.{Completes, completes}
 
 -- ---- fields
 
@@ -120,44 +125,45 @@ clear-list-tied x = promises (x .𝓤) (λ o e. e)
 
 -- ---- text
 
-pub flags-reserved-tied : Promised flags-reserved.ended (λ M. flags-reserved.clauses) (λ M. flags-reserved.spec) (λ x o. o .0 ≡ text.reserved (x .args .0 .0))
+pub flags-reserved-tied : Promised flags-reserved.ended (λ M. flags-reserved.clauses) (λ M. flags-reserved.spec) (λ x o. o .0 ≡ x .args .0 .0 / 64)
 flags-reserved-tied x = promises (x .𝓤) (λ o e. e)
 
-pub flags-version-tied : Promised flags-version.ended (λ M. flags-version.clauses) (λ M. flags-version.spec) (λ x o. o .0 ≡ text.version (x .args .0 .0))
+pub flags-version-tied : Promised flags-version.ended (λ M. flags-version.clauses) (λ M. flags-version.spec) (λ x o. o .0 ≡ x .args .0 .0 / 4 % 16)
 flags-version-tied x = promises (x .𝓤) (λ o e. e)
 
-pub flags-persistent-tied : Promised flags-persistent.ended (λ M. flags-persistent.clauses) (λ M. flags-persistent.spec) (λ x o. o .0 ≡ eqb (text.persistent (x .args .0 .0)) 1)
+pub flags-persistent-tied : Promised flags-persistent.ended (λ M. flags-persistent.clauses) (λ M. flags-persistent.spec) (λ x o. o .0 ≡ eqb (x .args .0 .0 / 2 % 2) 1)
 flags-persistent-tied x = promises (x .𝓤) (λ o e. e)
 
-pub flags-current-tied : Promised flags-current.ended (λ M. flags-current.clauses) (λ M. flags-current.spec) (λ x o. o .0 ≡ eqb (text.current (x .args .0 .0)) 1)
+pub flags-current-tied : Promised flags-current.ended (λ M. flags-current.clauses) (λ M. flags-current.spec) (λ x o. o .0 ≡ eqb (x .args .0 .0 % 2) 1)
 flags-current-tied x = promises (x .𝓤) (λ o e. e)
 
-pub flags-fault-tied : Promised flags-fault.ended (λ M. flags-fault.clauses) (λ M. flags-fault.spec) (λ x o. o .0 ≡ text.flagsGiving (x .args .1 .0) (x .args .1 .1 .0) (x .args .0 .0))
-flags-fault-tied x = promises (x .𝓤) (λ o e. e)
+pub flags-fault-tied : Promised flags-fault.ended (λ M. flags-fault.clauses) (λ M. flags-fault.spec) (λ x o. (o .0 ≡ text.flagsGiving (x .args .1 .0) (x .args .1 .1 .0) (x .args .0 .0)) × Flagging (x .args .1 .0) (x .args .1 .1 .0) (x .args .0 .0) (o .0))
+flags-fault-tied x = promises (x .𝓤) (λ o e. (e, by (Flagging _ _ _) (flagging _ _ _) e))
 
-pub command-fault-tied : Promised command-fault.ended (λ M. command-fault.clauses) (λ M. command-fault.spec) (λ x o. o .0 ≡ commandFault (x .args .0 .now))
-command-fault-tied x = promises (x .𝓤) (λ o e. e)
+pub command-fault-tied : Promised command-fault.ended (λ M. command-fault.clauses) (λ M. command-fault.spec) (λ x o. (o .0 ≡ commandFault (x .args .0 .now)) × Commands (x .args .0 .now) (o .0))
+command-fault-tied x = promises (x .𝓤) (λ o e. (e, by (Commands _) (commands _) e))
 
-pub command-read-tied : Promised command-read.ended (λ M. command-read.clauses) (λ M. command-read.spec) (λ x o. o .0 ≡ commandOf (x .args .0 .now))
-command-read-tied x = promises (x .𝓤) (λ o e. e)
+pub command-read-tied : Promised command-read.ended (λ M. command-read.clauses) (λ M. command-read.spec) (λ x o. (o .0 ≡ commandOf (x .args .0 .now)) × Understood (x .args .0 .now) (o .0 .rt) (o .0 .sfn .0) (o .0 .allocation))
+unfolding commandOf
+command-read-tied x = promises (x .𝓤) (λ o e. (e, by (λ (c : Command). Understood (x .args .0 .now) (c .rt) (c .sfn .0) (c .allocation)) (understood (x .args .0 .now)) e))
 
 pub header-new-tied : Promised header-new.ended (λ M. header-new.clauses) (λ M. header-new.spec) (λ x o. o .0 ≡ headerOf (x .args .0) (x .args .1 .0 .0))
 header-new-tied x = promises (x .𝓤) (λ o e. e)
 
 -- ---- profiles
 
-pub profiles-current-tied : Promised profiles-current.ended (λ M. profiles-current.clauses) (λ M. profiles-current.spec) (λ x o. o .0 .0 ≡ currentProfile (profilesOf (x .args .0 .now)))
-profiles-current-tied x = promises (x .𝓤) (λ o e. e)
+pub profiles-current-tied : Promised profiles-current.ended (λ M. profiles-current.clauses) (λ M. profiles-current.spec) (λ x o. (o .0 .0 ≡ currentProfile (profilesOf (x .args .0 .now))) × Currents (x .args .0 .now) (o .0 .0))
+profiles-current-tied x = promises (x .𝓤) (λ o e. (e, by (Currents _) (currents _) e))
 
 -- ---- layout
 
-pub feature-count-tied : Promised feature-count.ended (λ M. feature-count.clauses) (λ M. feature-count.spec) (λ x o. o .0 ≡ layout.features (x .args .0 .now))
-feature-count-tied x = promises (x .𝓤) (λ o e. e)
+pub feature-count-tied : Promised feature-count.ended (λ M. feature-count.clauses) (λ M. feature-count.spec) (λ x o. (o .0 ≡ layout.features (x .args .0 .now)) × (o .0 ≡ two (x .args .0 .now) 0))
+feature-count-tied x = promises (x .𝓤) (λ o e. (e, e ∙ laying _ .counted))
 
-pub profile-count-tied : Promised profile-count.ended (λ M. profile-count.clauses) (λ M. profile-count.spec) (λ x o. o .0 ≡ layout.profiles (x .args .0 .now))
-profile-count-tied x = promises (x .𝓤) (λ o e. e)
+pub profile-count-tied : Promised profile-count.ended (λ M. profile-count.clauses) (λ M. profile-count.spec) (λ x o. (o .0 ≡ layout.profiles (x .args .0 .now)) × (o .0 ≡ two (x .args .0 .now) 2))
+profile-count-tied x = promises (x .𝓤) (λ o e. (e, e ∙ laying _ .listed))
 
-pub profiles-behind-tied : Promised profiles-behind.ended (λ M. profiles-behind.clauses) (λ M. profiles-behind.spec) (λ x o. o .0 ≡ layout.profilesBehind (x .args .0))
+pub profiles-behind-tied : Promised profiles-behind.ended (λ M. profiles-behind.clauses) (λ M. profiles-behind.spec) (λ x o. o .0 ≡ 4 + 8 * x .args .0)
 profiles-behind-tied x = promises (x .𝓤) (λ o e. e)
 
 pub bodies-at-tied : Promised bodies-at.ended (λ M. bodies-at.clauses) (λ M. bodies-at.spec) (λ x o. o .0 ≡ layout.profilesBehind (layout.features (x .args .0 .now)) + 4 * layout.profiles (x .args .0 .now))
@@ -185,8 +191,9 @@ profiles-part-tied x = promises (x .𝓤) (λ o e. e)
 
 -- ---- sheet
 
-pub flags-rule-tied : Promised flags-rule.ended (λ M. flags-rule.clauses) (λ M. flags-rule.spec) (λ x o. o .0 ≡ flagsRule (x .args .0 .0))
-flags-rule-tied x = promises (x .𝓤) (λ o e. e)
+pub flags-rule-tied : Promised flags-rule.ended (λ M. flags-rule.clauses) (λ M. flags-rule.spec) (λ x o. (o .0 ≡ flagsRule (x .args .0 .0)) × Flagging (refuse 5) (refuse 44) (x .args .0 .0) (o .0))
+unfolding flagsRule
+flags-rule-tied x = promises (x .𝓤) (λ o e. (e, by (Flagging _ _ _) (flagging _ _ _) e))
 
 pub end-before-tied : Promised end-before.ended (λ M. end-before.clauses) (λ M. end-before.spec) (λ x o. o .0 ≡ endBefore (stored (x .args .0) (x .args .1 .0 .now)) (x .args .1 .1 .0))
 end-before-tied x = promises (x .𝓤) (λ o e. e)
@@ -215,8 +222,8 @@ next-at-tied x = promises (x .𝓤) (λ o e. e)
 pub body-at-tied : Promised body-at.ended (λ M. body-at.clauses) (λ M. body-at.spec) (λ x o. PartOf (x .args .0) (x .args .1 .0 + 4) (descAt (x .args .0 .now) (x .args .1 .0) .body) (o .0))
 body-at-tied x = promises (x .𝓤) (λ o e. e)
 
-pub complete-tied : Promised complete.ended (λ M. complete.clauses) (λ M. complete.spec) (λ x o. o .0 ≡ completed (x .args .0 .now))
-complete-tied x = promises (x .𝓤) (λ o e. e)
+pub complete-tied : Promised complete.ended (λ M. complete.clauses) (λ M. complete.spec) (λ x o. Completes (x .args .0 .now) (o .0))
+complete-tied x = promises (x .𝓤) (λ o. by (Completes _) (completes _))
 
 pub judge-tied : Promised judge.ended (λ M. judge.clauses) (λ M. judge.spec) (λ x o. o .0 ≡ judged (x .args .0 .now))
 judge-tied x = promises (x .𝓤) (λ o e. e)

@@ -16,7 +16,7 @@ use Rattle.base.specs.Lists.{Bytes}
 use Rattle.base.proofs.Decided.{Call, Outcome, allowed}
 use Rattle.base.proofs.Promise.{beside, both}
 use Rattle.refusal.specs.declared.Refusal.{Refusal}
-use Rattle.refusal.specs.First.{refuse, accept, _if_else_}
+use Rattle.refusal.specs.First.{refuse, accept, _if_else_, _orElse_}
 use Rattle.refusal.proofs.First.{orElse-none, unless-none, unless-fault}
 use Rattle.lent.specs.Maker as maker
 use Rattle.lent.proofs.Maker.{makes-fault, makes-number}
@@ -34,6 +34,7 @@ use Rattle.reading.specs.Places.{descs}
 use Rattle.capture.specs.Capture.{captured, captureFault}
 use Rattle.capture.specs.Lines.{LocatedAmong}
 use Rattle.capture.proofs.Lines.{capture-located}
+use Rattle.capture.proofs.Promised.{Refused, refused-is}
 use Rattle.import.specs.Import.{sheetFrom, imported}
 use Rattle.import.proofs.Answers.{imported-zero}
 use Rattle.import.proofs.import as import
@@ -41,17 +42,20 @@ use Rattle.rom.specs.Rom.{imageAnswered}
 use Rattle.rom.specs.Image.{imageCommanded}
 use Rattle.rom.proofs.Accepted as rom
 use Rattle.rom.proofs.respond as rom-respond
+use Rattle.demands.proofs.Sending.{Leaves, leaves}
 use Rattle.demands.proofs.Importing.{imported-accepted, imported-means, stored}
 
 -- ---- one call
 
--- Of the number and place r of an image i: import's, but for 42; with the place of the profile or entry at fault.
+-- Of the number and place r of an image i: import's, but for 42; with the place of the profile or entry at fault; in plain numbers of its bytes each number
+-- has its ground and its turn.
 pub record ChecksImage (i : List ℕ) (r : Refusal) : Type 0 where
   pub exact : r ≡ captureFault i
   pub located : LocatedAmong (descs i) r
+  pub plain : Refused i r
 
 pub checks-image : (i : List ℕ) → ChecksImage i (captureFault i)
-checks-image i = record { exact = refl; located = capture-located i }
+checks-image i = record { exact = refl; located = capture-located i; plain = refused-is i }
 
 -- Of an outcome o of the image i, the command c and the buffer d: where import accepts the image, the sheet engine's answer from the imported sheet, refusal, count
 -- and buffer; where it does not, import's number and place, and nothing changed.
@@ -59,6 +63,8 @@ pub record Images (i c d : List ℕ) (o : maker.Outcome) : Type 0 where
   pub exact : o ≡ imageAnswered i c d
   pub same : Bytes i → captureFault i .number ≡ 0 → o ≡ answered (sheetFrom i) c d
   pub refuses : (captureFault i .number ≡ 0 → ⊥) → o ≡ maker.refusing d (captureFault i)
+  pub plain : Refused i (captureFault i)
+  pub left : Leaves (sent (rtOf c) (sfnOf c) (allocationOf c) (captured (descs i))) d o
 
 module _ (i c d : List ℕ) where
   -- what both engines come to: 9 to 11, 12, or the bytes of the drive that the image describes
@@ -73,10 +79,13 @@ module _ (i c d : List ℕ) where
       ∙ ap of-drive (imported-means i b e)
 
   pub images : Images i c d (imageAnswered i c d)
+  unfolding imageAnswered
   images = record {
     exact = refl;
     same = λ b e. rom.answered-after i c d ∙ unless-none (captureFault i) (maker.refusing d) (of-drive (captured (descs i))) e ∙ sym (from-sheet b e);
     refuses = λ h. rom.answered-after i c d ∙ unless-fault (captureFault i) (maker.refusing d) (of-drive (captured (descs i))) h;
+    plain = refused-is i;
+    left = leaves (captureFault i orElse commandFault c) 11 _ d;
   }
 
   -- From an image that was checked once.

@@ -2,15 +2,20 @@
 -- give back the captured bytes exactly; a sheet whose full response fits 65,532 bytes must come back from its own response unchanged. Demands 2
 -- and 3 hold for imported sheets as for any." `imported`, in crates/import/specs/Import.antt, is what the contract of `import::import` says;
 -- `sheetFrom r` is the sheet that it makes of the response r. Assumes nothing.
-use mathlib.Core.Path.{_≡_, refl, ap, _∙_}
-use mathlib.Core.Bool.{true}
+use mathlib.Core.Path.{_≡_, refl, sym, ap, _∙_}
+use mathlib.Core.Logic.{_⊎_, inl, inr, ⊎-elim}
+use mathlib.Core.Bool.{true, false, false≢true}
 use mathlib.Core.List.{List, [], _∷_}
-use Prim.Native.Nat.{ℕ, _≤_, _<_}
+use Prim.Native.Nat.{ℕ, zero, suc, _≤_, _<_}
 use native.Mathlib.Omega.{arith}
+use lib.Dec.{eqb}
 use lib.ListN.{length, take, drop, replicate}
 use lib.Seq.{take-append-seam}
 use Rattle.base.specs.Lists.{each, flat, keep, Bytes}
+use Rattle.base.proofs.Compare.{le-or-lt}
+use Rattle.base.proofs.Promise.{by}
 use Rattle.fields.specs.Field.{field, spell}
+use Rattle.refusal.specs.declared.Refusal.{Refusal}
 use Rattle.refusal.specs.First.{refuse, accept, _if_else_, pickZero, _orElse_, firstOf, unless, placed}
 use Rattle.text.specs.Flags as flags
 use Rattle.text.specs.Command.{opcodeOf, rtOf, sfnOf, allocationOf, commandFault}
@@ -38,7 +43,9 @@ use Rattle.reading.specs.Places.{descs}
 use Rattle.import.specs.Import as import
 use Rattle.import.specs.Import.{sheetFrom, imported}
 use Rattle.lent.specs.Maker.{Outcome, outcome, written, refusing, making, makes}
-use Rattle.capture.proofs.Describes.{captured-short}
+use Rattle.capture.proofs.Describes.{captured-short, capture-accepts}
+use Rattle.capture.proofs.Numbers.{capture-is}
+use Rattle.capture.proofs.Promised.{Refused, refused-is}
 use Rattle.capture.proofs.Own.{own-accepted}
 use Rattle.import.proofs.Sheet.{from-accepted, from-bytes, from-means, from-full, own-sheet}
 use Rattle.import.proofs.Answers.{imported-fault, imported-short, imported-written, imported-zero}
@@ -46,7 +53,7 @@ use Rattle.import.proofs.Numbers.{imported-is}
 use Rattle.demands.specs.Recorder.{sheetE, command}
 use Rattle.responder.specs.Answer.{due}
 use Rattle.demands.proofs.Sheets.{oneOf}
-use Rattle.demands.proofs.Sending.{demand2}
+use Rattle.demands.proofs.Sending.{demand2, Leaves, leaves}
 use Rattle.demands.proofs.Readings.{ReadBack, demand2-own}
 use Rattle.demands.proofs.Sweeping.{demand3, ends, bytesE, acceptedE}
 
@@ -64,7 +71,8 @@ pub record Stored (r : List ℕ) (o : Outcome) : Type 0 where
 
 -- Of an outcome o of the response r and the buffer d: for a response that is not refused and a buffer with room for its sheet, exactly the sheet, and
 -- nothing behind it changes; for anything else the first refusal, in the paper's order, the count 0, "the buffer is unchanged". A sheet whose full
--- response fits 65,532 bytes comes back from it unchanged, in rows.
+-- response fits 65,532 bytes comes back from it unchanged, in rows. In plain numbers of the bytes each number but 42 has its ground and its turn, and 42 comes
+-- last of all.
 pub record Imports (r d : List ℕ) (o : Outcome) : Type 0 where
   pub writes : captureFault r .number ≡ 0 → sheetSize (sheetFrom r) ≤ length d
       → o ≡ making (sheetFrom r .bytes) d
@@ -73,6 +81,9 @@ pub record Imports (r d : List ℕ) (o : Outcome) : Type 0 where
   pub stores : Bytes r → o .made .refusal .number ≡ 0 → Stored r o
   pub unchanged : (s : Sheet) → Bytes (s .bytes) → Accepted s → length (full 0 0 (meaning s)) ≤ 65532 → sheetSize s ≤ length d → r ≡ full 0 0 (meaning s)
       → o ≡ making (laid Rows s .bytes) d
+  pub plain : (o .made .refusal .number ≡ 42 → ⊥) → Refused r (o .made .refusal)
+  pub room-last : o .made .refusal .number ≡ 42 → captureFault r .number ≡ 0
+  pub left : Leaves (sheetFrom r .bytes) d o
 
 -- ---- an imported sheet is a sheet
 
@@ -162,13 +173,31 @@ unchanged-import s d b ok l room =
 
 -- ---- all of it
 
+-- the refusal is the capture's, or 42 where that has none
+refused-by : (r d : List ℕ) → (imported r d .made .refusal ≡ captureFault r) ⊎ ((captureFault r .number ≡ 0) × (imported r d .made .refusal ≡ refuse 42))
+unfolding refusing making
+refused-by r d = go (captureFault r .number) refl (le-or-lt (sheetSize (sheetFrom r)) (length d))
+  where
+    go : (n : ℕ) → captureFault r .number ≡ n → (sheetSize (sheetFrom r) ≤ length d) ⊎ (length d < sheetSize (sheetFrom r))
+        → (imported r d .made .refusal ≡ captureFault r) ⊎ ((captureFault r .number ≡ 0) × (imported r d .made .refusal ≡ refuse 42))
+    go zero e (inl l) = inl (ap (λ (o : Outcome). o .made .refusal) (imported-written r d e l) ∙ sym (capture-accepts r e))
+    go zero e (inr l) = inr (e, ap (λ (o : Outcome). o .made .refusal) (imported-short r d e l))
+    go (suc n) e l = inl (ap (λ (o : Outcome). o .made .refusal) (imported-fault r d (λ z. omega arith)))
+
+never-42 : (r : List ℕ) → captureFault r .number ≡ 42 → ⊥
+never-42 r e = false≢true (sym (capture-is (λ n. eqb n 42 ≡ false) refl refl refl refl refl refl refl refl refl refl refl refl r) ∙ ap (λ (n : ℕ). eqb n 42) e)
+
 pub imports : (r d : List ℕ) → Imports r d (imported r d)
+unfolding imported
 imports r d = record {
   writes = imported-written r d;
   refuses-capture = imported-fault r d;
   refuses-room = imported-short r d;
   stores = stored r d;
   unchanged = λ s b ok l h e. rw e (unchanged-import s d b ok l h);
+  plain = λ h. ⊎-elim (λ e. by (Refused r) (refused-is r) e) (λ e. absurd (h (ap (λ (x : Refusal). x .number) (e .1)))) (refused-by r d);
+  room-last = λ z. ⊎-elim (λ e. absurd (never-42 r (ap (λ (x : Refusal). x .number) (sym e) ∙ z))) (λ e. e .0) (refused-by r d);
+  left = leaves (captureFault r) 41 (sheetFrom r .bytes) d;
 }
 
 -- ---- "Demands 2 and 3 hold for imported sheets as for any."

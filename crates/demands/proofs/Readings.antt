@@ -1,6 +1,7 @@
 -- Demand 2, second half: "For each byte string received the reading is exactly what the text makes of it. Reading our own response gives back
 -- its profile and each whole descriptor." Both are `Reads`; the second alone, of the definition, is `demand2-own`. Assumes nothing.
-use mathlib.Core.Path.{_≡_, refl}
+use borrow.Author.Tests.{ne-eqb}
+use mathlib.Core.Path.{_≡_, refl, sym, ap, _∙_}
 use mathlib.Core.List.{List}
 use Prim.Native.Nat.{ℕ, _+_, _-_, _≤_, min}
 use native.Mathlib.Omega.{arith}
@@ -8,21 +9,26 @@ use lib.Dec.{leb}
 use lib.ListN.{length, take, drop}
 use Rattle.base.specs.Lists.{flat, Bytes}
 use Rattle.text.specs.declared.Reading.{Reading}
-use Rattle.refusal.specs.First.{accept}
+use Rattle.refusal.specs.declared.Refusal.{Refusal}
+use Rattle.refusal.specs.First.{refuse, accept, unless}
+use Rattle.refusal.proofs.First.{if-true, orElse-none, orElse-fault, unless-none, unless-fault}
 use Rattle.text.specs.Drive.{Desc, Drive, Sound}
 use Rattle.text.specs.Response.{bytes, selected, currentProfile, dataLength, full, sent}
-use Rattle.text.specs.Reading.{readFault, nothingRead, taken, reading, wholes, lastNumber}
+use Rattle.text.specs.Reading.{statedLength, readFault, nothingRead, taken, reading, wholes, lastNumber}
 use Rattle.text.specs.Packing.{whole}
 use Rattle.text.proofs.Sent.{bytes-sent}
 use Rattle.text.proofs.Own.{wholes-sent, reading-sent}
 use Rattle.text.proofs.Again.{readFault-cut, wholes-cut}
-use Rattle.text.proofs.Received.{reading-cases, wholes-flat}
+use Rattle.text.proofs.Received.{reading-fault, reading-cases, wholes-flat}
+use Rattle.text.proofs.Promised.{field-four, announced, refusedBy, Received, received}
 use Rattle.layout.specs.Layout.{Sheet}
 use Rattle.sheet.specs.Check.{Accepted}
 use Rattle.sheet.specs.Meaning.{meaning}
 use Rattle.sheet.proofs.Meaning.{meaning-fine}
 use Rattle.reading.specs.declared.Scanned.{Scanned}
 use Rattle.reading.specs.Scan.{scanned}
+use Rattle.reading.specs.Completed.{completeFault, completed}
+use Rattle.reading.proofs.Completed.{complete-accept, reading-refusal}
 
 -- the descriptors that the answer to RT rt from sfn with allocation length a holds whole
 abbrev pub sentWhole : (m : Drive) (rt sfn a : ℕ) → List Desc
@@ -44,12 +50,14 @@ pub record ReadBack (m : Drive) (limit rt sfn a : ℕ) (s : List ℕ) (r : Readi
   pub stand : flat bytes (sentWhole m rt sfn a) ≡ take (r .end - 8) (drop 8 s)
 
 -- Of a reading r of the bytes s as the answer to RT rt from sfn, where more than limit bytes are refused (65,534, or C in a sweep): it is what the text
--- makes of them, and of our own response it gives back what was sent.
+-- makes of them, and of our own response it gives back what was sent. In plain numbers of the bytes: 13 to 16, each with its ground and its turn; 17 to 20 at
+-- the first descriptor with a fault whose four header bytes were received; the five values that an accepted one gives.
 pub record Reads (limit rt sfn : ℕ) (s : List ℕ) (r : Reading) : Type 0 where
   pub refuses : (readFault limit rt sfn s .number ≡ 0 → ⊥) → r ≡ nothingRead (readFault limit rt sfn s)
   pub accepts : readFault limit rt sfn s .number ≡ 0 → r ≡ taken s (wholes limit rt sfn s)
   pub own : (t : Sheet) (a : ℕ) → Bytes (t .bytes) → Accepted t → rt ≤ 2 → 8 ≤ a → min a 65534 ≤ limit → s ≡ sent rt sfn a (meaning t)
       → ReadBack (meaning t) limit rt sfn a s r
+  pub plain : Received limit rt sfn s r
 
 pub reads : (limit rt sfn : ℕ) (s : List ℕ) → Reads limit rt sfn s (reading limit rt sfn s)
 reads limit rt sfn s = record {
@@ -63,7 +71,34 @@ reads limit rt sfn s = record {
         descriptors = d;
         stand = rw (← d) (wholes-flat limit rt sfn s (rw e (bytes-sent rt sfn a (meaning t) good)));
       };
+  plain = received limit rt sfn s;
 }
+
+-- Of a reading r of the bytes s, to RT 0 from 0, that has to be complete: the reading's refusals, then 29 where fewer bytes were received than Data Length + 4;
+-- else the reading.
+pub record Completes (s : List ℕ) (r : Reading) : Type 0 where
+  pub exact : r ≡ completed s
+  pub unread : (reading 65534 0 0 s .refusal .number ≡ 0 → ⊥) → r ≡ reading 65534 0 0 s
+  pub cut : reading 65534 0 0 s .refusal .number ≡ 0 → (length s ≡ announced s → ⊥) → r ≡ refusedBy 29
+  pub whole : reading 65534 0 0 s .refusal .number ≡ 0 → length s ≡ announced s → r ≡ reading 65534 0 0 s
+
+pub completes : (s : List ℕ) → Completes s (completed s)
+unfolding completed completeFault nothingRead statedLength
+completes s =
+    let read : reading 65534 0 0 s .refusal .number ≡ 0 → readFault 65534 0 0 s .number ≡ 0 = λ z. ap (λ (x : Refusal). x .number) (sym (reading-refusal s)) ∙ z in
+    record {
+      exact = refl;
+      unread = λ h.
+          let n : readFault 65534 0 0 s .number ≡ 0 → ⊥ = λ z. h (ap (λ (x : Refusal). x .number) (reading-refusal s) ∙ z) in
+          ap (λ (x : Refusal). unless x nothingRead (reading 65534 0 0 s)) (orElse-fault (readFault 65534 0 0 s) _ n) ∙ unless-fault (readFault 65534 0 0 s) nothingRead (reading 65534 0 0 s) n ∙ sym (reading-fault 65534 0 0 s n);
+      cut = λ e h.
+          let q : completeFault s ≡ refuse 29 =
+          orElse-none (readFault 65534 0 0 s) _ (read e) ∙ rw (ne-eqb (length s) (statedLength s + 4) (λ z. h (z ∙ ap (λ (x : ℕ). x + 4) (field-four s 0)))) (if-true _ _) in
+          ap (λ (x : Refusal). unless x nothingRead (reading 65534 0 0 s)) q ∙ unless-fault (refuse 29) nothingRead (reading 65534 0 0 s) (λ z. omega arith);
+      whole = λ e h.
+          let q : completeFault s ≡ accept = complete-accept s record { read = read e; ends = h ∙ ap (λ (x : ℕ). x + 4) (sym (field-four s 0)) } in
+          ap (λ (x : Refusal). unless x nothingRead (reading 65534 0 0 s)) q ∙ unless-none accept nothingRead (reading 65534 0 0 s) refl;
+    }
 
 -- what `reading::scan` gives besides: the number of the last whole descriptor
 pub record Scans (limit rt sfn : ℕ) (s : List ℕ) (r : Scanned) : Type 0 where

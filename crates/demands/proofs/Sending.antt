@@ -1,22 +1,27 @@
 -- Demand 2, first half: "For each accepted sheet and command the bytes sent are exactly those the T10 text defines, cut at the allocation
 -- length or 65,534." Assumes nothing.
 use mathlib.Core.Path.{_≡_, refl, sym, ap, ap₂, _∙_}
-use mathlib.Core.Logic.{_⊎_}
-use mathlib.Core.List.{List, []}
-use Prim.Native.Nat.{ℕ, _-_, _^_, _≤_, _<_, min}
+use mathlib.Core.Logic.{_⊎_, inl, inr}
+use mathlib.Core.List.{List, [], _∷_}
+use Prim.Native.Nat.{ℕ, zero, suc, _+_, _*_, _-_, _/_, _%_, _^_, _≤_, _<_, min}
 use native.Mathlib.Omega.{arith}
-use lib.ListN.{length, take}
-use Rattle.base.specs.Lists.{flat, Bytes}
+use lib.ListN.{length, take, drop, length-append, length-drop}
+use lib.Seq.{take-append-seam, drop-append-seam}
+use Rattle.base.proofs.Compare.{le-or-lt}
+use Rattle.base.specs.Lists.{flat, keep, Bytes}
 use Rattle.fields.specs.Field.{field, spell}
 use Rattle.refusal.specs.declared.Refusal.{Refusal}
-use Rattle.refusal.specs.First.{refuse, accept}
+use Rattle.refusal.specs.First.{refuse, accept, _orElse_}
 use Rattle.text.specs.Command.{opcodeOf, rtOf, sfnOf, allocationOf, commandFault}
-use Rattle.text.specs.Response.{bytes, selected, currentProfile, dataLength, full, sent}
+use Rattle.text.specs.Drive.{Desc, Drive}
+use Rattle.text.specs.Response as text
+use Rattle.text.specs.Response.{bytes, feature0, all, selected, currentProfile, dataLength, full, sent}
 use Rattle.refusal.proofs.First.{orElse-none, orElse-fault}
 use Rattle.lent.specs.Maker.{Outcome, refusing, making, makes}
 use Rattle.lent.proofs.Maker.{makes-made, makes-short, makes-fault}
 use Rattle.text.proofs.Sizes.{length-full, dataLength-full, dataLength-low}
 use Rattle.text.proofs.Profiles.{Off, FirstOn, current-cases}
+use Rattle.text.proofs.Promised.{byte, Long, commands, understood, Wanting, wanting, Worded, worded, descriptor-bytes, Zeroth, zeroth}
 use Rattle.text.proofs.Sent.{sent-prefix, length-sent, sent-dataLength, sent-field, sent-profile, sent-none, sent-65532, sent-65536}
 use Rattle.layout.specs.Layout.{Sheet, featureCount}
 use Rattle.sheet.specs.Check.{verdict, Accepted}
@@ -34,13 +39,52 @@ use Rattle.responder.proofs.Sized.{sized-trusting}
 use Rattle.responder.proofs.Trusting.{trusting-accepted, answered-trusted}
 use Rattle.base.proofs.Promise.{by}
 
+-- What a maker of the bytes xs leaves of the buffer d, of its outcome o: where it refuses, the count 0 and the buffer as it was; else the count of these
+-- bytes, which stand at the front, and all behind them as it was.
+pub record Leaves (xs d : List ℕ) (o : Outcome) : Type 0 where
+  pub nothing : (o .made .refusal .number ≡ 0 → ⊥) → (o .made .count ≡ 0) × (o .buffer ≡ d)
+  pub counted : o .made .refusal .number ≡ 0 → o .made .count ≡ length xs
+  pub front : o .made .refusal .number ≡ 0 → take (length xs) (o .buffer) ≡ xs
+  pub behind : o .made .refusal .number ≡ 0 → drop (length xs) (o .buffer) ≡ drop (length xs) d
+  pub long : length (o .buffer) ≡ length d
+
+leaves-refused : (xs d : List ℕ) (r : Refusal) → (r .number ≡ 0 → ⊥) → Leaves xs d (refusing d r)
+unfolding refusing
+leaves-refused xs d r h =
+    record { nothing = λ n. (refl, refl); counted = λ z. absurd (h z); front = λ z. absurd (h z); behind = λ z. absurd (h z); long = refl }
+
+leaves-made : (xs d : List ℕ) → length xs ≤ length d → Leaves xs d (making xs d)
+unfolding making
+leaves-made xs d l = record {
+  nothing = λ n. absurd (n refl);
+  counted = λ z. refl;
+  front = λ z. take-append-seam xs (drop (length xs) d);
+  behind = λ z. drop-append-seam xs (drop (length xs) d);
+  long = omega (arith, length-append xs (drop (length xs) d), length-drop (length xs) d);
+}
+
+pub leaves : (r : Refusal) (k : ℕ) (xs d : List ℕ) → Leaves xs d (makes r (suc k) xs d)
+leaves r k xs d = go (r .number) refl (le-or-lt (length xs) (length d))
+  where
+    go : (n : ℕ) → r .number ≡ n → (length xs ≤ length d) ⊎ (length d < length xs) → Leaves xs d (makes r (suc k) xs d)
+    go zero e (inl l) = by (Leaves xs d) (leaves-made xs d l) (makes-made r (suc k) xs d e l)
+    go zero e (inr l) = by (Leaves xs d) (leaves-refused xs d (refuse (suc k)) (λ z. omega arith)) (makes-short r (suc k) xs d e (λ z. omega arith) l)
+    go (suc n) e l = let h : r .number ≡ 0 → ⊥ = λ z. omega arith in by (Leaves xs d) (leaves-refused xs d r h) (makes-fault r (suc k) xs d h)
+
 -- Of an outcome o of the sheet s, the command c and the buffer d: for an accepted sheet and command and a buffer with room for them, exactly the
--- bytes due, and nothing behind them changes; for anything else the first refusal, in the paper's order, with no byte sent and nothing changed.
+-- bytes due, and nothing behind them changes; for anything else the first refusal, in the paper's order, with no byte sent and nothing changed. In plain
+-- numbers of the command's bytes: 9, 10, 11 in this order, and what RT, Starting Feature Number and allocation length are; and what is left of the buffer.
 pub record Answers (s : Sheet) (c d : List ℕ) (o : Outcome) : Type 0 where
   pub sends : Accepted s → commandFault c .number ≡ 0 → length (due s c) ≤ length d → o ≡ making (due s c) d
   pub refuses-sheet : (verdict s .number ≡ 0 → ⊥) → o ≡ refusing d (verdict s)
   pub refuses-command : Accepted s → (commandFault c .number ≡ 0 → ⊥) → o ≡ refusing d (commandFault c)
   pub refuses-room : Accepted s → commandFault c .number ≡ 0 → length d < length (due s c) → o ≡ refusing d (refuse 12)
+  pub nine : Accepted s → (Long c → ⊥) → o .made .refusal ≡ refuse 9
+  pub ten : Accepted s → Long c → (byte c 0 ≡ 0x46 → ⊥) → o .made .refusal ≡ refuse 10
+  pub eleven : Accepted s → Long c → byte c 0 ≡ 0x46 → byte c 1 % 4 ≡ 3 → o .made .refusal ≡ refuse 11
+  pub fine : Accepted s → Long c → byte c 0 ≡ 0x46 → (byte c 1 % 4 ≡ 3 → ⊥) → length (due s c) ≤ length d → o .made .refusal ≡ accept
+  pub asked : due s c ≡ sent (byte c 1 % 4) (byte c 2 * 256 + byte c 3) (byte c 7 * 256 + byte c 8) (meaning s)
+  pub left : Leaves (due s c) d o
 
 -- the same of a request for the bytes xs, where nothing but the room is left to refuse
 pub record Sends (xs d : List ℕ) (o : Outcome) : Type 0 where
@@ -54,7 +98,7 @@ request s rt sfn a d =
     record { sends = λ h. makes-made accept 12 xs d refl h; refuses-room = λ h. makes-short accept 12 xs d refl (λ z. omega arith) h }
 
 pub demand2 : (s : Sheet) (c d : List ℕ) → Answers s c d (answered s c d)
-unfolding answered
+unfolding answered making refusing
 demand2 s c d =
     let made : Refusal → Outcome = λ r. makes r 12 (due s c) d in
     record {
@@ -62,7 +106,18 @@ demand2 s c d =
       refuses-sheet = λ h. ap made (orElse-fault (verdict s) (commandFault c) h) ∙ makes-fault (verdict s) 12 (due s c) d h;
       refuses-command = λ ok h. ap made (orElse-none (verdict s) (commandFault c) ok) ∙ makes-fault (commandFault c) 12 (due s c) d h;
       refuses-room = λ ok e h. ap made (orElse-none (verdict s) (commandFault c) ok) ∙ makes-short (commandFault c) 12 (due s c) d e (λ z. omega arith) h;
+      nine = λ ok h. by-command ok (commands c .nine h);
+      ten = λ ok h k. by-command ok (commands c .ten h k);
+      eleven = λ ok h k l. by-command ok (commands c .eleven h k l);
+      fine = λ ok h k l m. ap (λ (o : Outcome). o .made .refusal) (ap made (orElse-none (verdict s) (commandFault c) ok) ∙ makes-made (commandFault c) 12 (due s c) d (ap (λ (r : Refusal). r .number) (commands c .fine h k l)) m);
+      asked = let u = understood c in λ i. sent (u .asked i) (u .start i) (u .most i) (meaning s);
+      left = leaves (verdict s orElse commandFault c) 11 (due s c) d;
     }
+  where
+    by-command : Accepted s → {n : ℕ} → commandFault c ≡ refuse (suc n) → answered s c d .made .refusal ≡ refuse (suc n)
+    by-command ok e =
+        ap (λ (r : Refusal). makes r 12 (due s c) d .made .refusal) (orElse-none (verdict s) (commandFault c) ok)
+        ∙ ap (λ (o : Outcome). o .made .refusal) (makes-fault (commandFault c) 12 (due s c) d (λ z. omega (arith, ap (λ (r : Refusal). r .number) e, z))) ∙ e
 
 -- ---- a box that does not check its sheet: from an accepted one the same, from any other what crates/responder/specs/Trusting.antt defines
 
@@ -152,3 +207,16 @@ current-profile s = current-cases (meaning s .profiles)
 
 pub current-sent : (rt sfn a : ℕ) (s : Sheet) → Bytes (s .bytes) → Accepted s → 8 ≤ a → field 2 (sent rt sfn a (meaning s)) 6 ≡ currentProfile (meaning s .profiles)
 current-sent rt sfn a s b ok h = sent-profile rt sfn a (meaning s) (meaning-fine s b ok .sound) h
+
+-- What is selected and how it is written, in plain numbers: which descriptors a request wants; the header's eight bytes, Data Length being the length of all
+-- that this request selects, less 4; a descriptor's bytes; feature 0 as it is made from the profiles.
+pub record Text (m : Drive) (rt sfn : ℕ) : Type 0 where
+  pub wants : (d : Desc) → Wanting sfn d (λ rt. text.wants rt sfn d)
+  pub selects : selected rt sfn m ≡ keep (text.wants rt sfn) (feature0 (m .profiles) ∷ m .features)
+  pub header : Worded rt sfn m (full rt sfn m)
+  pub each-one : (d : Desc) → bytes d ≡ d .number / 256 % 256 ∷ d .number % 256 ∷ d .flags ∷ length (d .body) ∷ d .body
+  pub zero-first : Zeroth (m .profiles) (feature0 (m .profiles))
+
+pub text-of : (m : Drive) (rt sfn : ℕ) → Text m rt sfn
+unfolding selected all
+text-of m rt sfn = record { wants = wanting sfn; selects = refl; header = worded rt sfn m; each-one = descriptor-bytes; zero-first = zeroth (m .profiles) }

@@ -2,14 +2,20 @@
 -- Sheet faults and 12 are the box's own trouble"; "reading what was made gives that kind back for every number a command can give". `kindOf` is the table of
 -- these numbers, `senseOf` the bytes of each kind (crates/sense/specs/Sense.antt). Assumes nothing.
 use mathlib.Core.Path.{_≡_, refl, sym, ap, subst, _∙_}
+use mathlib.Core.Bool.{Bool, true, false, _||_, true≢false}
 use mathlib.Core.List.{List, [], _∷_}
-use Prim.Native.Nat.{ℕ, suc, _%_, _≤_, _<_}
+use Prim.Native.Nat.{ℕ, zero, suc, _%_, _≤_, _<_}
+use native.Mathlib.Omega.{arith}
+use lib.Dec.{eqb}
 use lib.ListN.{length, getD, take, replicate}
+use borrow.Author.Tests.{eqb-true}
 use Rattle.base.specs.Lists.{each, flat, keep, All}
 use Rattle.base.specs.Pick.{pick}
 use Rattle.base.proofs.Promise.{Promised, promises, by}
 use Rattle.fields.specs.Field.{field, spell}
+use Rattle.refusal.specs.declared.Refusal.{Refusal}
 use Rattle.refusal.specs.First.{refuse, accept, _if_else_, pickZero, _orElse_, firstOf, unless, placed}
+use Rattle.refusal.proofs.First.{unless-none, unless-fault}
 use Rattle.refusal.proofs.Numbers.{if-holds, orElse-holds, first-holds, placed-holds}
 use Rattle.text.specs.Flags as flags
 use Rattle.text.specs.Command.{opcodeOf, rtOf, sfnOf, allocationOf, commandFault}
@@ -24,33 +30,115 @@ use Rattle.sheet.specs.Meaning.{desc, meaning}
 use Rattle.lent.specs.Maker.{Outcome, refusing, making, makes}
 use Rattle.lent.proofs.Maker.{makes-number}
 use Rattle.responder.specs.Answer.{due, answered}
+use Rattle.responder.specs.Trusting.{trusting, trustingCommand}
+use Rattle.responder.specs.Sized.{sized}
 use Rattle.responder.proofs.respond as respond
+use Rattle.responder.proofs.respond_accepted as respond-accepted
 use Rattle.text.specs.Reading as text
 use Rattle.reading.specs.Completed.{completeFault}
 use Rattle.capture.specs.Capture.{captureFault, ownRule, flagsFaults, sheetRule}
 use Rattle.capture.proofs.Numbers.{capture-is}
 use Rattle.rom.specs.Rom.{imageAnswered}
+use Rattle.rom.specs.Image.{imageRequested, imageCommanded}
 use Rattle.rom.proofs.respond as rom-respond
-use Rattle.abi.specs.Left.{Left, showPlaced}
+use Rattle.rom.proofs.respond_accepted as rom-respond-accepted
+use Rattle.abi.specs.Left.{Left, showMade, showPlaced}
 use Rattle.abi.proofs.gcf_respond as gcf-respond
+use Rattle.abi.proofs.gcf_respond_columns as gcf-respond-columns
+use Rattle.abi.proofs.gcf_respond_accepted as gcf-respond-accepted
+use Rattle.abi.proofs.gcf_respond_columns_accepted as gcf-respond-columns-accepted
 use Rattle.abi.proofs.gcf_respond_image as gcf-respond-image
+use Rattle.abi.proofs.gcf_respond_image_accepted as gcf-respond-image-accepted
 use Rattle.sense.specs.declared.Kind.{Kind}
+use Rattle.sense.specs.declared.Kind.the-variants.{Nothing, Operation, Field, Trouble}
 use Rattle.sense.specs.declared.Sense.the-variants.{Means, Refused}
-use Rattle.sense.specs.Sense.{Heard, heard, given, kindOf, senseOf, made, sensed}
+use Rattle.sense.specs.Sense.{Heard, heard, given, kindOf, key, code, pointer, fixed, senseOf, bytesOf, made, sensed}
 use Rattle.sense.proofs.RoundTrip.{taken, each-taken, Written, sense-read, read-made, accepted-written}
 use Rattle.sense.proofs.Cases.{made-kind, made-other, made-short, sensed-length, sensed-code, sensed-other}
 use Rattle.demands.specs.Recorder.{command}
+use Rattle.demands.proofs.Sheets.{oneOf}
+use Rattle.demands.proofs.Sending.{leaves}
+
+-- the maker takes the number n
+abbrev pub Taken : ℕ → Type 0
+Taken n = kindOf n .refusal .number ≡ 0
 
 -- Of an outcome o of the number n and the buffer d: the 18 bytes of the number's kind, and nothing behind them changed; for a number that no command
--- gives 54, then 55, "buffer unchanged". Reading what was made gives the number's kind back.
+-- gives 54, then 55, "buffer unchanged". Reading what was made gives the number's kind back. In plain numbers and bytes: what each number gives, and that there
+-- are no others.
+abbrev troubles : List ℕ
+troubles = 1 ∷ 2 ∷ 3 ∷ 4 ∷ 5 ∷ 6 ∷ 7 ∷ 8 ∷ 12 ∷ 14 ∷ 15 ∷ 16 ∷ 17 ∷ 18 ∷ 20 ∷ 29 ∷ 41 ∷ 44 ∷ []
+
+abbrev numbersGiven : List ℕ
+numbersGiven = 0 ∷ 9 ∷ 10 ∷ 11 ∷ troubles
+
 pub record Makes (n : ℕ) (d : List ℕ) (o : Outcome) : Type 0 where
   pub writes : (k : Kind) → kindOf n ≡ heard (Means k) → 18 ≤ length d → o ≡ making (senseOf k) d
   pub refuses-number : (kindOf n .refusal .number ≡ 0 → ⊥) → o ≡ refusing d (refuse 54)
   pub refuses-room : kindOf n .refusal .number ≡ 0 → length d < 18 → o ≡ refusing d (refuse 55)
   pub back : o .made .refusal .number ≡ 0 → sensed (take (o .made .count) (o .buffer)) ≡ kindOf n
+  pub nothing-wrong : n ≡ 0 → 18 ≤ length d → o ≡ making (0x70 ∷ 0 ∷ 0 ∷ 0 ∷ 0 ∷ 0 ∷ 0 ∷ 0x0A ∷ 0 ∷ 0 ∷ 0 ∷ 0 ∷ 0 ∷ 0 ∷ 0 ∷ 0 ∷ 0 ∷ 0 ∷ []) d
+  pub operation : oneOf (9 ∷ 10 ∷ []) n ≡ true → 18 ≤ length d → o ≡ making (0x70 ∷ 0 ∷ 5 ∷ 0 ∷ 0 ∷ 0 ∷ 0 ∷ 0x0A ∷ 0 ∷ 0 ∷ 0 ∷ 0 ∷ 0x20 ∷ 0 ∷ 0 ∷ 0 ∷ 0 ∷ 0 ∷ []) d
+  pub field-of : n ≡ 11 → 18 ≤ length d → o ≡ making (0x70 ∷ 0 ∷ 5 ∷ 0 ∷ 0 ∷ 0 ∷ 0 ∷ 0x0A ∷ 0 ∷ 0 ∷ 0 ∷ 0 ∷ 0x24 ∷ 0 ∷ 0 ∷ 0xC9 ∷ 0 ∷ 1 ∷ []) d
+  pub trouble : oneOf troubles n ≡ true → 18 ≤ length d → o ≡ making (0x70 ∷ 0 ∷ 4 ∷ 0 ∷ 0 ∷ 0 ∷ 0 ∷ 0x0A ∷ 0 ∷ 0 ∷ 0 ∷ 0 ∷ 0x44 ∷ 0 ∷ 0 ∷ 0 ∷ 0 ∷ 0 ∷ []) d
+  pub not-given : oneOf numbersGiven n ≡ false → o ≡ refusing d (refuse 54)
+  pub no-room : oneOf numbersGiven n ≡ true → length d < 18 → o ≡ refusing d (refuse 55)
+  pub left : (o .made .refusal .number ≡ 0 → ⊥) → (o .made .count ≡ 0) × (o .buffer ≡ d)
 
-pub makes-sense : (n : ℕ) (d : List ℕ) → Makes n d (made n d)
-makes-sense n d = record { writes = made-kind n d; refuses-number = made-other n d; refuses-room = made-short n d; back = read-made n d }
+-- what holds of each of the numbers holds of one of them
+each-of : (P : ℕ → Type 0) (ks : List ℕ) → All P ks → (n : ℕ) → oneOf ks n ≡ true → P n
+unfolding oneOf
+each-of P [] p n e = absurd (true≢false (sym e))
+each-of P (k ∷ ks) p n e = go (eqb n k) refl e (each-of P ks (p .1) n)
+  where
+    go : (t : Bool) → eqb n k ≡ t → (t || oneOf ks n) ≡ true → (oneOf ks n ≡ true → P n) → P n
+    go true q e h = subst P (sym (eqb-true n k q)) (p .0)
+    go false q e h = h e
+
+module _ (n : ℕ) (d : List ℕ) where
+  as-nothing : n ≡ 0 → kindOf n ≡ heard (Means Nothing)
+  unfolding pick given kindOf
+  as-nothing e = subst (λ n. kindOf n ≡ heard (Means Nothing)) (sym e) refl
+
+  as-operation : oneOf (9 ∷ 10 ∷ []) n ≡ true → kindOf n ≡ heard (Means Operation)
+  unfolding pick given kindOf
+  as-operation e = each-of (λ n. kindOf n ≡ heard (Means Operation)) (9 ∷ 10 ∷ []) (refl, (refl, tt)) n e
+
+  as-field : n ≡ 11 → kindOf n ≡ heard (Means Field)
+  unfolding pick given kindOf
+  as-field e = subst (λ n. kindOf n ≡ heard (Means Field)) (sym e) refl
+
+  as-trouble : oneOf troubles n ≡ true → kindOf n ≡ heard (Means Trouble)
+  unfolding pick given kindOf
+  as-trouble e = each-of (λ n. kindOf n ≡ heard (Means Trouble)) troubles (refl, (refl, (refl, (refl, (refl, (refl, (refl, (refl, (refl, (refl, (refl, (refl, (refl, (refl, (refl, (refl, (refl, (refl, tt)))))))))))))))))) n e
+
+  as-given : oneOf numbersGiven n ≡ true → Taken n
+  unfolding pick given kindOf
+  as-given e = each-of Taken numbersGiven (refl, (refl, (refl, (refl, (refl, (refl, (refl, (refl, (refl, (refl, (refl, (refl, (refl, (refl, (refl, (refl, (refl, (refl, (refl, (refl, (refl, (refl, tt)))))))))))))))))))))) n e
+
+  given-as : Taken n → oneOf numbersGiven n ≡ true
+  unfolding oneOf
+  given-as = each-taken (λ n. oneOf numbersGiven n ≡ true) (refl, (refl, (refl, (refl, (refl, (refl, (refl, (refl, (refl, (refl, (refl, (refl, (refl, (refl, (refl, (refl, (refl, (refl, (refl, (refl, (refl, (refl, tt)))))))))))))))))))))) n
+
+  unmade : (made n d .made .refusal .number ≡ 0 → ⊥) → (made n d .made .count ≡ 0) × (made n d .buffer ≡ d)
+  unfolding made
+  unmade = leaves (kindOf n .refusal) 54 (bytesOf (kindOf n .kind)) d .nothing
+
+  pub makes-sense : Makes n d (made n d)
+  unfolding key code pointer fixed senseOf
+  makes-sense = record {
+    writes = made-kind n d;
+    refuses-number = made-other n d;
+    refuses-room = made-short n d;
+    back = read-made n d;
+    nothing-wrong = λ e. made-kind n d Nothing (as-nothing e);
+    operation = λ e. made-kind n d Operation (as-operation e);
+    field-of = λ e. made-kind n d Field (as-field e);
+    trouble = λ e. made-kind n d Trouble (as-trouble e);
+    not-given = λ e. made-other n d (λ z. true≢false (sym (given-as z) ∙ e));
+    no-room = λ e. made-short n d (as-given e);
+    left = unmade;
+  }
 
 -- Of an answer x to the bytes s: the kind whose bytes they are; 46, 47, 48 in this order; and no other bytes are accepted than the maker writes.
 pub record Senses (s : List ℕ) (x : Heard) : Type 0 where
@@ -71,10 +159,6 @@ senses s =
     }
 
 -- ---- the maker takes exactly the numbers that a command can give
-
--- the maker takes the number n
-abbrev pub Taken : ℕ → Type 0
-Taken n = kindOf n .refusal .number ≡ 0
 
 flags-taken : (f : ℕ) → Taken (flagsRule f .number)
 unfolding flagsRule flags.flagsGiving pick given kindOf
@@ -126,6 +210,35 @@ pub gcf-respond-taken : Promised gcf-respond.ended (λ M. gcf-respond.clauses) (
 unfolding showPlaced
 gcf-respond-taken x = promises (x .𝓤) (λ o. by (λ (z : Left (List ℕ)). Taken (z .number)) (answered-taken _ _ _))
 
+pub gcf-respond-columns-taken : Promised gcf-respond-columns.ended (λ M. gcf-respond-columns.clauses) (λ M. gcf-respond-columns.spec) (λ x o. Taken (o .0))
+unfolding showPlaced
+gcf-respond-columns-taken x = promises (x .𝓤) (λ o. by (λ (z : Left (List ℕ)). Taken (z .number)) (answered-taken _ _ _))
+
+-- a refusal that is taken, and then whatever is
+unless-taken : (r : Refusal) (d : List ℕ) (o : Outcome) → Taken (r .number) → Taken (o .made .refusal .number) → Taken (unless r (refusing d) o .made .refusal .number)
+unfolding refusing
+unless-taken r d o t u = go (r .number) refl
+  where
+    go : (n : ℕ) → r .number ≡ n → Taken (unless r (refusing d) o .made .refusal .number)
+    go zero e = by (λ (x : Outcome). Taken (x .made .refusal .number)) u (unless-none r (refusing d) o e)
+    go (suc n) e = by (λ (x : Outcome). Taken (x .made .refusal .number)) t (unless-fault r (refusing d) o (λ z. omega arith))
+
+-- A box that does not check its sheet gives 9, 10, 11, 12 or nothing, whatever the sheet.
+pub trusted-taken : (s : Sheet) (c d : List ℕ) → Taken (trustingCommand s c d .made .refusal .number)
+unfolding trustingCommand trusting sized making pick given kindOf
+trusted-taken s c d = unless-taken (commandFault c) d _ (command-taken c) (unless-taken _ d _ (if-holds Taken (refuse 12) _ accept refl refl) refl)
+
+pub respond-accepted-taken : Promised respond-accepted.ended (λ M. respond-accepted.clauses) (λ M. respond-accepted.spec) (λ x o. Taken (o .0 .refusal .number))
+respond-accepted-taken x = promises (x .𝓤) (λ o. by (λ (z : Outcome). Taken (z .made .refusal .number)) (trusted-taken _ _ _))
+
+pub gcf-respond-accepted-taken : Promised gcf-respond-accepted.ended (λ M. gcf-respond-accepted.clauses) (λ M. gcf-respond-accepted.spec) (λ x o. Taken (o .0))
+unfolding showMade
+gcf-respond-accepted-taken x = promises (x .𝓤) (λ o. by (λ (z : Left (List ℕ)). Taken (z .number)) (trusted-taken _ _ _))
+
+pub gcf-respond-columns-accepted-taken : Promised gcf-respond-columns-accepted.ended (λ M. gcf-respond-columns-accepted.clauses) (λ M. gcf-respond-columns-accepted.spec) (λ x o. Taken (o .0))
+unfolding showMade
+gcf-respond-columns-accepted-taken x = promises (x .𝓤) (λ o. by (λ (z : Left (List ℕ)). Taken (z .number)) (trusted-taken _ _ _))
+
 -- The same of a box with an image: import's numbers but 42, and those that it shares.
 pub image-taken : (i c d : List ℕ) → Taken (imageAnswered i c d .made .refusal .number)
 unfolding imageAnswered pick given kindOf
@@ -141,6 +254,19 @@ rom-respond-taken x = promises (x .𝓤) (λ o. by (λ (z : Outcome). Taken (z .
 pub gcf-respond-image-taken : Promised gcf-respond-image.ended (λ M. gcf-respond-image.clauses) (λ M. gcf-respond-image.spec) (λ x o. Taken (o .0))
 unfolding showPlaced
 gcf-respond-image-taken x = promises (x .𝓤) (λ o. by (λ (z : Left (List ℕ)). Taken (z .number)) (image-taken _ _ _))
+
+-- and from an image that was checked once
+image-once-taken : (i c d : List ℕ) → Taken (imageCommanded i c d .made .refusal .number)
+unfolding imageCommanded imageRequested pick given kindOf
+image-once-taken i c d =
+    unless-taken (commandFault c) d _ (command-taken c) (subst Taken (sym (makes-number accept 12 _ d)) (orElse-holds Taken accept _ refl (if-holds Taken (refuse 12) _ accept refl refl)))
+
+pub rom-respond-accepted-taken : Promised rom-respond-accepted.ended (λ M. rom-respond-accepted.clauses) (λ M. rom-respond-accepted.spec) (λ x o. Taken (o .0 .refusal .number))
+rom-respond-accepted-taken x = promises (x .𝓤) (λ o. by (λ (z : Outcome). Taken (z .made .refusal .number)) (image-once-taken _ _ _))
+
+pub gcf-respond-image-accepted-taken : Promised gcf-respond-image-accepted.ended (λ M. gcf-respond-image-accepted.clauses) (λ M. gcf-respond-image-accepted.spec) (λ x o. Taken (o .0))
+unfolding showMade
+gcf-respond-image-accepted-taken x = promises (x .𝓤) (λ o. by (λ (z : Left (List ℕ)). Taken (z .number)) (image-once-taken _ _ _))
 
 -- A command gives the number n: from this sheet or this image, for these bytes, with this buffer.
 pub data Occurs (n : ℕ) : Type 0 where

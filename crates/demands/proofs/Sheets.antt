@@ -12,6 +12,7 @@ use Rattle.refusal.proofs.First.{placed-number}
 use Rattle.profiles.specs.Profiles.{recordsFault}
 use Rattle.layout.specs.declared.Layout.{Layout}
 use Rattle.layout.specs.Layout.{Sheet, sheetSize, flags, profilesPart}
+use Rattle.layout.proofs.Promised.{Laying, laying}
 use Rattle.sheet.specs.Check.{entryRule, entryFault, counted, verdict, Accepted}
 use Rattle.sheet.specs.Facts.{Facts}
 use Rattle.sheet.specs.Lines.{LocatedIn, NoVersions, oldVerdict}
@@ -19,6 +20,7 @@ use Rattle.sheet.specs.Meaning.{sheetOf}
 use Rattle.sheet.proofs.Accepted.{facts, accept-of}
 use Rattle.sheet.proofs.Build.{sheet-accepted, sheet-bytes}
 use Rattle.sheet.proofs.Lines.{verdict-located, verdict-old}
+use Rattle.sheet.proofs.Promised.{Grounds, grounds}
 use Rattle.capture.proofs.Numbers.{if-is, orElse-is, first-is, rule-is, record-is}
 use Rattle.sheet.proofs.Longest.{longest, longestDrive, longest-fine, longest-reached}
 
@@ -52,7 +54,8 @@ unfolding oneOf
 verdict-numbers = verdict-is (λ n. oneOf sheetNumbers n ≡ true) refl refl refl refl refl refl refl refl refl refl
 
 -- Of the answer r to the sheet s: it is the first refusal in the paper's order, and none is given exactly where all that the format asks for holds. Its
--- number is one of ten. Its place is that of the first profile or entry at fault, 0 where its number has none; where no entry has a Version above 0,
+-- number is one of ten, and in plain numbers each has its ground and its turn: `plain` speaks of the sheet's fields, and `places` says where in its bytes these
+-- stand. Its place is that of the first profile or entry at fault, 0 where its number has none; where no entry has a Version above 0,
 -- document 01's number is a function of its number.
 pub record Checks (s : Sheet) (r : Refusal) : Type 0 where
   pub exact : r ≡ verdict s
@@ -61,6 +64,8 @@ pub record Checks (s : Sheet) (r : Refusal) : Type 0 where
   pub numbers : oneOf sheetNumbers (r .number) ≡ true
   pub located : LocatedIn s r
   pub old-number : NoVersions s → oldVerdict s .number ≡ old (r .number)
+  pub plain : Grounds s r
+  pub places : Laying (s .bytes)
 
 pub checks : (s : Sheet) → Checks s (verdict s)
 checks s = record {
@@ -70,6 +75,8 @@ checks s = record {
   numbers = verdict-numbers s;
   located = verdict-located s;
   old-number = verdict-old s;
+  plain = grounds s;
+  places = laying (s .bytes);
 }
 
 -- In each layout an accepted sheet of 17,039,356 bytes, and none is longer.
