@@ -37,10 +37,16 @@ archive_unnamed() { # FILE OUT
             -e 's/^define noundef i8 @/define noundef zeroext i8 @/' "$2"
 }
 
-# A kit like the one that is there, but for a compiler that also keeps the code it is handed and the words it is called with; rt over it. Leaves
-# target/own/abi.bc and target/own/words.
-archive_code() {
-    local kit=$PWD/target/own/kit here=$PWD/target/own part
+# What the archive is made from, as one number: the kit, and the code of `abi` and of the crates that it stands on.
+archive_stamp() {
+    local crate folders=()
+    for crate in abi $(sed -n 's/^abi://p' crates.txt); do folders+=("crates/$crate/src"); done
+    { rt version && sed -n '/^abi:/p' crates.txt && find "${folders[@]}" -type f -print0 | sort -z | xargs -0 sha256sum; } | sha256sum
+}
+
+# A kit like the one that is there, but for a compiler that also keeps the code it is handed and the words it is called with.
+archive_keeping_kit() { # FOLDER
+    local kit=$1/kit part
     rm -rf "$kit" && mkdir -p "$kit/on/$archive_machine/toolchain/bin" || return 1
     for part in "$archive_kit"/*; do [ "${part##*/}" = on ] || ln -s "$part" "$kit/" || return 1; done
     for part in "$archive_kit/on/$archive_machine"/*; do [ "${part##*/}" = toolchain ] || ln -s "$part" "$kit/on/$archive_machine/" || return 1; done
@@ -48,44 +54,55 @@ archive_code() {
     for part in "$archive_tools"/bin/*; do [ "${part##*/}" = clang ] || ln -s "$part" "$kit/on/$archive_machine/toolchain/bin/" || return 1; done
     cat >"$kit/on/$archive_machine/toolchain/bin/clang" <<END
 #!/bin/sh
-for word in "\$@"; do case \$word in *.bc) cp "\$word" "$here/abi.bc" && printf '%s\\n' "\$@" >"$here/words" ;; esac; done
+for word in "\$@"; do case \$word in *.bc) cp "\$word" "$1/abi.bc" && printf '%s\\n' "\$@" >"$1/words" ;; esac; done
 exec "$archive_tools/bin/clang" "\$@"
 END
     chmod +x "$kit/on/$archive_machine/toolchain/bin/clang"
-    RATTLE_HOME=$kit rt staticlib abi >"$here/log" 2>&1 && return
-    rm -f "$here/abi.bc"
-    return 1
 }
 
-# That code, without the processor that it names: target/own/abi.ll.
+# The archive and its code, once for each stamp, whoever asks first: rt over that kit leaves target/staticlib/libabi.a, target/own/abi.bc and target/own/words.
+# One at a time, and not beside a gcf or an ./install that builds: two of rt in one folder are not safe.
+archive_made() {
+    local here=$PWD/target/own
+    mkdir -p "$here" || return 1
+    (
+        flock 7 || exit 1
+        stamp=$(archive_stamp)
+        [ ! -f target/staticlib/libabi.a ] || [ "$stamp" != "$(cat "$here/stamp" 2>/dev/null)" ] || exit 0
+        rm -f "$here/stamp" "$here/abi.bc" "$here/abi.ll"
+        archive_keeping_kit "$here" && RATTLE_HOME=$here/kit rt staticlib abi >"$here/log" 2>&1 && [ -f "$here/abi.bc" ] && printf '%s\n' "$stamp" >"$here/stamp"
+    ) 7>target/gcf.lock
+}
+
+# The same code without the processor that it names: target/own/abi.ll.
 archive_ll() {
     local here=$PWD/target/own
-    ! archive_fresh "$here/abi.ll" || return 0
-    archive_fresh "$here/abi.bc" || archive_code || return 1
-    archive_unnamed "$here/abi.bc" "$here/abi.ll.new" >>"$here/log" 2>&1 && mv "$here/abi.ll.new" "$here/abi.ll"
+    archive_made || return 1
+    [ ! -f "$here/abi.ll" ] || return 0
+    archive_unnamed "$here/abi.bc" "$here/abi.ll.$$" >>"$here/log" 2>&1 && mv "$here/abi.ll.$$" "$here/abi.ll"
 }
 
-# It compiled for a processor, as FOLDER/libgcf.a. The archive that rt makes is taken as it is for x86-64 Linux.
+# It compiled for a processor, as FOLDER/libgcf.a. The archive that rt makes is taken as it is for x86-64 Linux. It is put in its place whole, since tests that link
+# it run side by side.
 archive_target() { # TRIPLE FOLDER
-    local log=$PWD/target/archive.log
-    mkdir -p "$2" || return 1
+    local log=$PWD/target/archive.log part=$2/part.$$
+    mkdir -p "$part" || return 1
     if [ "$1" = x86_64-unknown-linux-gnu ]; then
-        archive_fresh target/staticlib/libabi.a || rt staticlib abi >"$log" 2>&1 || return 1
-        cp target/staticlib/libabi.a "$2/libgcf.a"
-        return
+        archive_made && cp target/staticlib/libabi.a "$part/libgcf.a" || return 1
+    else
+        archive_ll || return 1
+        # blocks that are jumped to begin at 16 bytes: what a loop takes would else hang, by a seventh, on what stands before it
+        "$archive_tools/bin/clang" --target="$1" --no-default-config -Wno-override-module -O3 -fPIC -ffunction-sections -fdata-sections \
+            -mllvm -align-all-nofallthru-blocks=4 -c -x ir target/own/abi.ll -o "$part/gcf.o" >"$log" 2>&1 || return 1
+        "$archive_tools/bin/llvm-ar" crs "$part/libgcf.a" "$part/gcf.o" || return 1
     fi
-    archive_ll || return 1
-    # blocks that are jumped to begin at 16 bytes: what a loop takes would else hang, by a seventh, on what stands before it
-    "$archive_tools/bin/clang" --target="$1" --no-default-config -Wno-override-module -O3 -fPIC -ffunction-sections -fdata-sections \
-        -mllvm -align-all-nofallthru-blocks=4 -c -x ir target/own/abi.ll -o "$2/gcf.o" >"$log" 2>&1 || return 1
-    rm -f "$2/libgcf.a"
-    "$archive_tools/bin/llvm-ar" crs "$2/libgcf.a" "$2/gcf.o" && rm "$2/gcf.o"
+    mv "$part/libgcf.a" "$2/libgcf.a" && rm -r "$part"
 }
 
 # That code as text for x86-64, compiled by the words that made the archive, with the frame of each function: target/own/abi.s and target/own/abi.su.
 archive_text() {
     local here=$PWD/target/own word words=()
-    archive_code || return 1
+    archive_made || return 1
     while IFS= read -r word; do
         case $word in
         -c) word=-S ;;
@@ -95,11 +112,6 @@ archive_text() {
         words+=("$word")
     done <"$here/words"
     "$archive_tools/bin/clang" "${words[@]}" -fstack-usage >>"$here/log" 2>&1
-}
-
-# whether a file that is made of the exported functions is there and nothing that it is made of is newer
-archive_fresh() { # FILE
-    [ -f "$1" ] && [ -z "$(find crates.txt crates/*/src -type f -newer "$1")" ]
 }
 
 archive_for() { # cross | own
@@ -116,8 +128,7 @@ archive_for() { # cross | own
         CC=(x86_64-linux-gnu-gcc)
         archive_run=("$archive_tools/bin/qemu-x86_64" "$archive_tools/lib/ld-linux-x86-64.so.2" --library-path "$archive_tools/lib")
         # a Rust program asks for its stack's bounds when it starts, which the emulator cannot tell; it does without where the call fails
-        echo 'int pthread_getattr_np(void) { return 38; }' >target/start.c
-        x86_64-linux-gnu-gcc -O2 -c target/start.c -o target/start.o || return 1
+        echo 'int pthread_getattr_np(void) { return 38; }' | x86_64-linux-gnu-gcc -O2 -c -x c - -o "target/start.$$.o" && mv "target/start.$$.o" target/start.o || return 1
         archive_rust=(/usr/bin/rustc --target x86_64-unknown-linux-gnu -C linker=x86_64-linux-gnu-gcc -C "link-arg=$PWD/target/start.o")
     fi
 }
