@@ -3,6 +3,7 @@ ties it to the demand. The rules, by their names:
 
   form    the statement is the form that is due, of this function's own contract
   view    two outcomes are compared whole or, of a reference, by what is `seen`, and by nothing less
+  names   a statement binds a call's arguments by the names of the function's head, in its order, and speaks of them by these alone
   asks    a theorem of a function that asks says what it asks, to the letter
   nothing no statement, promise or field is Unit, and none has a premise that is never met
   itself  none says that something equals itself, and no promise holds an outcome against an outcome
@@ -14,6 +15,7 @@ import re
 import antt
 import source
 from report import Case
+from tree import kept
 
 
 UNITS = {"Unit", "Unit {0}", "⊤", "tt"}
@@ -25,6 +27,9 @@ ORIGINS = {
     "Promised": "crates/base/proofs/Promise.antt",
     "DecidedAsking": "crates/demands/proofs/Asking.antt",
     "PromisedAsking": "crates/demands/proofs/Asking.antt",
+    "named": "crates/demands/proofs/Named.antt",
+    "met": "crates/demands/proofs/Named.antt",
+    "saying": "crates/demands/proofs/Named.antt",
 }
 
 
@@ -95,9 +100,53 @@ def decided(function):
 
 def as_asked(found, function, met):
     """What a theorem says that its function asks is the function's `requires`, to the letter."""
-    said = with_names(function, re.sub(r"^\(λ x\. (.*)\)$", r"\1", met))
+    _, said = bound(found, function, met, "met")
     if said != antt.plain(function.asks):
         raise Refused("asks", f"{found.name} says that it asks '{said}', and it asks '{antt.plain(function.asks)}'")
+
+
+# ---- the names of a call
+
+def bound(found, function, text, word):
+    """What is said of a call, where it stands as `word (λ _ NAMES. ..)` with the names of the function's head, and those of the outcome."""
+    opened = re.match(rf"\({word} \(λ _ ([^.]*)\. (.*)\)\)$", text)
+    if not opened:
+        raise Refused("form", f"{found.name}: '{text}' is not '({word} (λ _ NAMES. ..))'")
+    from_its_file(found, word)
+    names = opened.group(1).split()
+    return in_order(found, function, names, word == "met"), opened.group(2)
+
+
+def in_order(found, function, names, entry_alone):
+    """The names of an outcome's parts, where a call's names are those of the function's head, each with a subscript or none; `_` stands for what is not spoken of."""
+    if function is None:
+        raise Refused("names", f"{found.name} speaks of a call of no public function")
+    head = [name for name, _ in function.parameters]
+    exits = [f"{name}′" if name in function.written() else "_" for name in head]
+    due = head if entry_alone else [*head, "r" if function.returns else "_", *exits]
+    bare = [name.strip("«»′₂₃₄") + ("′" if name.endswith("′") else "") for name in names]
+    if len(bare) != len(due) or any(name not in (own, "_") for name, own in zip(bare, due)):
+        raise Refused("names", f"{found.name} names a call of {function.path} '{' '.join(names)}', and not '{' '.join(due)}'")
+    return [name for name in names[len(head):] if name != "_"]
+
+
+def named(found):
+    """Each call that a statement speaks of has the names of its function's head, and no part of it is taken by its place."""
+    functions = {alias: by_module().get(module) for alias, module in antt.imports(found.file)[1].items()}
+    outcomes = dict(re.findall(r"\((\S+) : Outcome (\S+)\.ended ", found.statement))
+    for outcome, names in re.findall(r"saying (?:\([^()]*\)|\S+) (\S+) \(λ _ ([^.]*)\.", found.statement):
+        from_its_file(found, "saying")
+        in_order(found, functions.get(outcomes.get(outcome)), names.split(), False)
+    for alias, names in re.findall(r"^(?:Promised|PromisedAsking) (\S+)\.ended .*?\(named \(λ _ ([^.]*)\.", found.statement):
+        in_order(found, functions.get(alias), names.split(), False)
+    taken = "|".join([r"\bargs[₂₃₄]? \.[01]", r"\(λ x o\. ", *(rf"(?<![\w′]){re.escape(each)} \.[01]" for each in outcomes)])
+    if placed := re.search(taken, found.statement):
+        raise Refused("names", f"{found.name} takes a part of a call by its place, '{placed.group()}', and not by a name")
+
+
+@kept
+def by_module():
+    return {function.module(): function for function in source.public()}
 
 
 # ---- a contract is tied to a demand
@@ -109,28 +158,12 @@ def tied(function):
         as_asked(found, function, met)
     else:
         (promise,) = takes(found, name, "Promised", 1)
-    opened = re.match(r"\(λ x o\. (.*)\)$", promise)
-    if not opened:
-        raise Refused("form", f"{found.name}: its promise is not '(λ x o. ..)'")
-    body = with_names(function, opened.group(1))
-    parts = (["r"] if function.returns else []) + [f"{each}′" for each in function.written()]
+    outcome, body = bound(found, function, promise, "named")
     for part in antt.parts_of(body):
-        promised(found.file, found.name, part, [*parts, "r"])
-    for part in parts:
-        if part not in antt.words(body):
+        promised(found.file, found.name, part, outcome)
+    for part in (["r"] if function.returns else []) + [f"{each}′" for each in function.written()]:
+        if part not in outcome or part not in antt.words(body):
             raise Refused("silent", f"{found.name} does not speak of {'the result' if part == 'r' else 'what stands behind ' + part[:-1] + ' at exit'}")
-
-
-def with_names(function, text):
-    """A text over a call x and its outcome o, with the function's own names for the arguments, r for the result, and a prime behind a name for what stands there at exit."""
-    names = [name for name, _ in function.parameters]
-
-    def place(found):
-        return names[len(found.group(1)) // 3]
-    text = re.sub(r"x \.args((?: \.1)*) \.0", place, text)
-    text = re.sub(r"\bo \.1((?: \.1)*) \.0", lambda found: place(found) + "′", text)
-    text = re.sub(r"\bo \.0", "r", text)
-    return re.sub(r"\((\w+)\)", r"\1", re.sub(r"\b([\w′]+) \.now", r"now \1", text))
 
 
 def promised(file, name, text, outcome):
@@ -203,5 +236,6 @@ def cases():
                 yield case(f"{file}, {found.name}: each field says something", filled, found.name, found)
             elif "pub" in found.front and not found.is_definition():
                 yield case(f"{file}, {found.name}: it says something", says, found.name, found.statement)
+                yield case(f"{file}, {found.name}: calls have the names of the sources", named, found)
 
 

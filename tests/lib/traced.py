@@ -1,11 +1,11 @@
-"""docs/TRACE.md: each name that a row cites is there; and each row has a wrong definition that is refused, in the table of docs/PROOFS.md."""
+"""docs/TRACE.md: each name that a row cites is there; and, where docs/PROOFS.md has the table of wrong definitions that are refused, each row has a line in it."""
 import re
 from collections import Counter
 
 from report import Case
 from tree import exists, text_of
 
-TABLE = "## Wrong definitions that are refused"
+TABLE = re.compile(r"^#+ Wrong definitions that are refused$(.*?)(?=^#|\Z)", re.M | re.S)
 
 
 def rows():
@@ -45,12 +45,14 @@ def cited_wrong(path, name):
 
 
 def refused():
-    """The ids of the table of wrong definitions, or nothing where there is no such table."""
-    text = text_of("docs/PROOFS.md")
-    if TABLE not in text:
-        return None
-    part = text.split(TABLE, 1)[1].split("\n## ", 1)[0]
-    return Counter(name for ids in re.findall(r"^\| ([\w, ]+?) \|.*\|.*\|$", part, re.M) for name in ids.split(", "))
+    """The ids of the table of wrong definitions, a row's own, several, or a range as N1-N8; nothing where there is no such table."""
+    table = TABLE.search(text_of("docs/PROOFS.md"))
+    return table and {name for ids in re.findall(r"^\| ([\w, -]+?) \|.*\|.*\|$", table.group(1), re.M) for part in ids.split(", ") for name in spread(part)}
+
+
+def spread(part):
+    found = re.fullmatch(r"([A-Z]+)(\d+)-\1(\d+)", part)
+    return [f"{found.group(1)}{n}" for n in range(int(found.group(2)), int(found.group(3)) + 1)] if found else [part]
 
 
 def cases(quick):
@@ -69,4 +71,4 @@ def cases(quick):
         yield Case("trace", f"docs/TRACE.md, {name}", "; ".join(faults))
     if (found := refused()) is not None:
         for name, _, _ in rows():
-            yield Case("refused", f"docs/PROOFS.md, {name}: a wrong definition that is refused", None if found[name] else "it has no line in the table")
+            yield Case("refused", f"docs/PROOFS.md, {name}: a wrong definition that is refused", None if name in found else "it has no line in the table")

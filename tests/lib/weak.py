@@ -11,7 +11,7 @@ from report import Case
 from tree import changed, text_of
 
 # asked by these rules, and by each of them at least one weakening must be refused
-RULES = {"form", "view", "asks", "nothing", "itself", "silent", "empty", "open", "calls", "kept"}
+RULES = {"form", "view", "names", "asks", "nothing", "itself", "silent", "empty", "open", "calls", "kept"}
 
 
 def asked():

@@ -10,6 +10,7 @@ use contract.Lifetimes.{Lfts}
 use denote.Triple.Entry.{Res}
 use denote.Triple.Clauses.{Ended, closing}
 use lib.ListN.{length, getD, take, drop}
+use denote.Ref.{now}
 use Rattle.base.proofs.Decided.{Contract, Stated, Call, Outcome, asked, allowed, decides, joined, _&_}
 use Rattle.base.proofs.Promise.{promises}
 use Rattle.base.specs.Lists.{each}
@@ -33,6 +34,7 @@ use Rattle.layout.proofs.find as find
 use Rattle.layout.proofs.put_head as put-head
 use Rattle.layout.proofs.place_row as place-row
 use Rattle.layout.proofs.put_contents as put-contents
+use Rattle.demands.proofs.Named.{named, met}
 
 -- The contract s of the function's theorem is made of the clauses c, no more than q is asked of the caller, and two outcomes that are allowed are the same
 -- to whoever has `see` of the result
@@ -61,92 +63,92 @@ promises-asking 𝓤 {q} {O} {φ} {χ} {C} {s} f = (refl, id⊢ 𝓤 (fact 𝓤 
 
 -- ---- fields
 
-pub inside-decided : DecidedAsking inside.ended (λ M. inside.clauses) (λ M. inside.spec) (λ x. x .args .1 .0 < length (x .args .0 .now)) (λ κs r. r)
+pub inside-decided : DecidedAsking inside.ended (λ M. inside.clauses) (λ M. inside.spec) (met (λ _ s at. at < length (now s))) (λ κs r. r)
 inside-decided x = decides-asking (x .𝓤) (λ o o′ p q. (joined p q, refl))
 
-pub inside-tied : PromisedAsking inside.ended (λ M. inside.clauses) (λ M. inside.spec) (λ x. x .args .1 .0 < length (x .args .0 .now)) (λ x o. o .0 ≡ getD (x .args .0 .now) (x .args .1 .0) 0)
+pub inside-tied : PromisedAsking inside.ended (λ M. inside.clauses) (λ M. inside.spec) (met (λ _ s at. at < length (now s))) (named (λ _ s at r _ _. r ≡ getD (now s) at 0))
 inside-tied x = promises-asking (x .𝓤) (λ o e. e)
 
-pub inside2-decided : DecidedAsking inside2.ended (λ M. inside2.clauses) (λ M. inside2.spec) (λ x. x .args .1 .0 + 2 ≤ length (x .args .0 .now)) (λ κs r. r)
+pub inside2-decided : DecidedAsking inside2.ended (λ M. inside2.clauses) (λ M. inside2.spec) (met (λ _ s at. at + 2 ≤ length (now s))) (λ κs r. r)
 inside2-decided x = decides-asking (x .𝓤) (λ o o′ p q. (joined p q, refl))
 
-pub inside2-tied : PromisedAsking inside2.ended (λ M. inside2.clauses) (λ M. inside2.spec) (λ x. x .args .1 .0 + 2 ≤ length (x .args .0 .now)) (λ x o. o .0 ≡ field 2 (x .args .0 .now) (x .args .1 .0))
+pub inside2-tied : PromisedAsking inside2.ended (λ M. inside2.clauses) (λ M. inside2.spec) (met (λ _ s at. at + 2 ≤ length (now s))) (named (λ _ s at r _ _. r ≡ field 2 (now s) at))
 inside2-tied x = promises-asking (x .𝓤) (λ o e. e)
 
-pub inside4-decided : DecidedAsking inside4.ended (λ M. inside4.clauses) (λ M. inside4.spec) (λ x. x .args .1 .0 + 4 ≤ length (x .args .0 .now)) (λ κs r. r)
+pub inside4-decided : DecidedAsking inside4.ended (λ M. inside4.clauses) (λ M. inside4.spec) (met (λ _ s at. at + 4 ≤ length (now s))) (λ κs r. r)
 inside4-decided x = decides-asking (x .𝓤) (λ o o′ p q. (joined p q, refl))
 
-pub inside4-tied : PromisedAsking inside4.ended (λ M. inside4.clauses) (λ M. inside4.spec) (λ x. x .args .1 .0 + 4 ≤ length (x .args .0 .now)) (λ x o. o .0 ≡ field 4 (x .args .0 .now) (x .args .1 .0))
+pub inside4-tied : PromisedAsking inside4.ended (λ M. inside4.clauses) (λ M. inside4.spec) (met (λ _ s at. at + 4 ≤ length (now s))) (named (λ _ s at r _ _. r ≡ field 4 (now s) at))
 inside4-tied x = promises-asking (x .𝓤) (λ o e. e)
 
 -- ---- lent
 
 pub place-decided : DecidedAsking place.ended (λ M. place.clauses) (λ M. place.spec)
-    (λ x. (x .args .1 .0 + x .args .1 .1 .1 .1 .0 ≤ length (x .args .0 .now)) × (x .args .1 .1 .1 .0 + x .args .1 .1 .1 .1 .0 ≤ length (x .args .1 .1 .0 .now))) (λ κs r. r)
+    (met (λ _ out at s from count. (at + count ≤ length (now out)) × (from + count ≤ length (now s)))) (λ κs r. r)
 place-decided x = decides-asking (x .𝓤) (λ o o′ p q. (same p q .0, same p q .1 & refl))
 
 pub place-tied : PromisedAsking place.ended (λ M. place.clauses) (λ M. place.spec)
-    (λ x. (x .args .1 .0 + x .args .1 .1 .1 .1 .0 ≤ length (x .args .0 .now)) × (x .args .1 .1 .1 .0 + x .args .1 .1 .1 .1 .0 ≤ length (x .args .1 .1 .0 .now)))
-    (λ x o. Wrote (x .args .0 .now) (x .args .1 .0) (take (x .args .1 .1 .1 .1 .0) (drop (x .args .1 .1 .1 .0) (x .args .1 .1 .0 .now))) (o .0) (o .1 .0))
+    (met (λ _ out at s from count. (at + count ≤ length (now out)) × (from + count ≤ length (now s))))
+    (named (λ _ out at s from count r out′ _ _ _ _. Wrote (now out) at (take count (drop from (now s))) r out′))
 place-tied x = promises-asking (x .𝓤) (λ o e. e)
 
-pub place4-decided : DecidedAsking place4.ended (λ M. place4.clauses) (λ M. place4.spec) (λ x. (length (x .args .1 .1 .0 .now) ≡ 4) × (x .args .1 .0 + 4 ≤ length (x .args .0 .now))) (λ κs r. r)
+pub place4-decided : DecidedAsking place4.ended (λ M. place4.clauses) (λ M. place4.spec) (met (λ _ out at part. (length (now part) ≡ 4) × (at + 4 ≤ length (now out)))) (λ κs r. r)
 place4-decided x = decides-asking (x .𝓤) (λ o o′ p q. (same p q .0, same p q .1 & refl))
 
-pub place4-tied : PromisedAsking place4.ended (λ M. place4.clauses) (λ M. place4.spec) (λ x. (length (x .args .1 .1 .0 .now) ≡ 4) × (x .args .1 .0 + 4 ≤ length (x .args .0 .now)))
-    (λ x o. Wrote (x .args .0 .now) (x .args .1 .0) (x .args .1 .1 .0 .now) (o .0) (o .1 .0))
+pub place4-tied : PromisedAsking place4.ended (λ M. place4.clauses) (λ M. place4.spec) (met (λ _ out at part. (length (now part) ≡ 4) × (at + 4 ≤ length (now out))))
+    (named (λ _ out at part r out′ _ _. Wrote (now out) at (now part) r out′))
 place4-tied x = promises-asking (x .𝓤) (λ o e. e)
 
-pub set4-decided : DecidedAsking set4.ended (λ M. set4.clauses) (λ M. set4.spec) (λ x. x .args .1 .0 + 4 ≤ length (x .args .0 .now)) (λ κs r. r)
+pub set4-decided : DecidedAsking set4.ended (λ M. set4.clauses) (λ M. set4.spec) (met (λ _ out at v. at + 4 ≤ length (now out))) (λ κs r. r)
 set4-decided x = decides-asking (x .𝓤) (λ o o′ p q. (same p q .0, same p q .1 & refl))
 
-pub set4-tied : PromisedAsking set4.ended (λ M. set4.clauses) (λ M. set4.spec) (λ x. x .args .1 .0 + 4 ≤ length (x .args .0 .now))
-    (λ x o. Wrote (x .args .0 .now) (x .args .1 .0) (spell 4 (x .args .1 .1 .0)) (o .0) (o .1 .0))
+pub set4-tied : PromisedAsking set4.ended (λ M. set4.clauses) (λ M. set4.spec) (met (λ _ out at v. at + 4 ≤ length (now out)))
+    (named (λ _ out at v r out′ _ _. Wrote (now out) at (spell 4 v) r out′))
 set4-tied x = promises-asking (x .𝓤) (λ o e. e)
 
 -- ---- profiles
 
-pub profiles-fault-decided : DecidedAsking profiles-fault.ended (λ M. profiles-fault.clauses) (λ M. profiles-fault.spec) (λ x. length (x .args .0 .now) < 262144) (λ κs r. r)
+pub profiles-fault-decided : DecidedAsking profiles-fault.ended (λ M. profiles-fault.clauses) (λ M. profiles-fault.spec) (met (λ _ b. length (now b) < 262144)) (λ κs r. r)
 profiles-fault-decided x = decides-asking (x .𝓤) (λ o o′ p q. (joined p q, refl))
 
-pub profiles-fault-tied : PromisedAsking profiles-fault.ended (λ M. profiles-fault.clauses) (λ M. profiles-fault.spec) (λ x. length (x .args .0 .now) < 262144) (λ x o. o .0 ≡ recordsFault (x .args .0 .now))
+pub profiles-fault-tied : PromisedAsking profiles-fault.ended (λ M. profiles-fault.clauses) (λ M. profiles-fault.spec) (met (λ _ b. length (now b) < 262144)) (named (λ _ b r _. r ≡ recordsFault (now b)))
 profiles-fault-tied x = promises-asking (x .𝓤) (λ o e. e)
 
 -- ---- layout
 
-pub entry-in-decided : DecidedAsking entry-in.ended (λ M. entry-in.clauses) (λ M. entry-in.spec) (λ x. Room (x .args .1 .0 .now) (x .args .1 .1 .0) × (x .args .1 .1 .1 .0 < x .args .1 .1 .0)) (λ κs r. r)
+pub entry-in-decided : DecidedAsking entry-in.ended (λ M. entry-in.clauses) (λ M. entry-in.spec) (met (λ _ lay s n i. Room (now s) n × (i < n))) (λ κs r. r)
 entry-in-decided x = decides-asking (x .𝓤) (λ o o′ p q. (joined p q, refl))
 
-pub entry-in-tied : PromisedAsking entry-in.ended (λ M. entry-in.clauses) (λ M. entry-in.spec) (λ x. Room (x .args .1 .0 .now) (x .args .1 .1 .0) × (x .args .1 .1 .1 .0 < x .args .1 .1 .0))
-    (λ x o. o .0 ≡ entryOf (stored (x .args .0) (x .args .1 .0 .now)) (x .args .1 .1 .1 .0))
+pub entry-in-tied : PromisedAsking entry-in.ended (λ M. entry-in.clauses) (λ M. entry-in.spec) (met (λ _ lay s n i. Room (now s) n × (i < n)))
+    (named (λ _ lay s n i r _ _ _ _. r ≡ entryOf (stored lay (now s)) i))
 entry-in-tied x = promises-asking (x .𝓤) (λ o e. e)
 
-pub find-decided : DecidedAsking find.ended (λ M. find.clauses) (λ M. find.spec) (λ x. Room (x .args .1 .0 .now) (x .args .1 .1 .0) × (x .args .1 .1 .1 .0 < x .args .1 .1 .0)) (λ κs r. r)
+pub find-decided : DecidedAsking find.ended (λ M. find.clauses) (λ M. find.spec) (met (λ _ lay s n i. Room (now s) n × (i < n))) (λ κs r. r)
 find-decided x = decides-asking (x .𝓤) (λ o o′ p q. (joined p q, refl))
 
-pub find-tied : PromisedAsking find.ended (λ M. find.clauses) (λ M. find.spec) (λ x. Room (x .args .1 .0 .now) (x .args .1 .1 .0) × (x .args .1 .1 .1 .0 < x .args .1 .1 .0))
-    (λ x o. o .0 ≡ foundOf (stored (x .args .0) (x .args .1 .0 .now)) (x .args .1 .1 .1 .0))
+pub find-tied : PromisedAsking find.ended (λ M. find.clauses) (λ M. find.spec) (met (λ _ lay s n i. Room (now s) n × (i < n)))
+    (named (λ _ lay s n i r _ _ _ _. r ≡ foundOf (stored lay (now s)) i))
 find-tied x = promises-asking (x .𝓤) (λ o e. e)
 
 pub put-head-decided : DecidedAsking put-head.ended (λ M. put-head.clauses) (λ M. put-head.spec)
-    (λ x. Room (x .args .1 .1 .1 .0 .now) (x .args .1 .1 .1 .1 .0) × (x .args .1 .1 .1 .1 .1 .0 < x .args .1 .1 .1 .1 .0) × (x .args .1 .0 + 4 ≤ length (x .args .0 .now))) (λ κs r. r)
+    (met (λ _ out at lay s n i. Room (now s) n × (i < n) × (at + 4 ≤ length (now out)))) (λ κs r. r)
 put-head-decided x = decides-asking (x .𝓤) (λ o o′ p q. (same p q .0, same p q .1 & refl))
 
 pub put-head-tied : PromisedAsking put-head.ended (λ M. put-head.clauses) (λ M. put-head.spec)
-    (λ x. Room (x .args .1 .1 .1 .0 .now) (x .args .1 .1 .1 .1 .0) × (x .args .1 .1 .1 .1 .1 .0 < x .args .1 .1 .1 .1 .0) × (x .args .1 .0 + 4 ≤ length (x .args .0 .now)))
-    (λ x o. Wrote (x .args .0 .now) (x .args .1 .0) (headBytes (entryOf (stored (x .args .1 .1 .0) (x .args .1 .1 .1 .0 .now)) (x .args .1 .1 .1 .1 .1 .0))) (o .0) (o .1 .0))
+    (met (λ _ out at lay s n i. Room (now s) n × (i < n) × (at + 4 ≤ length (now out))))
+    (named (λ _ out at lay s n i r out′ _ _ _ _ _. Wrote (now out) at (headBytes (entryOf (stored lay (now s)) i)) r out′))
 put-head-tied x = promises-asking (x .𝓤) (λ o e. e)
 
-pub place-row-decided : DecidedAsking place-row.ended (λ M. place-row.clauses) (λ M. place-row.spec) (λ x. (length (x .args .1 .1 .0 .now) ≡ 4) × (x .args .1 .0 + 8 ≤ length (x .args .0 .now))) (λ κs r. r)
+pub place-row-decided : DecidedAsking place-row.ended (λ M. place-row.clauses) (λ M. place-row.spec) (met (λ _ out at head offset. (length (now head) ≡ 4) × (at + 8 ≤ length (now out)))) (λ κs r. r)
 place-row-decided x = decides-asking (x .𝓤) (λ o o′ p q. (same p q .0, same p q .1 & refl))
 
-pub place-row-tied : PromisedAsking place-row.ended (λ M. place-row.clauses) (λ M. place-row.spec) (λ x. (length (x .args .1 .1 .0 .now) ≡ 4) × (x .args .1 .0 + 8 ≤ length (x .args .0 .now)))
-    (λ x o. Wrote (x .args .0 .now) (x .args .1 .0) (x .args .1 .1 .0 .now ++ spell 4 (x .args .1 .1 .1 .0)) (o .0) (o .1 .0))
+pub place-row-tied : PromisedAsking place-row.ended (λ M. place-row.clauses) (λ M. place-row.spec) (met (λ _ out at head offset. (length (now head) ≡ 4) × (at + 8 ≤ length (now out))))
+    (named (λ _ out at head offset r out′ _ _ _. Wrote (now out) at (now head ++ spell 4 offset) r out′))
 place-row-tied x = promises-asking (x .𝓤) (λ o e. e)
 
-pub put-contents-decided : DecidedAsking put-contents.ended (λ M. put-contents.clauses) (λ M. put-contents.spec) (λ x. Room (x .args .1 .1 .1 .1 .0 .now) (x .args .1 .1 .1 .1 .1 .0)) (λ κs r. r)
+pub put-contents-decided : DecidedAsking put-contents.ended (λ M. put-contents.clauses) (λ M. put-contents.spec) (met (λ _ out at to lay s n. Room (now s) n)) (λ κs r. r)
 put-contents-decided x = decides-asking (x .𝓤) (λ o o′ p q. (same p q .0, same p q .1 & refl))
 
-pub put-contents-tied : PromisedAsking put-contents.ended (λ M. put-contents.clauses) (λ M. put-contents.spec) (λ x. Room (x .args .1 .1 .1 .1 .0 .now) (x .args .1 .1 .1 .1 .1 .0))
-    (λ x o. Wrote (x .args .0 .now) (x .args .1 .0) (contents (x .args .1 .1 .0) (each (entryOf (stored (x .args .1 .1 .1 .0) (x .args .1 .1 .1 .1 .0 .now))) 0 (x .args .1 .1 .1 .1 .1 .0))) (o .0) (o .1 .0))
+pub put-contents-tied : PromisedAsking put-contents.ended (λ M. put-contents.clauses) (λ M. put-contents.spec) (met (λ _ out at to lay s n. Room (now s) n))
+    (named (λ _ out at to lay s n r out′ _ _ _ _ _. Wrote (now out) at (contents to (each (entryOf (stored lay (now s))) 0 n)) r out′))
 put-contents-tied x = promises-asking (x .𝓤) (λ o e. e)

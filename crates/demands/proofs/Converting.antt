@@ -12,6 +12,7 @@ use base.Logic.{ent, id⊢, via}
 use contract.Monad.{conj, conj-mono, fact}
 use contract.Lifetimes.{Lfts}
 use denote.Triple.Entry.{Args}
+use denote.Ref.{now}
 use Rattle.base.specs.Lists.{Bytes}
 use Rattle.base.proofs.Decided.{Call, Outcome, allowed}
 use Rattle.base.proofs.Promise.{by, beside, both}
@@ -42,6 +43,7 @@ use Rattle.bench.specs.Bench.{Buffers, buffers, state, Ending, ending, failing,
 use Rattle.bench.proofs.bench as bench
 use Rattle.sweep.specs.Sweep.{startRule, fresh}
 use Rattle.demands.proofs.Sending.{Leaves, leaves}
+use Rattle.demands.proofs.Named.{saying}
 
 -- ---- a conversion
 
@@ -159,11 +161,14 @@ module _ (x : Call convert.ended (λ M. convert.clauses)) (κs : Lfts (respond.e
       (q : Outcome respond.ended (λ M. respond.clauses) by-first)
       → ent (x .𝓤) (conj (x .𝓤) (allowed convert.ended (λ M. convert.clauses) x o)
       (conj (x .𝓤) (allowed respond.ended (λ M. respond.clauses) by-laid p) (allowed respond.ended (λ M. respond.clauses) by-first q))) (fact (x .𝓤) (
-      o .0 .refusal .number ≡ 0 → Bytes (x .args .1 .1 .0 .now)
-      → stored (args .0) (args .1 .0 .now) ≡ stored (x .args .0) (take (o .0 .count) (o .1 .1 .1 .1 .0))
-      → stored (args₂ .0) (args₂ .1 .0 .now) ≡ stored (x .args .1 .0) (x .args .1 .1 .0 .now)
-      → args₂ .1 .1 .0 .now ≡ args .1 .1 .0 .now → args₂ .1 .1 .1 .0 .now ≡ args .1 .1 .1 .0 .now
-      → maker.outcome (p .0) (p .1 .1 .1 .1 .0) ≡ maker.outcome (q .0) (q .1 .1 .1 .1 .0)))
+      saying x o (λ _ to lay s out r _ _ _ out′.
+      saying by-laid p (λ _ lay₂ s₂ command₂ out₂ r₂ _ _ _ out₂′.
+      saying by-first q (λ _ lay₃ s₃ command₃ out₃ r₃ _ _ _ out₃′.
+      r .refusal .number ≡ 0 → Bytes (now s)
+      → stored lay₂ (now s₂) ≡ stored to (take (r .count) out′)
+      → stored lay₃ (now s₃) ≡ stored lay (now s)
+      → now command₃ ≡ now command₂ → now out₃ ≡ now out₂
+      → maker.outcome r₂ out₂′ ≡ maker.outcome r₃ out₃′)))))
   respond-either o p q =
       via (x .𝓤) _ (conj-mono (x .𝓤) (id⊢ (x .𝓤) _) (both (x .𝓤) pair))
       (both (x .𝓤) (λ e fg z b there first is-command is-buffer.
@@ -181,13 +186,16 @@ module _ (x : Call convert.ended (λ M. convert.clauses)) (κs : Lfts (bench.end
       (q : Outcome bench.ended (λ M. bench.clauses) swept-first)
       → ent (x .𝓤) (conj (x .𝓤) (allowed convert.ended (λ M. convert.clauses) x o)
       (conj (x .𝓤) (allowed bench.ended (λ M. bench.clauses) swept-laid p) (allowed bench.ended (λ M. bench.clauses) swept-first q))) (fact (x .𝓤) (
-      o .0 .refusal .number ≡ 0 → Bytes (x .args .1 .1 .0 .now)
-      → stored (args .0) (args .1 .0 .now) ≡ stored (x .args .0) (take (o .0 .count) (o .1 .1 .1 .1 .0))
-      → stored (args₂ .0) (args₂ .1 .0 .now) ≡ stored (x .args .1 .0) (x .args .1 .1 .0 .now)
-      → args₂ .1 .1 .0 ≡ args .1 .1 .0 → args₂ .1 .1 .1 .0 ≡ args .1 .1 .1 .0 → buffers (args₂ .1 .1 .1 .1 .0 .now) (args₂ .1 .1 .1 .1 .1 .0 .now) (args₂ .1 .1 .1 .1 .1 .1 .0 .now)
-      ≡ buffers (args .1 .1 .1 .1 .0 .now) (args .1 .1 .1 .1 .1 .0 .now) (args .1 .1 .1 .1 .1 .1 .0 .now)
-      → ending (p .0) (buffers (p .1 .1 .1 .1 .1 .0) (p .1 .1 .1 .1 .1 .1 .0) (p .1 .1 .1 .1 .1 .1 .1 .0))
-      ≡ ending (q .0) (buffers (q .1 .1 .1 .1 .1 .0) (q .1 .1 .1 .1 .1 .1 .0) (q .1 .1 .1 .1 .1 .1 .1 .0))))
+      saying x o (λ _ to lay s out r _ _ _ out′.
+      saying swept-laid p (λ _ lay₂ s₂ rt₂ a₂ response₂ collected₂ starts₂ r₂ _ _ _ _ response₂′ collected₂′ starts₂′.
+      saying swept-first q (λ _ lay₃ s₃ rt₃ a₃ response₃ collected₃ starts₃ r₃ _ _ _ _ response₃′ collected₃′ starts₃′.
+      r .refusal .number ≡ 0 → Bytes (now s)
+      → stored lay₂ (now s₂) ≡ stored to (take (r .count) out′)
+      → stored lay₃ (now s₃) ≡ stored lay (now s)
+      → rt₃ ≡ rt₂ → a₃ ≡ a₂ → buffers (now response₃) (now collected₃) (now starts₃)
+      ≡ buffers (now response₂) (now collected₂) (now starts₂)
+      → ending r₂ (buffers response₂′ collected₂′ starts₂′)
+      ≡ ending r₃ (buffers response₃′ collected₃′ starts₃′))))))
   bench-either o p q =
       via (x .𝓤) _ (conj-mono (x .𝓤) (id⊢ (x .𝓤) _) (both (x .𝓤) pair))
       (both (x .𝓤) (λ e fg z b there first is-rt is-a are-lent.

@@ -12,6 +12,7 @@ use base.Logic.{ent, id⊢, via}
 use contract.Monad.{conj, conj-mono, fact}
 use contract.Lifetimes.{Lfts}
 use denote.Triple.Entry.{Args}
+use denote.Ref.{now}
 use Rattle.base.specs.Lists.{Bytes}
 use Rattle.base.proofs.Decided.{Call, Outcome, allowed}
 use Rattle.text.specs.declared.Reading.{Reading}
@@ -45,6 +46,7 @@ use Rattle.demands.proofs.Readings.{ReadBack, Reads, reads}
 use Rattle.demands.proofs.Importing.{Imports, imports}
 use Rattle.demands.proofs.Converting.{Converts, converts}
 use Rattle.demands.proofs.Senses.{Makes, makes-sense}
+use Rattle.demands.proofs.Named.{saying}
 
 pair : {φ ψ : Type 0} → φ → ψ → φ × ψ
 pair f g = (f, g)
@@ -105,9 +107,11 @@ module _ (x : Call respond.ended (λ M. respond.clauses)) (κs : Lfts (read.ende
 
   pub demand2-end-to-end : (o : Outcome respond.ended (λ M. respond.clauses) x) (p : Outcome read.ended (λ M. read.clauses) reading-of)
       → ent (x .𝓤) (conj (x .𝓤) (allowed respond.ended (λ M. respond.clauses) x o) (allowed read.ended (λ M. read.clauses) reading-of p)) (fact (x .𝓤) (
-      o .0 .refusal .number ≡ 0 → Bytes (x .args .1 .0 .now) → 8 ≤ allocationOf (x .args .1 .1 .0 .now)
-      → args .0 ≡ rtOf (x .args .1 .1 .0 .now) → args .1 .0 .0 ≡ sfnOf (x .args .1 .1 .0 .now) → args .1 .1 .0 .now ≡ take (o .0 .count) (o .1 .1 .1 .1 .0)
-      → ReadBack (meaning (stored (x .args .0) (x .args .1 .0 .now))) 65534 (rtOf (x .args .1 .1 .0 .now)) (sfnOf (x .args .1 .1 .0 .now)) (allocationOf (x .args .1 .1 .0 .now)) (args .1 .1 .0 .now) (p .0)))
+      saying x o (λ _ lay s command out r _ _ _ out′.
+      saying reading-of p (λ _ rt₂ sfn₂ s₂ r₂ _ _ _.
+      r .refusal .number ≡ 0 → Bytes (now s) → 8 ≤ allocationOf (now command)
+      → rt₂ ≡ rtOf (now command) → sfn₂ .0 ≡ sfnOf (now command) → now s₂ ≡ take (r .count) out′
+      → ReadBack (meaning (stored lay (now s))) 65534 (rtOf (now command)) (sfnOf (now command)) (allocationOf (now command)) (now s₂) r₂))))
   demand2-end-to-end o p = both (x .𝓤) (λ e f z. read-back (by (Answers _ _ _) (demand2 _ _ _) e) z (by (Reads _ _ _ _) (reads _ _ _ _) f))
 
 -- ---- a captured response end to end: `import` is called, then `respond` with the sheet that it left and a command of RT 0 from 0
@@ -126,10 +130,12 @@ module _ (x : Call import.ended (λ M. import.clauses)) (κs : Lfts (respond.end
 
   pub import-end-to-end : (o : Outcome import.ended (λ M. import.clauses) x) (p : Outcome respond.ended (λ M. respond.clauses) answer)
       → ent (x .𝓤) (conj (x .𝓤) (allowed import.ended (λ M. import.clauses) x o) (allowed respond.ended (λ M. respond.clauses) answer p)) (fact (x .𝓤) (
-      o .0 .refusal .number ≡ 0 → Bytes (x .args .0 .now) → stored (args .0) (args .1 .0 .now) ≡ stored Rows (take (o .0 .count) (o .1 .1 .0))
-      → commandFault (args .1 .1 .0 .now) .number ≡ 0 → rtOf (args .1 .1 .0 .now) ≡ 0 → sfnOf (args .1 .1 .0 .now) ≡ 0
-      → length (x .args .0 .now) ≤ allocationOf (args .1 .1 .0 .now) → length (x .args .0 .now) ≤ length (args .1 .1 .1 .0 .now)
-      → maker.outcome (p .0) (p .1 .1 .1 .1 .0) ≡ maker.making (x .args .0 .now) (args .1 .1 .1 .0 .now)))
+      saying x o (λ _ response sheet r _ sheet′.
+      saying answer p (λ _ lay₂ s₂ command₂ out₂ r₂ _ _ _ out₂′.
+      r .refusal .number ≡ 0 → Bytes (now response) → stored lay₂ (now s₂) ≡ stored Rows (take (r .count) sheet′)
+      → commandFault (now command₂) .number ≡ 0 → rtOf (now command₂) ≡ 0 → sfnOf (now command₂) ≡ 0
+      → length (now response) ≤ allocationOf (now command₂) → length (now response) ≤ length (now out₂)
+      → maker.outcome r₂ out₂′ ≡ maker.making (now response) (now out₂)))))
   import-end-to-end o p = both (x .𝓤) (λ e f. replayed (by (Imports _ _) (imports _ _) e) (by (Answers _ _ _) (demand2 _ _ _) f))
 
 -- ---- and with `convert` between them: the sheet that `import` left, laid out as l, answers the same
@@ -169,12 +175,15 @@ module _ (x : Call import.ended (λ M. import.clauses)) (κs : Lfts (convert.end
   pub import-convert-end-to-end : (o : Outcome import.ended (λ M. import.clauses) x) (q : Outcome convert.ended (λ M. convert.clauses) converting) (p : Outcome respond.ended (λ M. respond.clauses) answering)
       → ent (x .𝓤) (conj (x .𝓤) (allowed import.ended (λ M. import.clauses) x o)
       (conj (x .𝓤) (allowed convert.ended (λ M. convert.clauses) converting q) (allowed respond.ended (λ M. respond.clauses) answering p))) (fact (x .𝓤) (
-      o .0 .refusal .number ≡ 0 → q .0 .refusal .number ≡ 0 → Bytes (x .args .0 .now)
-      → stored (args .1 .0) (args .1 .1 .0 .now) ≡ stored Rows (take (o .0 .count) (o .1 .1 .0))
-      → stored (args₂ .0) (args₂ .1 .0 .now) ≡ stored (args .0) (take (q .0 .count) (q .1 .1 .1 .1 .0))
-      → commandFault (args₂ .1 .1 .0 .now) .number ≡ 0 → rtOf (args₂ .1 .1 .0 .now) ≡ 0 → sfnOf (args₂ .1 .1 .0 .now) ≡ 0
-      → length (x .args .0 .now) ≤ allocationOf (args₂ .1 .1 .0 .now) → length (x .args .0 .now) ≤ length (args₂ .1 .1 .1 .0 .now)
-      → maker.outcome (p .0) (p .1 .1 .1 .1 .0) ≡ maker.making (x .args .0 .now) (args₂ .1 .1 .1 .0 .now)))
+      saying x o (λ _ response sheet r _ sheet′.
+      saying converting q (λ _ to₂ lay₂ s₂ out₂ r₂ _ _ _ out₂′.
+      saying answering p (λ _ lay₃ s₃ command₃ out₃ r₃ _ _ _ out₃′.
+      r .refusal .number ≡ 0 → r₂ .refusal .number ≡ 0 → Bytes (now response)
+      → stored lay₂ (now s₂) ≡ stored Rows (take (r .count) sheet′)
+      → stored lay₃ (now s₃) ≡ stored to₂ (take (r₂ .count) out₂′)
+      → commandFault (now command₃) .number ≡ 0 → rtOf (now command₃) ≡ 0 → sfnOf (now command₃) ≡ 0
+      → length (now response) ≤ allocationOf (now command₃) → length (now response) ≤ length (now out₃)
+      → maker.outcome r₃ out₃′ ≡ maker.making (now response) (now out₃))))))
   import-convert-end-to-end o q p =
       via (x .𝓤) _ (conj-mono (x .𝓤) (id⊢ (x .𝓤) _) (both (x .𝓤) pair))
       (both (x .𝓤) (λ e fg. replayed-laid (by (Imports _ _) (imports _ _) e) (by (Converts _ _ _) (converts _ _ _) (fg .0)) (by (Answers _ _ _) (demand2 _ _ _) (fg .1))))
@@ -187,7 +196,9 @@ module _ (x : Call sense-make.ended (λ M. sense-make.clauses)) (κs : Lfts (sen
 
   pub sense-end-to-end : (o : Outcome sense-make.ended (λ M. sense-make.clauses) x) (p : Outcome sense-read.ended (λ M. sense-read.clauses) asked-after)
       → ent (x .𝓤) (conj (x .𝓤) (allowed sense-make.ended (λ M. sense-make.clauses) x o) (allowed sense-read.ended (λ M. sense-read.clauses) asked-after p)) (fact (x .𝓤) (
-      o .0 .refusal .number ≡ 0 → args .0 .now ≡ take (o .0 .count) (o .1 .1 .0) → heard (p .0) ≡ kindOf (x .args .0)))
+      saying x o (λ _ number out r _ out′.
+      saying asked-after p (λ _ s₂ r₂ _.
+      r .refusal .number ≡ 0 → now s₂ ≡ take (r .count) out′ → heard r₂ ≡ kindOf number))))
   sense-end-to-end o p = both (x .𝓤) (λ e f z there. f ∙ ap sensed there ∙ by (Makes _ _) (makes-sense _ _) e .back z)
 
 -- ---- `gcf_respond` leaves what `respond` answers and leaves, called with the same sheet, command and buffer
@@ -198,6 +209,8 @@ module _ (x : Call gcf-respond.ended (λ M. gcf-respond.clauses)) (κs : Lfts (r
 
   pub gcf-respond-same : (o : Outcome gcf-respond.ended (λ M. gcf-respond.clauses) x) (p : Outcome respond.ended (λ M. respond.clauses) direct)
       → ent (x .𝓤) (conj (x .𝓤) (allowed gcf-respond.ended (λ M. gcf-respond.clauses) x o) (allowed respond.ended (λ M. respond.clauses) direct p)) (fact (x .𝓤) (
-      stored (args .0) (args .1 .0 .now) ≡ stored Rows (x .args .0 .now) → args .1 .1 .0 .now ≡ x .args .1 .0 .now → args .1 .1 .1 .0 .now ≡ x .args .1 .1 .0 .now
-      → left (o .0) (o .1 .1 .1 .0) (o .1 .1 .1 .1 .0) ≡ showPlaced (maker.outcome (p .0) (p .1 .1 .1 .1 .0)) (x .args .1 .1 .1 .0 .now)))
+      saying x o (λ _ sheet command response numbers r _ _ response′ numbers′.
+      saying direct p (λ _ lay₂ s₂ command₂ out₂ r₂ _ _ _ out₂′.
+      stored lay₂ (now s₂) ≡ stored Rows (now sheet) → now command₂ ≡ now command → now out₂ ≡ now response
+      → left r response′ numbers′ ≡ showPlaced (maker.outcome r₂ out₂′) (now numbers)))))
   gcf-respond-same o p = both (x .𝓤) (λ e f a b c. e ∙ ap (λ (w : maker.Outcome). showPlaced w (x .args .1 .1 .1 .0 .now)) (sym (rw (← a, ← b, ← c) f)))

@@ -4,6 +4,7 @@ use mathlib.Core.Path.{_≡_}
 use mathlib.Core.List.{List}
 use Prim.Native.Nat.{ℕ, _<_, min}
 use lib.ListN.{length, take}
+use denote.Ref.{now}
 use Rattle.lent.specs.Wrote.{Wrote}
 use Rattle.lent.proofs.Laws.{room-left}
 use Rattle.layout.specs.declared.Layout.the-variants.{Rows, Columns}
@@ -49,55 +50,56 @@ use Rattle.demands.proofs.Checking.{Finds, finds, Judges, judges}
 use Rattle.demands.proofs.Importing.{Imports, imports}
 use Rattle.demands.proofs.Converting.{Converts, converts}
 use Rattle.demands.proofs.Senses.{Makes, makes-sense, Senses, senses}
+use Rattle.demands.proofs.Named.{named}
 
 -- ---- the box
 
 pub gcf-check-sheet-tied : Promised gcf-check-sheet.ended (λ M. gcf-check-sheet.clauses) (λ M. gcf-check-sheet.spec)
-    (λ x o. Shows (Checks (stored Rows (x .args .0 .now))) (λ z. abi.showVerdict z (x .args .1 .0 .now)) (left (o .0) tt (o .1 .1 .0)))
+    (named (λ _ sheet numbers r _ numbers′. Shows (Checks (stored Rows (now sheet))) (λ z. abi.showVerdict z (now numbers)) (left r tt numbers′)))
 gcf-check-sheet-tied x = promises (x .𝓤) (λ o. shows _ (checks _))
 
 pub gcf-check-columns-tied : Promised gcf-check-columns.ended (λ M. gcf-check-columns.clauses) (λ M. gcf-check-columns.spec)
-    (λ x o. Shows (Checks (stored Columns (x .args .0 .now))) (λ z. abi.showVerdict z (x .args .1 .0 .now)) (left (o .0) tt (o .1 .1 .0)))
+    (named (λ _ sheet numbers r _ numbers′. Shows (Checks (stored Columns (now sheet))) (λ z. abi.showVerdict z (now numbers)) (left r tt numbers′)))
 gcf-check-columns-tied x = promises (x .𝓤) (λ o. shows _ (checks _))
 
 pub gcf-respond-tied : Promised gcf-respond.ended (λ M. gcf-respond.clauses) (λ M. gcf-respond.spec)
-    (λ x o. Shows (Answers (stored Rows (x .args .0 .now)) (x .args .1 .0 .now) (x .args .1 .1 .0 .now)) (λ z. abi.showPlaced z (x .args .1 .1 .1 .0 .now))
-    (left (o .0) (o .1 .1 .1 .0) (o .1 .1 .1 .1 .0)))
+    (named (λ _ sheet command response numbers r _ _ response′ numbers′. Shows (Answers (stored Rows (now sheet)) (now command) (now response)) (λ z. abi.showPlaced z (now numbers))
+    (left r response′ numbers′)))
 gcf-respond-tied x = promises (x .𝓤) (λ o. shows _ (demand2 _ _ _))
 
 pub gcf-respond-columns-tied : Promised gcf-respond-columns.ended (λ M. gcf-respond-columns.clauses) (λ M. gcf-respond-columns.spec)
-    (λ x o. Shows (Answers (stored Columns (x .args .0 .now)) (x .args .1 .0 .now) (x .args .1 .1 .0 .now)) (λ z. abi.showPlaced z (x .args .1 .1 .1 .0 .now))
-    (left (o .0) (o .1 .1 .1 .0) (o .1 .1 .1 .1 .0)))
+    (named (λ _ sheet command response numbers r _ _ response′ numbers′. Shows (Answers (stored Columns (now sheet)) (now command) (now response)) (λ z. abi.showPlaced z (now numbers))
+    (left r response′ numbers′)))
 gcf-respond-columns-tied x = promises (x .𝓤) (λ o. shows _ (demand2 _ _ _))
 
 pub gcf-respond-accepted-tied : Promised gcf-respond-accepted.ended (λ M. gcf-respond-accepted.clauses) (λ M. gcf-respond-accepted.spec)
-    (λ x o. Shows (Trusts (stored Rows (x .args .0 .now)) (x .args .1 .0 .now) (x .args .1 .1 .0 .now)) (λ z. abi.showMade z (x .args .1 .1 .1 .0 .now))
-    (left (o .0) (o .1 .1 .1 .0) (o .1 .1 .1 .1 .0)))
+    (named (λ _ sheet command response numbers r _ _ response′ numbers′. Shows (Trusts (stored Rows (now sheet)) (now command) (now response)) (λ z. abi.showMade z (now numbers))
+    (left r response′ numbers′)))
 gcf-respond-accepted-tied x = promises (x .𝓤) (λ o. shows _ (trusts _ _ _))
 
 pub gcf-respond-columns-accepted-tied : Promised gcf-respond-columns-accepted.ended (λ M. gcf-respond-columns-accepted.clauses) (λ M. gcf-respond-columns-accepted.spec)
-    (λ x o. Shows (Trusts (stored Columns (x .args .0 .now)) (x .args .1 .0 .now) (x .args .1 .1 .0 .now)) (λ z. abi.showMade z (x .args .1 .1 .1 .0 .now))
-    (left (o .0) (o .1 .1 .1 .0) (o .1 .1 .1 .1 .0)))
+    (named (λ _ sheet command response numbers r _ _ response′ numbers′. Shows (Trusts (stored Columns (now sheet)) (now command) (now response)) (λ z. abi.showMade z (now numbers))
+    (left r response′ numbers′)))
 gcf-respond-columns-accepted-tied x = promises (x .𝓤) (λ o. shows _ (trusts _ _ _))
 
 pub gcf-check-image-tied : Promised gcf-check-image.ended (λ M. gcf-check-image.clauses) (λ M. gcf-check-image.spec)
-    (λ x o. Shows (ChecksImage (x .args .0 .now)) (λ z. abi.showVerdict z (x .args .1 .0 .now)) (left (o .0) tt (o .1 .1 .0)))
+    (named (λ _ image numbers r _ numbers′. Shows (ChecksImage (now image)) (λ z. abi.showVerdict z (now numbers)) (left r tt numbers′)))
 gcf-check-image-tied x = promises (x .𝓤) (λ o. shows _ (checks-image _))
 
 pub gcf-respond-image-tied : Promised gcf-respond-image.ended (λ M. gcf-respond-image.clauses) (λ M. gcf-respond-image.spec)
-    (λ x o. Shows (Images (x .args .0 .now) (x .args .1 .0 .now) (x .args .1 .1 .0 .now)) (λ z. abi.showPlaced z (x .args .1 .1 .1 .0 .now))
-    (left (o .0) (o .1 .1 .1 .0) (o .1 .1 .1 .1 .0)))
+    (named (λ _ image command response numbers r _ _ response′ numbers′. Shows (Images (now image) (now command) (now response)) (λ z. abi.showPlaced z (now numbers))
+    (left r response′ numbers′)))
 gcf-respond-image-tied x = promises (x .𝓤) (λ o. shows _ (images _ _ _))
 
 pub gcf-respond-image-accepted-tied : Promised gcf-respond-image-accepted.ended (λ M. gcf-respond-image-accepted.clauses) (λ M. gcf-respond-image-accepted.spec)
-    (λ x o. Shows (ImagesOnce (x .args .0 .now) (x .args .1 .0 .now) (x .args .1 .1 .0 .now)) (λ z. abi.showMade z (x .args .1 .1 .1 .0 .now))
-    (left (o .0) (o .1 .1 .1 .0) (o .1 .1 .1 .1 .0)))
+    (named (λ _ image command response numbers r _ _ response′ numbers′. Shows (ImagesOnce (now image) (now command) (now response)) (λ z. abi.showMade z (now numbers))
+    (left r response′ numbers′)))
 gcf-respond-image-accepted-tied x = promises (x .𝓤) (λ o. shows _ (images-once _ _ _))
 
 -- ---- the driver
 
 pub gcf-read-tied : Promised gcf-read.ended (λ M. gcf-read.clauses) (λ M. gcf-read.spec)
-    (λ x o. Shows (Reads 65534 (x .args .0) (x .args .1 .0 .0) (x .args .1 .1 .0 .now)) (λ z. abi.showRead z (x .args .1 .1 .1 .0 .now)) (left (o .0) tt (o .1 .1 .1 .1 .0)))
+    (named (λ _ rt sfn response numbers r _ _ _ numbers′. Shows (Reads 65534 rt (sfn .0) (now response)) (λ z. abi.showRead z (now numbers)) (left r tt numbers′)))
 gcf-read-tied x = promises (x .𝓤) (λ o. shows _ (reads _ _ _ _))
 
 -- A part of which P holds stands in the buffer e, which was d, as far as there is room; where the count r is below the buffer's length, it is whole.
@@ -111,67 +113,67 @@ copies : {P : List ℕ → Type 0} {d : List ℕ} {r : ℕ} {e : List ℕ} (part
 copies {P} part p w = record { part = part; fine = p; wrote = w; whole = λ h. (room-left w h .0, by P p (room-left w h .1)) }
 
 pub gcf-held-tied : Promised gcf-held.ended (λ M. gcf-held.clauses) (λ M. gcf-held.spec)
-    (λ x o. Copies (Holds (x .args .0 .0) (x .args .1 .0 .now) (x .args .1 .1 .0 .now)) (x .args .1 .1 .1 .0 .now) (o .0) (o .1 .1 .1 .1 .0))
+    (named (λ _ feature fresh kept descriptor r _ _ _ descriptor′. Copies (Holds (feature .0) (now fresh) (now kept)) (now descriptor) r descriptor′))
 gcf-held-tied x = promises (x .𝓤) (λ o. copies _ (holds _ _ _))
 
-pub gcf-list-tied : Promised gcf-list.ended (λ M. gcf-list.clauses) (λ M. gcf-list.spec) (λ x o. Lists (x .args .0 .now) (x .args .1 .0 .now) (o .0) (o .1 .1 .0))
+pub gcf-list-tied : Promised gcf-list.ended (λ M. gcf-list.clauses) (λ M. gcf-list.spec) (named (λ _ response text r _ text′. Lists (now response) (now text) r text′))
 gcf-list-tied x = promises (x .𝓤) (λ o. lists)
 
 -- ---- the sweep
 
-pub gcf-most-tied : Promised gcf-most.ended (λ M. gcf-most.clauses) (λ M. gcf-most.spec) (λ x o. o .0 ≡ min (x .args .0) 65534)
+pub gcf-most-tied : Promised gcf-most.ended (λ M. gcf-most.clauses) (λ M. gcf-most.spec) (named (λ _ allocation r _. r ≡ min allocation 65534))
 gcf-most-tied x = promises (x .𝓤) (λ o e. e)
 
 pub gcf-sweep-start-tied : Promised gcf-sweep-start.ended (λ M. gcf-sweep-start.clauses) (λ M. gcf-sweep-start.spec)
-    (λ x o. Starts (x .args .0) (x .args .1 .0) (o .0))
+    (named (λ _ rt allocation r _ _. Starts rt allocation r))
 gcf-sweep-start-tied x = promises (x .𝓤) (λ o. by (Starts _ _) (starts _ _))
 
 pub gcf-sweep-take-tied : Promised gcf-sweep-take.ended (λ M. gcf-sweep-take.clauses) (λ M. gcf-sweep-take.spec)
-    (λ x o. Takes (x .args .0) (x .args .1 .0 .now) (x .args .1 .1 .0 .now) (turn (o .0) (o .1 .1 .1 .0)))
+    (named (λ _ sweep response out r _ _ out′. Takes sweep (now response) (now out) (turn r out′)))
 gcf-sweep-take-tied x = promises (x .𝓤) (λ o. by (Takes _ _ _) (takes _ _ _))
 
 pub gcf-bench-tied : Promised gcf-bench.ended (λ M. gcf-bench.clauses) (λ M. gcf-bench.spec)
-    (λ x o. Shows
-    (Benches (stored Rows (x .args .0 .now)) (x .args .1 .0) (x .args .1 .1 .0) (bench.buffers (x .args .1 .1 .1 .0 .now) (x .args .1 .1 .1 .1 .0 .now) (x .args .1 .1 .1 .1 .1 .0 .now)))
-    (λ z. abi.showBenched z (x .args .1 .1 .1 .1 .1 .1 .0 .now))
-    (left (o .0) (bench.buffers (o .1 .1 .1 .1 .0) (o .1 .1 .1 .1 .1 .0) (o .1 .1 .1 .1 .1 .1 .0)) (o .1 .1 .1 .1 .1 .1 .1 .0)))
+    (named (λ _ sheet rt allocation response collected starts numbers r _ _ _ response′ collected′ starts′ numbers′. Shows
+    (Benches (stored Rows (now sheet)) rt allocation (bench.buffers (now response) (now collected) (now starts)))
+    (λ z. abi.showBenched z (now numbers))
+    (left r (bench.buffers response′ collected′ starts′) numbers′)))
 gcf-bench-tied x = promises (x .𝓤) (λ o. shows _ (benches _ _ _ _))
 
 pub gcf-bench-columns-tied : Promised gcf-bench-columns.ended (λ M. gcf-bench-columns.clauses) (λ M. gcf-bench-columns.spec)
-    (λ x o. Shows
-    (Benches (stored Columns (x .args .0 .now)) (x .args .1 .0) (x .args .1 .1 .0) (bench.buffers (x .args .1 .1 .1 .0 .now) (x .args .1 .1 .1 .1 .0 .now) (x .args .1 .1 .1 .1 .1 .0 .now)))
-    (λ z. abi.showBenched z (x .args .1 .1 .1 .1 .1 .1 .0 .now))
-    (left (o .0) (bench.buffers (o .1 .1 .1 .1 .0) (o .1 .1 .1 .1 .1 .0) (o .1 .1 .1 .1 .1 .1 .0)) (o .1 .1 .1 .1 .1 .1 .1 .0)))
+    (named (λ _ sheet rt allocation response collected starts numbers r _ _ _ response′ collected′ starts′ numbers′. Shows
+    (Benches (stored Columns (now sheet)) rt allocation (bench.buffers (now response) (now collected) (now starts)))
+    (λ z. abi.showBenched z (now numbers))
+    (left r (bench.buffers response′ collected′ starts′) numbers′)))
 gcf-bench-columns-tied x = promises (x .𝓤) (λ o. shows _ (benches _ _ _ _))
 
 -- ---- the checks and the import
 
 pub gcf-check-descriptors-tied : Promised gcf-check-descriptors.ended (λ M. gcf-check-descriptors.clauses) (λ M. gcf-check-descriptors.spec)
-    (λ x o. Shows (Finds (x .args .0 .now)) (λ z. abi.showFinding z (x .args .1 .0 .now)) (left (o .0) tt (o .1 .1 .0)))
+    (named (λ _ response numbers r _ numbers′. Shows (Finds (now response)) (λ z. abi.showFinding z (now numbers)) (left r tt numbers′)))
 gcf-check-descriptors-tied x = promises (x .𝓤) (λ o. shows _ (finds _))
 
 pub gcf-check-profile-tied : Promised gcf-check-profile.ended (λ M. gcf-check-profile.clauses) (λ M. gcf-check-profile.spec)
-    (λ x o. Shows (Judges (x .args .0 .0) (x .args .1 .0 .now)) (λ z. abi.showJudged z (x .args .1 .1 .0 .now)) (left (o .0) tt (o .1 .1 .1 .0)))
+    (named (λ _ profile response numbers r _ _ numbers′. Shows (Judges (profile .0) (now response)) (λ z. abi.showJudged z (now numbers)) (left r tt numbers′)))
 gcf-check-profile-tied x = promises (x .𝓤) (λ o. shows _ (judges _ _))
 
 pub gcf-import-tied : Promised gcf-import.ended (λ M. gcf-import.clauses) (λ M. gcf-import.spec)
-    (λ x o. Shows (Imports (x .args .0 .now) (x .args .1 .0 .now)) (λ z. abi.showPlaced z (x .args .1 .1 .0 .now)) (left (o .0) (o .1 .1 .0) (o .1 .1 .1 .0)))
+    (named (λ _ response sheet numbers r _ sheet′ numbers′. Shows (Imports (now response) (now sheet)) (λ z. abi.showPlaced z (now numbers)) (left r sheet′ numbers′)))
 gcf-import-tied x = promises (x .𝓤) (λ o. shows _ (imports _ _))
 
 pub gcf-to-columns-tied : Promised gcf-to-columns.ended (λ M. gcf-to-columns.clauses) (λ M. gcf-to-columns.spec)
-    (λ x o. Shows (Converts Columns (stored Rows (x .args .0 .now)) (x .args .1 .0 .now)) (λ z. abi.showPlaced z (x .args .1 .1 .0 .now)) (left (o .0) (o .1 .1 .0) (o .1 .1 .1 .0)))
+    (named (λ _ sheet columns numbers r _ columns′ numbers′. Shows (Converts Columns (stored Rows (now sheet)) (now columns)) (λ z. abi.showPlaced z (now numbers)) (left r columns′ numbers′)))
 gcf-to-columns-tied x = promises (x .𝓤) (λ o. shows _ (converts _ _ _))
 
 pub gcf-to-rows-tied : Promised gcf-to-rows.ended (λ M. gcf-to-rows.clauses) (λ M. gcf-to-rows.spec)
-    (λ x o. Shows (Converts Rows (stored Columns (x .args .0 .now)) (x .args .1 .0 .now)) (λ z. abi.showPlaced z (x .args .1 .1 .0 .now)) (left (o .0) (o .1 .1 .0) (o .1 .1 .1 .0)))
+    (named (λ _ sheet rows numbers r _ rows′ numbers′. Shows (Converts Rows (stored Columns (now sheet)) (now rows)) (λ z. abi.showPlaced z (now numbers)) (left r rows′ numbers′)))
 gcf-to-rows-tied x = promises (x .𝓤) (λ o. shows _ (converts _ _ _))
 
 -- ---- sense
 
 pub gcf-make-sense-tied : Promised gcf-make-sense.ended (λ M. gcf-make-sense.clauses) (λ M. gcf-make-sense.spec)
-    (λ x o. Shows (Makes (x .args .0) (x .args .1 .0 .now)) (λ z. abi.showMade z (x .args .1 .1 .0 .now)) (left (o .0) (o .1 .1 .0) (o .1 .1 .1 .0)))
+    (named (λ _ number sense numbers r _ sense′ numbers′. Shows (Makes number (now sense)) (λ z. abi.showMade z (now numbers)) (left r sense′ numbers′)))
 gcf-make-sense-tied x = promises (x .𝓤) (λ o. shows _ (makes-sense _ _))
 
 pub gcf-read-sense-tied : Promised gcf-read-sense.ended (λ M. gcf-read-sense.clauses) (λ M. gcf-read-sense.spec)
-    (λ x o. Shows (Senses (x .args .0 .now)) (λ z. abi.showSensed z (x .args .1 .0 .now)) (left (o .0) tt (o .1 .1 .0)))
+    (named (λ _ sense numbers r _ numbers′. Shows (Senses (now sense)) (λ z. abi.showSensed z (now numbers)) (left r tt numbers′)))
 gcf-read-sense-tied x = promises (x .𝓤) (λ o. shows _ (senses _))

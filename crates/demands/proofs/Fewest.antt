@@ -5,6 +5,7 @@ use mathlib.Core.Path.{_≡_, refl}
 use mathlib.Core.List.{List, map}
 use Prim.Native.Nat.{ℕ, _≤_, _<_}
 use native.Mathlib.Omega.{arith}
+use denote.Ref.{now}
 use Rattle.base.specs.Lists.{each, flat, keep, Bytes}
 use Rattle.base.proofs.Promise.{Promised, promises, by}
 use Rattle.fields.specs.Field.{field, spell}
@@ -24,6 +25,7 @@ use Rattle.bench.proofs.Fewest as bench-fewest
 use Rattle.bench.proofs.bench as bench
 use Rattle.demands.specs.Recorder.{sheetE}
 use Rattle.demands.proofs.Sweeping.{demand3, bytesE, acceptedE}
+use Rattle.demands.proofs.Named.{named}
 
 pub no-shorter : (s : Sheet) (rt a : ℕ) (b : Buffers) → Bytes (s .bytes) → Accepted s → Premises (meaning s) rt a b
     → Fewest (meaning s) rt a (benched s rt a b)
@@ -31,9 +33,9 @@ no-shorter s rt a b w ok p = bench-fewest.fewest-commands (meaning-fine s w ok .
 
 -- The same of every outcome that the contract of `bench::bench` allows.
 pub bench-no-shorter : Promised bench.ended (λ M. bench.clauses) (λ M. bench.spec)
-    (λ x o. Bytes (x .args .1 .0 .now) → Accepted (stored (x .args .0) (x .args .1 .0 .now))
-    → Premises (meaning (stored (x .args .0) (x .args .1 .0 .now))) (x .args .1 .1 .0) (x .args .1 .1 .1 .0) (buffers (x .args .1 .1 .1 .1 .0 .now) (x .args .1 .1 .1 .1 .1 .0 .now) (x .args .1 .1 .1 .1 .1 .1 .0 .now))
-    → Fewest (meaning (stored (x .args .0) (x .args .1 .0 .now))) (x .args .1 .1 .0) (x .args .1 .1 .1 .0) (ending (o .0) (buffers (o .1 .1 .1 .1 .1 .0) (o .1 .1 .1 .1 .1 .1 .0) (o .1 .1 .1 .1 .1 .1 .1 .0))))
+    (named (λ _ lay s rt a response collected starts r _ _ _ _ response′ collected′ starts′. Bytes (now s) → Accepted (stored lay (now s))
+    → Premises (meaning (stored lay (now s))) rt a (buffers (now response) (now collected) (now starts))
+    → Fewest (meaning (stored lay (now s))) rt a (ending r (buffers response′ collected′ starts′))))
 bench-no-shorter x = promises (x .𝓤) (λ o e w ok p. by (Fewest _ _ _) (no-shorter _ _ _ _ w ok p) e)
 
 -- ---- that the premises matter

@@ -5,6 +5,7 @@ use mathlib.Core.List.{[], _∷_}
 use lib.Dec.{eqb}
 use Prim.Native.Nat.{_+_, _*_, _/_, _%_}
 use lib.ListN.{length, take, drop, getD, replicate}
+use denote.Ref.{now}
 use Rattle.base.proofs.Promise.{Promised, promises, by}
 use Rattle.fields.specs.Field.{field, spell}
 use Rattle.fields.specs.Part.{PartOf}
@@ -71,159 +72,160 @@ use Rattle.reading.proofs.body_at as body-at
 use Rattle.reading.proofs.complete as complete
 use Rattle.reading.proofs.judge as judge
 use Rattle.demands.proofs.Readings.{Completes, completes}
+use Rattle.demands.proofs.Named.{named}
 
 -- ---- fields
 
-pub byte-tied : Promised byte.ended (λ M. byte.clauses) (λ M. byte.spec) (λ x o. o .0 ≡ getD (x .args .0 .now) (x .args .1 .0) 0)
+pub byte-tied : Promised byte.ended (λ M. byte.clauses) (λ M. byte.spec) (named (λ _ s at r _ _. r ≡ getD (now s) at 0))
 byte-tied x = promises (x .𝓤) (λ o e. e)
 
-pub get2-tied : Promised get2.ended (λ M. get2.clauses) (λ M. get2.spec) (λ x o. o .0 ≡ field 2 (x .args .0 .now) (x .args .1 .0))
+pub get2-tied : Promised get2.ended (λ M. get2.clauses) (λ M. get2.spec) (named (λ _ s at r _ _. r ≡ field 2 (now s) at))
 get2-tied x = promises (x .𝓤) (λ o e. e)
 
-pub get3-tied : Promised get3.ended (λ M. get3.clauses) (λ M. get3.spec) (λ x o. o .0 ≡ field 3 (x .args .0 .now) (x .args .1 .0))
+pub get3-tied : Promised get3.ended (λ M. get3.clauses) (λ M. get3.spec) (named (λ _ s at r _ _. r ≡ field 3 (now s) at))
 get3-tied x = promises (x .𝓤) (λ o e. e)
 
-pub get4-tied : Promised get4.ended (λ M. get4.clauses) (λ M. get4.spec) (λ x o. o .0 ≡ field 4 (x .args .0 .now) (x .args .1 .0))
+pub get4-tied : Promised get4.ended (λ M. get4.clauses) (λ M. get4.spec) (named (λ _ s at r _ _. r ≡ field 4 (now s) at))
 get4-tied x = promises (x .𝓤) (λ o e. e)
 
-pub part-tied : Promised part.ended (λ M. part.clauses) (λ M. part.spec) (λ x o. PartOf (x .args .0) (x .args .1 .0) (take (x .args .1 .1 .0) (drop (x .args .1 .0) (x .args .0 .now))) (o .0))
+pub part-tied : Promised part.ended (λ M. part.clauses) (λ M. part.spec) (named (λ _ s at count r _ _ _. PartOf s at (take count (drop at (now s))) r))
 part-tied x = promises (x .𝓤) (λ o e. e)
 
 -- ---- refusal
 
-pub refusal-placed-tied : Promised refusal-placed.ended (λ M. refusal-placed.clauses) (λ M. refusal-placed.spec) (λ x o. o .0 ≡ placed (x .args .0) (x .args .1 .0))
+pub refusal-placed-tied : Promised refusal-placed.ended (λ M. refusal-placed.clauses) (λ M. refusal-placed.spec) (named (λ _ self place r _ _. r ≡ placed self place))
 refusal-placed-tied x = promises (x .𝓤) (λ o e. e)
 
 -- ---- lent
 
-pub made-refused-tied : Promised made-refused.ended (λ M. made-refused.clauses) (λ M. made-refused.spec) (λ x o. o .0 ≡ record { refusal = x .args .0; count = 0 })
+pub made-refused-tied : Promised made-refused.ended (λ M. made-refused.clauses) (λ M. made-refused.spec) (named (λ _ fault r _. r ≡ record { refusal = fault; count = 0 }))
 made-refused-tied x = promises (x .𝓤) (λ o e. e)
 
-pub made-written-tied : Promised made-written.ended (λ M. made-written.clauses) (λ M. made-written.spec) (λ x o. o .0 ≡ record { refusal = accept; count = x .args .0 })
+pub made-written-tied : Promised made-written.ended (λ M. made-written.clauses) (λ M. made-written.spec) (named (λ _ count r _. r ≡ record { refusal = accept; count = count }))
 made-written-tied x = promises (x .𝓤) (λ o e. e)
 
-pub put-tied : Promised put.ended (λ M. put.clauses) (λ M. put.spec) (λ x o. Wrote (x .args .0 .now) (x .args .1 .0) (x .args .1 .1 .0 ∷ []) (o .0) (o .1 .0))
+pub put-tied : Promised put.ended (λ M. put.clauses) (λ M. put.spec) (named (λ _ out at b r out′ _ _. Wrote (now out) at (b ∷ []) r out′))
 put-tied x = promises (x .𝓤) (λ o e. e)
 
-pub put2-tied : Promised put2.ended (λ M. put2.clauses) (λ M. put2.spec) (λ x o. Wrote (x .args .0 .now) (x .args .1 .0) (spell 2 (x .args .1 .1 .0)) (o .0) (o .1 .0))
+pub put2-tied : Promised put2.ended (λ M. put2.clauses) (λ M. put2.spec) (named (λ _ out at v r out′ _ _. Wrote (now out) at (spell 2 v) r out′))
 put2-tied x = promises (x .𝓤) (λ o e. e)
 
-pub put4-tied : Promised put4.ended (λ M. put4.clauses) (λ M. put4.spec) (λ x o. Wrote (x .args .0 .now) (x .args .1 .0) (spell 4 (x .args .1 .1 .0)) (o .0) (o .1 .0))
+pub put4-tied : Promised put4.ended (λ M. put4.clauses) (λ M. put4.spec) (named (λ _ out at v r out′ _ _. Wrote (now out) at (spell 4 v) r out′))
 put4-tied x = promises (x .𝓤) (λ o e. e)
 
-pub copy-tied : Promised copy.ended (λ M. copy.clauses) (λ M. copy.spec) (λ x o. Wrote (x .args .0 .now) (x .args .1 .0) (x .args .1 .1 .0 .now) (o .0) (o .1 .0))
+pub copy-tied : Promised copy.ended (λ M. copy.clauses) (λ M. copy.spec) (named (λ _ out at part r out′ _ _. Wrote (now out) at (now part) r out′))
 copy-tied x = promises (x .𝓤) (λ o e. e)
 
-pub note-tied : Promised note.ended (λ M. note.clauses) (λ M. note.spec) (λ x o. Wrote (x .args .0 .now) (x .args .1 .0) (x .args .1 .1 .0 ∷ []) (o .0) (o .1 .0))
+pub note-tied : Promised note.ended (λ M. note.clauses) (λ M. note.spec) (named (λ _ out at v r out′ _ _. Wrote (now out) at (v ∷ []) r out′))
 note-tied x = promises (x .𝓤) (λ o e. e)
 
-pub clear-tied : Promised clear.ended (λ M. clear.clauses) (λ M. clear.spec) (λ x o. o .1 .0 ≡ replicate (length (x .args .0 .now)) 0)
+pub clear-tied : Promised clear.ended (λ M. clear.clauses) (λ M. clear.spec) (named (λ _ out _ out′. out′ ≡ replicate (length (now out)) 0))
 clear-tied x = promises (x .𝓤) (λ o e. e)
 
-pub clear-list-tied : Promised clear-list.ended (λ M. clear-list.clauses) (λ M. clear-list.spec) (λ x o. o .1 .0 ≡ replicate (length (x .args .0 .now)) 0)
+pub clear-list-tied : Promised clear-list.ended (λ M. clear-list.clauses) (λ M. clear-list.spec) (named (λ _ out _ out′. out′ ≡ replicate (length (now out)) 0))
 clear-list-tied x = promises (x .𝓤) (λ o e. e)
 
 -- ---- text
 
-pub flags-reserved-tied : Promised flags-reserved.ended (λ M. flags-reserved.clauses) (λ M. flags-reserved.spec) (λ x o. o .0 ≡ x .args .0 .0 / 64)
+pub flags-reserved-tied : Promised flags-reserved.ended (λ M. flags-reserved.clauses) (λ M. flags-reserved.spec) (named (λ _ self r _. r ≡ self .0 / 64))
 flags-reserved-tied x = promises (x .𝓤) (λ o e. e)
 
-pub flags-version-tied : Promised flags-version.ended (λ M. flags-version.clauses) (λ M. flags-version.spec) (λ x o. o .0 ≡ x .args .0 .0 / 4 % 16)
+pub flags-version-tied : Promised flags-version.ended (λ M. flags-version.clauses) (λ M. flags-version.spec) (named (λ _ self r _. r ≡ self .0 / 4 % 16))
 flags-version-tied x = promises (x .𝓤) (λ o e. e)
 
-pub flags-persistent-tied : Promised flags-persistent.ended (λ M. flags-persistent.clauses) (λ M. flags-persistent.spec) (λ x o. o .0 ≡ eqb (x .args .0 .0 / 2 % 2) 1)
+pub flags-persistent-tied : Promised flags-persistent.ended (λ M. flags-persistent.clauses) (λ M. flags-persistent.spec) (named (λ _ self r _. r ≡ eqb (self .0 / 2 % 2) 1))
 flags-persistent-tied x = promises (x .𝓤) (λ o e. e)
 
-pub flags-current-tied : Promised flags-current.ended (λ M. flags-current.clauses) (λ M. flags-current.spec) (λ x o. o .0 ≡ eqb (x .args .0 .0 % 2) 1)
+pub flags-current-tied : Promised flags-current.ended (λ M. flags-current.clauses) (λ M. flags-current.spec) (named (λ _ self r _. r ≡ eqb (self .0 % 2) 1))
 flags-current-tied x = promises (x .𝓤) (λ o e. e)
 
-pub flags-fault-tied : Promised flags-fault.ended (λ M. flags-fault.clauses) (λ M. flags-fault.spec) (λ x o. (o .0 ≡ text.flagsGiving (x .args .1 .0) (x .args .1 .1 .0) (x .args .0 .0)) × Flagging (x .args .1 .0) (x .args .1 .1 .0) (x .args .0 .0) (o .0))
+pub flags-fault-tied : Promised flags-fault.ended (λ M. flags-fault.clauses) (λ M. flags-fault.spec) (named (λ _ self bits lone r _ _ _. (r ≡ text.flagsGiving bits lone (self .0)) × Flagging bits lone (self .0) r))
 flags-fault-tied x = promises (x .𝓤) (λ o e. (e, by (Flagging _ _ _) (flagging _ _ _) e))
 
-pub command-fault-tied : Promised command-fault.ended (λ M. command-fault.clauses) (λ M. command-fault.spec) (λ x o. (o .0 ≡ commandFault (x .args .0 .now)) × Commands (x .args .0 .now) (o .0))
+pub command-fault-tied : Promised command-fault.ended (λ M. command-fault.clauses) (λ M. command-fault.spec) (named (λ _ bytes r _. (r ≡ commandFault (now bytes)) × Commands (now bytes) r))
 command-fault-tied x = promises (x .𝓤) (λ o e. (e, by (Commands _) (commands _) e))
 
-pub command-read-tied : Promised command-read.ended (λ M. command-read.clauses) (λ M. command-read.spec) (λ x o. (o .0 ≡ commandOf (x .args .0 .now)) × Understood (x .args .0 .now) (o .0 .rt) (o .0 .sfn .0) (o .0 .allocation))
+pub command-read-tied : Promised command-read.ended (λ M. command-read.clauses) (λ M. command-read.spec) (named (λ _ bytes r _. (r ≡ commandOf (now bytes)) × Understood (now bytes) (r .rt) (r .sfn .0) (r .allocation)))
 unfolding commandOf
 command-read-tied x = promises (x .𝓤) (λ o e. (e, by (λ (c : Command). Understood (x .args .0 .now) (c .rt) (c .sfn .0) (c .allocation)) (understood (x .args .0 .now)) e))
 
-pub header-new-tied : Promised header-new.ended (λ M. header-new.clauses) (λ M. header-new.spec) (λ x o. o .0 ≡ headerOf (x .args .0) (x .args .1 .0 .0))
+pub header-new-tied : Promised header-new.ended (λ M. header-new.clauses) (λ M. header-new.spec) (named (λ _ «data_length» profile r _ _. r ≡ headerOf «data_length» (profile .0)))
 header-new-tied x = promises (x .𝓤) (λ o e. e)
 
 -- ---- profiles
 
-pub profiles-current-tied : Promised profiles-current.ended (λ M. profiles-current.clauses) (λ M. profiles-current.spec) (λ x o. (o .0 .0 ≡ currentProfile (profilesOf (x .args .0 .now))) × Currents (x .args .0 .now) (o .0 .0))
+pub profiles-current-tied : Promised profiles-current.ended (λ M. profiles-current.clauses) (λ M. profiles-current.spec) (named (λ _ b r _. (r .0 ≡ currentProfile (profilesOf (now b))) × Currents (now b) (r .0)))
 profiles-current-tied x = promises (x .𝓤) (λ o e. (e, by (Currents _) (currents _) e))
 
 -- ---- layout
 
-pub feature-count-tied : Promised feature-count.ended (λ M. feature-count.clauses) (λ M. feature-count.spec) (λ x o. (o .0 ≡ layout.features (x .args .0 .now)) × (o .0 ≡ two (x .args .0 .now) 0))
+pub feature-count-tied : Promised feature-count.ended (λ M. feature-count.clauses) (λ M. feature-count.spec) (named (λ _ s r _. (r ≡ layout.features (now s)) × (r ≡ two (now s) 0)))
 feature-count-tied x = promises (x .𝓤) (λ o e. (e, e ∙ laying _ .counted))
 
-pub profile-count-tied : Promised profile-count.ended (λ M. profile-count.clauses) (λ M. profile-count.spec) (λ x o. (o .0 ≡ layout.profiles (x .args .0 .now)) × (o .0 ≡ two (x .args .0 .now) 2))
+pub profile-count-tied : Promised profile-count.ended (λ M. profile-count.clauses) (λ M. profile-count.spec) (named (λ _ s r _. (r ≡ layout.profiles (now s)) × (r ≡ two (now s) 2)))
 profile-count-tied x = promises (x .𝓤) (λ o e. (e, e ∙ laying _ .listed))
 
-pub profiles-behind-tied : Promised profiles-behind.ended (λ M. profiles-behind.clauses) (λ M. profiles-behind.spec) (λ x o. o .0 ≡ 4 + 8 * x .args .0)
+pub profiles-behind-tied : Promised profiles-behind.ended (λ M. profiles-behind.clauses) (λ M. profiles-behind.spec) (named (λ _ features r _. r ≡ 4 + 8 * features))
 profiles-behind-tied x = promises (x .𝓤) (λ o e. e)
 
-pub bodies-at-tied : Promised bodies-at.ended (λ M. bodies-at.clauses) (λ M. bodies-at.spec) (λ x o. o .0 ≡ layout.profilesBehind (layout.features (x .args .0 .now)) + 4 * layout.profiles (x .args .0 .now))
+pub bodies-at-tied : Promised bodies-at.ended (λ M. bodies-at.clauses) (λ M. bodies-at.spec) (named (λ _ s r _. r ≡ layout.profilesBehind (layout.features (now s)) + 4 * layout.profiles (now s)))
 bodies-at-tied x = promises (x .𝓤) (λ o e. e)
 
-pub feature-at-tied : Promised feature-at.ended (λ M. feature-at.clauses) (λ M. feature-at.spec) (λ x o. o .0 .0 ≡ layout.number (stored (x .args .0) (x .args .1 .0 .now)) (x .args .1 .1 .0))
+pub feature-at-tied : Promised feature-at.ended (λ M. feature-at.clauses) (λ M. feature-at.spec) (named (λ _ lay s i r _ _ _. r .0 ≡ layout.number (stored lay (now s)) i))
 feature-at-tied x = promises (x .𝓤) (λ o e. e)
 
-pub flags-at-tied : Promised flags-at.ended (λ M. flags-at.clauses) (λ M. flags-at.spec) (λ x o. o .0 .0 ≡ layout.flags (stored (x .args .0) (x .args .1 .0 .now)) (x .args .1 .1 .0))
+pub flags-at-tied : Promised flags-at.ended (λ M. flags-at.clauses) (λ M. flags-at.spec) (named (λ _ lay s i r _ _ _. r .0 ≡ layout.flags (stored lay (now s)) i))
 flags-at-tied x = promises (x .𝓤) (λ o e. e)
 
-pub length-at-tied : Promised length-at.ended (λ M. length-at.clauses) (λ M. length-at.spec) (λ x o. o .0 ≡ layout.bodyLength (stored (x .args .0) (x .args .1 .0 .now)) (x .args .1 .1 .0))
+pub length-at-tied : Promised length-at.ended (λ M. length-at.clauses) (λ M. length-at.spec) (named (λ _ lay s i r _ _ _. r ≡ layout.bodyLength (stored lay (now s)) i))
 length-at-tied x = promises (x .𝓤) (λ o e. e)
 
-pub offset-at-tied : Promised offset-at.ended (λ M. offset-at.clauses) (λ M. offset-at.spec) (λ x o. o .0 ≡ layout.offset (stored (x .args .0) (x .args .1 .0 .now)) (x .args .1 .1 .0))
+pub offset-at-tied : Promised offset-at.ended (λ M. offset-at.clauses) (λ M. offset-at.spec) (named (λ _ lay s i r _ _ _. r ≡ layout.offset (stored lay (now s)) i))
 offset-at-tied x = promises (x .𝓤) (λ o e. e)
 
 pub put-counts-tied : Promised put-counts.ended (λ M. put-counts.clauses) (λ M. put-counts.spec)
-    (λ x o. Wrote (x .args .0 .now) 0 (layout.countsBytes (x .args .1 .0) (x .args .1 .1 .0)) (o .0) (o .1 .0))
+    (named (λ _ out features profiles r out′ _ _. Wrote (now out) 0 (layout.countsBytes features profiles) r out′))
 put-counts-tied x = promises (x .𝓤) (λ o e. e)
 
 pub profiles-part-tied : Promised profiles-part.ended (λ M. profiles-part.clauses) (λ M. profiles-part.spec)
-    (λ x o. PartOf (x .args .0) (layout.profilesBehind (layout.features (x .args .0 .now))) (layout.profilesIn (x .args .0 .now)) (o .0))
+    (named (λ _ s r _. PartOf s (layout.profilesBehind (layout.features (now s))) (layout.profilesIn (now s)) r))
 profiles-part-tied x = promises (x .𝓤) (λ o e. e)
 
 -- ---- sheet
 
-pub flags-rule-tied : Promised flags-rule.ended (λ M. flags-rule.clauses) (λ M. flags-rule.spec) (λ x o. (o .0 ≡ flagsRule (x .args .0 .0)) × Flagging (refuse 5) (refuse 44) (x .args .0 .0) (o .0))
+pub flags-rule-tied : Promised flags-rule.ended (λ M. flags-rule.clauses) (λ M. flags-rule.spec) (named (λ _ flags r _. (r ≡ flagsRule (flags .0)) × Flagging (refuse 5) (refuse 44) (flags .0) r))
 unfolding flagsRule
 flags-rule-tied x = promises (x .𝓤) (λ o e. (e, by (Flagging _ _ _) (flagging _ _ _) e))
 
-pub end-before-tied : Promised end-before.ended (λ M. end-before.clauses) (λ M. end-before.spec) (λ x o. o .0 ≡ endBefore (stored (x .args .0) (x .args .1 .0 .now)) (x .args .1 .1 .0))
+pub end-before-tied : Promised end-before.ended (λ M. end-before.clauses) (λ M. end-before.spec) (named (λ _ lay s i r _ _ _. r ≡ endBefore (stored lay (now s)) i))
 end-before-tied x = promises (x .𝓤) (λ o e. e)
 
-pub first-from-tied : Promised first-from.ended (λ M. first-from.clauses) (λ M. first-from.spec) (λ x o. o .0 ≡ firstFrom (stored (x .args .0) (x .args .1 .0 .now)) (x .args .1 .1 .0) (x .args .1 .1 .1 .0 .0))
+pub first-from-tied : Promised first-from.ended (λ M. first-from.clauses) (λ M. first-from.spec) (named (λ _ lay s n sfn r _ _ _ _. r ≡ firstFrom (stored lay (now s)) n (sfn .0)))
 first-from-tied x = promises (x .𝓤) (λ o e. e)
 
 pub next-from-tied : Promised next-from.ended (λ M. next-from.clauses) (λ M. next-from.spec)
-    (λ x o. o .0 ≡ nextFrom (stored (x .args .0) (x .args .1 .0 .now)) (x .args .1 .1 .0) (x .args .1 .1 .1 .0 .0) (x .args .1 .1 .1 .1 .0))
+    (named (λ _ lay s n sfn from r _ _ _ _ _. r ≡ nextFrom (stored lay (now s)) n (sfn .0) from))
 next-from-tied x = promises (x .𝓤) (λ o e. e)
 
 -- ---- reading
 
-pub number-at-tied : Promised number-at.ended (λ M. number-at.clauses) (λ M. number-at.spec) (λ x o. o .0 .0 ≡ numberAt (x .args .0 .now) (x .args .1 .0))
+pub number-at-tied : Promised number-at.ended (λ M. number-at.clauses) (λ M. number-at.spec) (named (λ _ s at r _ _. r .0 ≡ numberAt (now s) at))
 number-at-tied x = promises (x .𝓤) (λ o e. e)
 
-pub reading-flags-at-tied : Promised reading-flags-at.ended (λ M. reading-flags-at.clauses) (λ M. reading-flags-at.spec) (λ x o. o .0 .0 ≡ flagsAt (x .args .0 .now) (x .args .1 .0))
+pub reading-flags-at-tied : Promised reading-flags-at.ended (λ M. reading-flags-at.clauses) (λ M. reading-flags-at.spec) (named (λ _ s at r _ _. r .0 ≡ flagsAt (now s) at))
 reading-flags-at-tied x = promises (x .𝓤) (λ o e. e)
 
-pub reading-length-at-tied : Promised reading-length-at.ended (λ M. reading-length-at.clauses) (λ M. reading-length-at.spec) (λ x o. o .0 ≡ lengthAt (x .args .0 .now) (x .args .1 .0))
+pub reading-length-at-tied : Promised reading-length-at.ended (λ M. reading-length-at.clauses) (λ M. reading-length-at.spec) (named (λ _ s at r _ _. r ≡ lengthAt (now s) at))
 reading-length-at-tied x = promises (x .𝓤) (λ o e. e)
 
-pub next-at-tied : Promised next-at.ended (λ M. next-at.clauses) (λ M. next-at.spec) (λ x o. o .0 ≡ nextAt (x .args .0 .now) (x .args .1 .0))
+pub next-at-tied : Promised next-at.ended (λ M. next-at.clauses) (λ M. next-at.spec) (named (λ _ s at r _ _. r ≡ nextAt (now s) at))
 next-at-tied x = promises (x .𝓤) (λ o e. e)
 
-pub body-at-tied : Promised body-at.ended (λ M. body-at.clauses) (λ M. body-at.spec) (λ x o. PartOf (x .args .0) (x .args .1 .0 + 4) (descAt (x .args .0 .now) (x .args .1 .0) .body) (o .0))
+pub body-at-tied : Promised body-at.ended (λ M. body-at.clauses) (λ M. body-at.spec) (named (λ _ s at r _ _. PartOf s (at + 4) (descAt (now s) at .body) r))
 body-at-tied x = promises (x .𝓤) (λ o e. e)
 
-pub complete-tied : Promised complete.ended (λ M. complete.clauses) (λ M. complete.spec) (λ x o. Completes (x .args .0 .now) (o .0))
+pub complete-tied : Promised complete.ended (λ M. complete.clauses) (λ M. complete.spec) (named (λ _ s r _. Completes (now s) r))
 complete-tied x = promises (x .𝓤) (λ o. by (Completes _) (completes _))
 
-pub judge-tied : Promised judge.ended (λ M. judge.clauses) (λ M. judge.spec) (λ x o. o .0 ≡ judged (x .args .0 .now))
+pub judge-tied : Promised judge.ended (λ M. judge.clauses) (λ M. judge.spec) (named (λ _ s r _. r ≡ judged (now s)))
 judge-tied x = promises (x .𝓤) (λ o e. e)

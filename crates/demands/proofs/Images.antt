@@ -12,6 +12,7 @@ use base.Logic.{ent, id⊢, via}
 use contract.Monad.{conj, conj-mono, fact}
 use contract.Lifetimes.{Lfts}
 use denote.Triple.Entry.{Args}
+use denote.Ref.{now}
 use Rattle.base.specs.Lists.{Bytes}
 use Rattle.base.proofs.Decided.{Call, Outcome, allowed}
 use Rattle.base.proofs.Promise.{beside, both}
@@ -44,6 +45,7 @@ use Rattle.rom.proofs.Accepted as rom
 use Rattle.rom.proofs.respond as rom-respond
 use Rattle.demands.proofs.Sending.{Leaves, leaves}
 use Rattle.demands.proofs.Importing.{imported-accepted, imported-means, stored}
+use Rattle.demands.proofs.Named.{saying}
 
 -- ---- one call
 
@@ -137,14 +139,17 @@ module _ (x : Call import.ended (λ M. import.clauses)) (κs : Lfts (respond.end
   by-image = beside x κs₂ args₂ tt
 
   pub rom-end-to-end : (o : Outcome import.ended (λ M. import.clauses) x) (p : Outcome respond.ended (λ M. respond.clauses) by-sheet)
-      (r : Outcome rom-respond.ended (λ M. rom-respond.clauses) by-image)
+      (q : Outcome rom-respond.ended (λ M. rom-respond.clauses) by-image)
       → ent (x .𝓤) (conj (x .𝓤) (allowed import.ended (λ M. import.clauses) x o)
-      (conj (x .𝓤) (allowed respond.ended (λ M. respond.clauses) by-sheet p) (allowed rom-respond.ended (λ M. rom-respond.clauses) by-image r))) (fact (x .𝓤) (
-      Bytes (x .args .0 .now) → args₂ .0 .now ≡ x .args .0 .now → layout.stored (args .0) (args .1 .0 .now) ≡ layout.stored Rows (take (o .0 .count) (o .1 .1 .0))
-      → args₂ .1 .0 .now ≡ args .1 .1 .0 .now → args₂ .1 .1 .0 .now ≡ args .1 .1 .1 .0 .now
-      → Agrees (o .0 .refusal) (maker.outcome (p .0) (p .1 .1 .1 .1 .0)) (maker.outcome (r .0) (r .1 .1 .1 .0))))
-  rom-end-to-end o p r =
+      (conj (x .𝓤) (allowed respond.ended (λ M. respond.clauses) by-sheet p) (allowed rom-respond.ended (λ M. rom-respond.clauses) by-image q))) (fact (x .𝓤) (
+      saying x o (λ _ response sheet r _ sheet′.
+      saying by-sheet p (λ _ lay₂ s₂ command₂ out₂ r₂ _ _ _ out₂′.
+      saying by-image q (λ _ image₃ command₃ out₃ r₃ _ _ out₃′.
+      Bytes (now response) → now image₃ ≡ now response → layout.stored lay₂ (now s₂) ≡ layout.stored Rows (take (r .count) sheet′)
+      → now command₃ ≡ now command₂ → now out₃ ≡ now out₂
+      → Agrees (r .refusal) (maker.outcome r₂ out₂′) (maker.outcome r₃ out₃′))))))
+  rom-end-to-end o p q =
       via (x .𝓤) _ (conj-mono (x .𝓤) (id⊢ (x .𝓤) _) (both (x .𝓤) pair))
-      (both (x .𝓤) (λ q fg b is-image there is-command is-buffer.
-      let a = agree (x .args .0 .now) (x .args .1 .0 .now) (args .1 .1 .0 .now) (args .1 .1 .1 .0 .now) b (maker.outcome (o .0) (o .1 .1 .0)) q (layout.stored (args .0) (args .1 .0 .now)) there in
+      (both (x .𝓤) (λ e fg b is-image there is-command is-buffer.
+      let a = agree (x .args .0 .now) (x .args .1 .0 .now) (args .1 .1 .0 .now) (args .1 .1 .1 .0 .now) b (maker.outcome (o .0) (o .1 .1 .0)) e (layout.stored (args .0) (args .1 .0 .now)) there in
       rw (fg .0, rw (is-image, is-command, is-buffer) at (fg .1)) a))

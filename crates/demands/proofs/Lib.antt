@@ -1,4 +1,5 @@
 -- The demands, each in a file of its own, and their ties to the functions' own contracts.
+pub mod Named
 pub mod Sheets
 pub mod Sending
 pub mod Readings

@@ -14,6 +14,7 @@ use base.Logic.{ent, via}
 use contract.Monad.{conj, conj-mono, fact}
 use contract.Lifetimes.{Lfts}
 use denote.Triple.Entry.{Args}
+use denote.Ref.{now}
 use Rattle.base.specs.Lists.{each, flat, keep, Bytes}
 use Rattle.base.proofs.Decided.{Call, Outcome, allowed}
 use Rattle.base.proofs.Promise.{by, beside, both}
@@ -51,6 +52,7 @@ use Rattle.demands.specs.Recorder.{sheetE, sheetE′, command}
 use Rattle.demands.proofs.Sending.{Answers, demand2}
 use Rattle.demands.proofs.Readings.{ReadBack, Reads, reads}
 use Rattle.demands.proofs.EndToEnd.{sheet-fine, got, read-back}
+use Rattle.demands.proofs.Named.{saying}
 
 -- ---- what a request selects
 
@@ -213,8 +215,10 @@ module _ (x : Call respond.ended (λ M. respond.clauses)) (κs : Lfts (read.ende
 
   pub complete-end-to-end : (o : Outcome respond.ended (λ M. respond.clauses) x) (p : Outcome read.ended (λ M. read.clauses) reading-of)
       → ent (x .𝓤) (conj (x .𝓤) (allowed respond.ended (λ M. respond.clauses) x o) (allowed read.ended (λ M. read.clauses) reading-of p)) (fact (x .𝓤) (
-      Bytes (x .args .1 .0 .now) → Exchanged (x .args .1 .1 .0 .now) (o .0) (o .1 .1 .1 .1 .0) (args .0) (args .1 .0 .0) (args .1 .1 .0 .now) (p .0)
-      → Holds (stored (x .args .0) (x .args .1 .0 .now)) (args .0) (args .1 .0 .0) (args .1 .1 .0 .now)))
+      saying x o (λ _ lay s command out r _ _ _ out′.
+      saying reading-of p (λ _ rt₂ sfn₂ s₂ r₂ _ _ _.
+      Bytes (now s) → Exchanged (now command) r out′ rt₂ (sfn₂ .0) (now s₂) r₂
+      → Holds (stored lay (now s)) rt₂ (sfn₂ .0) (now s₂)))))
   complete-end-to-end o p = both (x .𝓤) (λ e f. holds (by (Answers _ _ _) (demand2 _ _ _) e) (by (Reads _ _ _ _) (reads _ _ _ _) f))
 
 -- ---- two exchanges
@@ -243,10 +247,14 @@ module _ (x : Call respond.ended (λ M. respond.clauses)) (κs : Lfts (read.ende
       → ent (x .𝓤) (conj (x .𝓤)
       (conj (x .𝓤) (allowed respond.ended (λ M. respond.clauses) x o) (allowed read.ended (λ M. read.clauses) (reading-of x κs args) p))
       (conj (x .𝓤) (allowed respond.ended (λ M. respond.clauses) again o′) (allowed read.ended (λ M. read.clauses) (reading-of again κs₃ args₃) p′))) (fact (x .𝓤) (
-      Bytes (x .args .1 .0 .now) → stored (x .args .0) (x .args .1 .0 .now) ≡ stored (args₂ .0) (args₂ .1 .0 .now)
-      → Exchanged (x .args .1 .1 .0 .now) (o .0) (o .1 .1 .1 .1 .0) (args .0) (args .1 .0 .0) (args .1 .1 .0 .now) (p .0)
-      → Exchanged (args₂ .1 .1 .0 .now) (o′ .0) (o′ .1 .1 .1 .1 .0) (args₃ .0) (args₃ .1 .0 .0) (args₃ .1 .1 .0 .now) (p′ .0)
-      → Combines (args .0) (args .1 .0 .0) (found (args .0) (args .1 .0 .0) (args .1 .1 .0 .now)) (args₃ .0) (args₃ .1 .0 .0) (found (args₃ .0) (args₃ .1 .0 .0) (args₃ .1 .1 .0 .now))))
+      saying x o (λ _ lay s command out r _ _ _ out′.
+      saying (reading-of x κs args) p (λ _ rt₂ sfn₂ s₂ r₂ _ _ _.
+      saying again o′ (λ _ lay₃ s₃ command₃ out₃ r₃ _ _ _ out₃′.
+      saying (reading-of again κs₃ args₃) p′ (λ _ rt₄ sfn₄ s₄ r₄ _ _ _.
+      Bytes (now s) → stored lay (now s) ≡ stored lay₃ (now s₃)
+      → Exchanged (now command) r out′ rt₂ (sfn₂ .0) (now s₂) r₂
+      → Exchanged (now command₃) r₃ out₃′ rt₄ (sfn₄ .0) (now s₄) r₄
+      → Combines rt₂ (sfn₂ .0) (found rt₂ (sfn₂ .0) (now s₂)) rt₄ (sfn₄ .0) (found rt₄ (sfn₄ .0) (now s₄))))))))
   combined-end-to-end o p o′ p′ =
       via (x .𝓤) _ (conj-mono (x .𝓤) (complete-end-to-end x κs args o p) (complete-end-to-end again κs₃ args₃ o′ p′))
       (both (x .𝓤) (λ f g b same e h. combined b same (f b e) (g (by (λ (t : Sheet). Bytes (t .bytes)) b (sym same)) h)))

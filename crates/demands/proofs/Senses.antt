@@ -58,6 +58,7 @@ use Rattle.sense.proofs.Cases.{made-kind, made-other, made-short, sensed-length
 use Rattle.demands.specs.Recorder.{command}
 use Rattle.demands.proofs.Sheets.{oneOf}
 use Rattle.demands.proofs.Sending.{leaves}
+use Rattle.demands.proofs.Named.{named}
 
 -- the maker takes the number n
 abbrev pub Taken : ℕ → Type 0
@@ -203,14 +204,14 @@ answered-taken s c d =
     (orElse-holds Taken _ _ (orElse-holds Taken _ _ (verdict-taken s) (command-taken c)) (if-holds Taken (refuse 12) _ accept refl refl))
 
 -- And so it is with every outcome that the contract of `respond` allows.
-pub respond-taken : Promised respond.ended (λ M. respond.clauses) (λ M. respond.spec) (λ x o. Taken (o .0 .refusal .number))
+pub respond-taken : Promised respond.ended (λ M. respond.clauses) (λ M. respond.spec) (named (λ _ lay s command out r _ _ _ _. Taken (r .refusal .number)))
 respond-taken x = promises (x .𝓤) (λ o. by (λ (z : Outcome). Taken (z .made .refusal .number)) (answered-taken _ _ _))
 
-pub gcf-respond-taken : Promised gcf-respond.ended (λ M. gcf-respond.clauses) (λ M. gcf-respond.spec) (λ x o. Taken (o .0))
+pub gcf-respond-taken : Promised gcf-respond.ended (λ M. gcf-respond.clauses) (λ M. gcf-respond.spec) (named (λ _ sheet command response numbers r _ _ _ _. Taken r))
 unfolding showPlaced
 gcf-respond-taken x = promises (x .𝓤) (λ o. by (λ (z : Left (List ℕ)). Taken (z .number)) (answered-taken _ _ _))
 
-pub gcf-respond-columns-taken : Promised gcf-respond-columns.ended (λ M. gcf-respond-columns.clauses) (λ M. gcf-respond-columns.spec) (λ x o. Taken (o .0))
+pub gcf-respond-columns-taken : Promised gcf-respond-columns.ended (λ M. gcf-respond-columns.clauses) (λ M. gcf-respond-columns.spec) (named (λ _ sheet command response numbers r _ _ _ _. Taken r))
 unfolding showPlaced
 gcf-respond-columns-taken x = promises (x .𝓤) (λ o. by (λ (z : Left (List ℕ)). Taken (z .number)) (answered-taken _ _ _))
 
@@ -228,14 +229,14 @@ pub trusted-taken : (s : Sheet) (c d : List ℕ) → Taken (trustingCommand s c 
 unfolding trustingCommand trusting sized making pick given kindOf
 trusted-taken s c d = unless-taken (commandFault c) d _ (command-taken c) (unless-taken _ d _ (if-holds Taken (refuse 12) _ accept refl refl) refl)
 
-pub respond-accepted-taken : Promised respond-accepted.ended (λ M. respond-accepted.clauses) (λ M. respond-accepted.spec) (λ x o. Taken (o .0 .refusal .number))
+pub respond-accepted-taken : Promised respond-accepted.ended (λ M. respond-accepted.clauses) (λ M. respond-accepted.spec) (named (λ _ lay s command out r _ _ _ _. Taken (r .refusal .number)))
 respond-accepted-taken x = promises (x .𝓤) (λ o. by (λ (z : Outcome). Taken (z .made .refusal .number)) (trusted-taken _ _ _))
 
-pub gcf-respond-accepted-taken : Promised gcf-respond-accepted.ended (λ M. gcf-respond-accepted.clauses) (λ M. gcf-respond-accepted.spec) (λ x o. Taken (o .0))
+pub gcf-respond-accepted-taken : Promised gcf-respond-accepted.ended (λ M. gcf-respond-accepted.clauses) (λ M. gcf-respond-accepted.spec) (named (λ _ sheet command response numbers r _ _ _ _. Taken r))
 unfolding showMade
 gcf-respond-accepted-taken x = promises (x .𝓤) (λ o. by (λ (z : Left (List ℕ)). Taken (z .number)) (trusted-taken _ _ _))
 
-pub gcf-respond-columns-accepted-taken : Promised gcf-respond-columns-accepted.ended (λ M. gcf-respond-columns-accepted.clauses) (λ M. gcf-respond-columns-accepted.spec) (λ x o. Taken (o .0))
+pub gcf-respond-columns-accepted-taken : Promised gcf-respond-columns-accepted.ended (λ M. gcf-respond-columns-accepted.clauses) (λ M. gcf-respond-columns-accepted.spec) (named (λ _ sheet command response numbers r _ _ _ _. Taken r))
 unfolding showMade
 gcf-respond-columns-accepted-taken x = promises (x .𝓤) (λ o. by (λ (z : Left (List ℕ)). Taken (z .number)) (trusted-taken _ _ _))
 
@@ -248,10 +249,10 @@ image-taken i c d =
     (orElse-holds Taken _ _ (capture-is Taken refl refl refl refl refl refl refl refl refl refl refl refl i) (command-taken c))
     (if-holds Taken (refuse 12) _ accept refl refl))
 
-pub rom-respond-taken : Promised rom-respond.ended (λ M. rom-respond.clauses) (λ M. rom-respond.spec) (λ x o. Taken (o .0 .refusal .number))
+pub rom-respond-taken : Promised rom-respond.ended (λ M. rom-respond.clauses) (λ M. rom-respond.spec) (named (λ _ image command out r _ _ _. Taken (r .refusal .number)))
 rom-respond-taken x = promises (x .𝓤) (λ o. by (λ (z : Outcome). Taken (z .made .refusal .number)) (image-taken _ _ _))
 
-pub gcf-respond-image-taken : Promised gcf-respond-image.ended (λ M. gcf-respond-image.clauses) (λ M. gcf-respond-image.spec) (λ x o. Taken (o .0))
+pub gcf-respond-image-taken : Promised gcf-respond-image.ended (λ M. gcf-respond-image.clauses) (λ M. gcf-respond-image.spec) (named (λ _ image command response numbers r _ _ _ _. Taken r))
 unfolding showPlaced
 gcf-respond-image-taken x = promises (x .𝓤) (λ o. by (λ (z : Left (List ℕ)). Taken (z .number)) (image-taken _ _ _))
 
@@ -261,10 +262,10 @@ unfolding imageCommanded imageRequested pick given kindOf
 image-once-taken i c d =
     unless-taken (commandFault c) d _ (command-taken c) (subst Taken (sym (makes-number accept 12 _ d)) (orElse-holds Taken accept _ refl (if-holds Taken (refuse 12) _ accept refl refl)))
 
-pub rom-respond-accepted-taken : Promised rom-respond-accepted.ended (λ M. rom-respond-accepted.clauses) (λ M. rom-respond-accepted.spec) (λ x o. Taken (o .0 .refusal .number))
+pub rom-respond-accepted-taken : Promised rom-respond-accepted.ended (λ M. rom-respond-accepted.clauses) (λ M. rom-respond-accepted.spec) (named (λ _ image command out r _ _ _. Taken (r .refusal .number)))
 rom-respond-accepted-taken x = promises (x .𝓤) (λ o. by (λ (z : Outcome). Taken (z .made .refusal .number)) (image-once-taken _ _ _))
 
-pub gcf-respond-image-accepted-taken : Promised gcf-respond-image-accepted.ended (λ M. gcf-respond-image-accepted.clauses) (λ M. gcf-respond-image-accepted.spec) (λ x o. Taken (o .0))
+pub gcf-respond-image-accepted-taken : Promised gcf-respond-image-accepted.ended (λ M. gcf-respond-image-accepted.clauses) (λ M. gcf-respond-image-accepted.spec) (named (λ _ image command response numbers r _ _ _ _. Taken r))
 unfolding showMade
 gcf-respond-image-accepted-taken x = promises (x .𝓤) (λ o. by (λ (z : Left (List ℕ)). Taken (z .number)) (image-once-taken _ _ _))
 

@@ -1,8 +1,9 @@
 -- The demands and promises over the functions' own contracts, as the toolchain generates them: every outcome that a function's contract allows is what
--- the demand says. Of a call x, `x .args` has the arguments in their order; of an outcome o, `o .0` is the result, and `o .1` has what stands behind
--- each argument at exit. The functions below these are tied in Ground.antt, the exported ones in Exported.antt. Assumes nothing.
+-- the demand says. The arguments have the names of the function's head (Named.antt), r is the result, and a name with a prime what stands there at exit.
+-- The functions below these are tied in Ground.antt, the exported ones in Exported.antt. Assumes nothing.
 use mathlib.Core.Path.{_≡_}
 use Prim.Native.Nat.{min}
+use denote.Ref.{now}
 use Rattle.base.proofs.Promise.{Promised, promises, by}
 use Rattle.reading.proofs.Lies.{Lies}
 use Rattle.reading.proofs.Promised as reading-promised
@@ -51,115 +52,116 @@ use Rattle.demands.proofs.Capturing.{Captures, captures}
 use Rattle.demands.proofs.Importing.{Imports, imports}
 use Rattle.demands.proofs.Converting.{Converts, converts}
 use Rattle.demands.proofs.Senses.{Makes, makes-sense, Senses, senses}
+use Rattle.demands.proofs.Named.{named}
 
 -- ---- sheet
 
-pub check-tied : Promised check.ended (λ M. check.clauses) (λ M. check.spec) (λ x o. Checks (stored (x .args .0) (x .args .1 .0 .now)) (o .0))
+pub check-tied : Promised check.ended (λ M. check.clauses) (λ M. check.spec) (named (λ _ lay s r _ _. Checks (stored lay (now s)) r))
 check-tied x = promises (x .𝓤) (λ o. by (Checks _) (checks _))
 
 -- ---- convert
 
 pub convert-tied : Promised convert.ended (λ M. convert.clauses) (λ M. convert.spec)
-    (λ x o. Converts (x .args .0) (stored (x .args .1 .0) (x .args .1 .1 .0 .now)) (x .args .1 .1 .1 .0 .now) (outcome (o .0) (o .1 .1 .1 .1 .0)))
+    (named (λ _ to lay s out r _ _ _ out′. Converts to (stored lay (now s)) (now out) (outcome r out′)))
 convert-tied x = promises (x .𝓤) (λ o. by (Converts _ _ _) (converts _ _ _))
 
 -- ---- responder
 
 pub send-tied : Promised send.ended (λ M. send.clauses) (λ M. send.spec)
-    (λ x o. Serves (stored (x .args .0) (x .args .1 .0 .now)) (x .args .1 .1 .0) (x .args .1 .1 .1 .0 .0) (x .args .1 .1 .1 .1 .0) (x .args .1 .1 .1 .1 .1 .0 .now) (outcome (o .0) (o .1 .1 .1 .1 .1 .1 .0)))
+    (named (λ _ lay s rt sfn a out r _ _ _ _ _ out′. Serves (stored lay (now s)) rt (sfn .0) a (now out) (outcome r out′)))
 send-tied x = promises (x .𝓤) (λ o. by (Serves _ _ _ _ _) (serves _ _ _ _ _))
 
-pub size-tied : Promised size.ended (λ M. size.clauses) (λ M. size.spec) (λ x o. Sizes (stored (x .args .0) (x .args .1 .0 .now)) (x .args .1 .1 .0) (x .args .1 .1 .1 .0 .0) (o .0))
+pub size-tied : Promised size.ended (λ M. size.clauses) (λ M. size.spec) (named (λ _ lay s rt sfn r _ _ _ _. Sizes (stored lay (now s)) rt (sfn .0) r))
 size-tied x = promises (x .𝓤) (λ o. by (Sizes _ _ _) (sizes _ _ _))
 
 pub send-sized-tied : Promised send-sized.ended (λ M. send-sized.clauses) (λ M. send-sized.spec)
-    (λ x o. ServesSized (stored (x .args .0) (x .args .1 .0 .now)) (x .args .1 .1 .0) (x .args .1 .1 .1 .0 .0) (x .args .1 .1 .1 .1 .0) (x .args .1 .1 .1 .1 .1 .0) (x .args .1 .1 .1 .1 .1 .1 .0) (x .args .1 .1 .1 .1 .1 .1 .1 .0 .now)
-    (outcome (o .0) (o .1 .1 .1 .1 .1 .1 .1 .1 .0)))
+    (named (λ _ lay s rt sfn a from size out r _ _ _ _ _ _ _ out′. ServesSized (stored lay (now s)) rt (sfn .0) a from size (now out)
+    (outcome r out′)))
 send-sized-tied x = promises (x .𝓤) (λ o. by (ServesSized _ _ _ _ _ _ _) (serves-sized _ _ _ _ _ _ _))
 
 pub respond-accepted-tied : Promised respond-accepted.ended (λ M. respond-accepted.clauses) (λ M. respond-accepted.spec)
-    (λ x o. Trusts (stored (x .args .0) (x .args .1 .0 .now)) (x .args .1 .1 .0 .now) (x .args .1 .1 .1 .0 .now) (outcome (o .0) (o .1 .1 .1 .1 .0)))
+    (named (λ _ lay s command out r _ _ _ out′. Trusts (stored lay (now s)) (now command) (now out) (outcome r out′)))
 respond-accepted-tied x = promises (x .𝓤) (λ o. by (Trusts _ _ _) (trusts _ _ _))
 
 pub respond-tied : Promised respond.ended (λ M. respond.clauses) (λ M. respond.spec)
-    (λ x o. Answers (stored (x .args .0) (x .args .1 .0 .now)) (x .args .1 .1 .0 .now) (x .args .1 .1 .1 .0 .now) (outcome (o .0) (o .1 .1 .1 .1 .0)))
+    (named (λ _ lay s command out r _ _ _ out′. Answers (stored lay (now s)) (now command) (now out) (outcome r out′)))
 respond-tied x = promises (x .𝓤) (λ o. by (Answers _ _ _) (demand2 _ _ _))
 
 -- ---- reading
 
 pub scan-tied : Promised scan.ended (λ M. scan.clauses) (λ M. scan.spec)
-    (λ x o. Scans (x .args .0) (x .args .1 .0) (x .args .1 .1 .0 .0) (x .args .1 .1 .1 .0 .now) (o .0))
+    (named (λ _ limit rt sfn s r _ _ _ _. Scans limit rt (sfn .0) (now s) r))
 scan-tied x = promises (x .𝓤) (λ o. by (Scans _ _ _ _) (scans _ _ _ _))
 
-pub read-tied : Promised read.ended (λ M. read.clauses) (λ M. read.spec) (λ x o. Reads 65534 (x .args .0) (x .args .1 .0 .0) (x .args .1 .1 .0 .now) (o .0))
+pub read-tied : Promised read.ended (λ M. read.clauses) (λ M. read.spec) (named (λ _ rt sfn s r _ _ _. Reads 65534 rt (sfn .0) (now s) r))
 read-tied x = promises (x .𝓤) (λ o. by (Reads _ _ _ _) (reads _ _ _ _))
 
-pub held-tied : Promised held.ended (λ M. held.clauses) (λ M. held.spec) (λ x o. Lies (x .args .0 .0) (x .args .1 .0) (x .args .1 .1 .0) (o .0))
+pub held-tied : Promised held.ended (λ M. held.clauses) (λ M. held.spec) (named (λ _ feature fresh kept r _ _ _. Lies (feature .0) fresh kept r))
 held-tied = reading-promised.held-tied
 
 -- ---- sweep
 
-pub most-tied : Promised most.ended (λ M. most.clauses) (λ M. most.spec) (λ x o. o .0 ≡ min (x .args .0) 65534)
+pub most-tied : Promised most.ended (λ M. most.clauses) (λ M. most.spec) (named (λ _ allocation r _. r ≡ min allocation 65534))
 most-tied x = promises (x .𝓤) (λ o e. e)
 
-pub sweep-start-tied : Promised sweep-start.ended (λ M. sweep-start.clauses) (λ M. sweep-start.spec) (λ x o. Starts (x .args .0) (x .args .1 .0) (o .0))
+pub sweep-start-tied : Promised sweep-start.ended (λ M. sweep-start.clauses) (λ M. sweep-start.spec) (named (λ _ rt allocation r _ _. Starts rt allocation r))
 sweep-start-tied x = promises (x .𝓤) (λ o. by (Starts _ _) (starts _ _))
 
 pub sweep-take-tied : Promised sweep-take.ended (λ M. sweep-take.clauses) (λ M. sweep-take.spec)
-    (λ x o. Takes (x .args .0) (x .args .1 .0 .now) (x .args .1 .1 .0 .now) (turn (o .0) (o .1 .1 .1 .0)))
+    (named (λ _ self response out r _ _ out′. Takes self (now response) (now out) (turn r out′)))
 sweep-take-tied x = promises (x .𝓤) (λ o. by (Takes _ _ _) (takes _ _ _))
 
 pub take-response-tied : Promised take-response.ended (λ M. take-response.clauses) (λ M. take-response.spec)
-    (λ x o. Takes (x .args .0 .now) (x .args .1 .0 .now) (x .args .1 .1 .0 .now) (turn (step (o .0) (o .1 .0)) (o .1 .1 .1 .0)))
+    (named (λ _ «record» response out r record′ _ out′. Takes (now «record») (now response) (now out) (turn (step r record′) out′)))
 take-response-tied x = promises (x .𝓤) (λ o. by (Takes _ _ _) (takes _ _ _))
 
 -- ---- listing
 
-pub list-tied : Promised list.ended (λ M. list.clauses) (λ M. list.spec) (λ x o. Lists (x .args .0 .now) (x .args .1 .0 .now) (o .0) (o .1 .1 .0))
+pub list-tied : Promised list.ended (λ M. list.clauses) (λ M. list.spec) (named (λ _ s out r _ out′. Lists (now s) (now out) r out′))
 list-tied x = promises (x .𝓤) (λ o. lists)
 
 -- ---- bench
 
 pub bench-tied : Promised bench.ended (λ M. bench.clauses) (λ M. bench.spec)
-    (λ x o. Benches (stored (x .args .0) (x .args .1 .0 .now)) (x .args .1 .1 .0) (x .args .1 .1 .1 .0) (bench-specs.buffers (x .args .1 .1 .1 .1 .0 .now) (x .args .1 .1 .1 .1 .1 .0 .now) (x .args .1 .1 .1 .1 .1 .1 .0 .now))
-    (bench-specs.ending (o .0) (bench-specs.buffers (o .1 .1 .1 .1 .1 .0) (o .1 .1 .1 .1 .1 .1 .0) (o .1 .1 .1 .1 .1 .1 .1 .0))))
+    (named (λ _ lay s rt a response collected starts r _ _ _ _ response′ collected′ starts′. Benches (stored lay (now s)) rt a (bench-specs.buffers (now response) (now collected) (now starts))
+    (bench-specs.ending r (bench-specs.buffers response′ collected′ starts′))))
 bench-tied x = promises (x .𝓤) (λ o. by (Benches _ _ _ _) (benches _ _ _ _))
 
 -- ---- checks
 
-pub check-descriptors-tied : Promised check-descriptors.ended (λ M. check-descriptors.clauses) (λ M. check-descriptors.spec) (λ x o. Finds (x .args .0 .now) (o .0))
+pub check-descriptors-tied : Promised check-descriptors.ended (λ M. check-descriptors.clauses) (λ M. check-descriptors.spec) (named (λ _ s r _. Finds (now s) r))
 check-descriptors-tied x = promises (x .𝓤) (λ o. by (Finds _) (finds _))
 
-pub check-profile-tied : Promised check-profile.ended (λ M. check-profile.clauses) (λ M. check-profile.spec) (λ x o. Judges (x .args .0 .0) (x .args .1 .0 .now) (said (o .0)))
+pub check-profile-tied : Promised check-profile.ended (λ M. check-profile.clauses) (λ M. check-profile.spec) (named (λ _ profile s r _ _. Judges (profile .0) (now s) (said r)))
 check-profile-tied x = promises (x .𝓤) (λ o. by (Judges _ _) (judges _ _))
 
 -- ---- capture and import
 
-pub capture-check-tied : Promised capture-check.ended (λ M. capture-check.clauses) (λ M. capture-check.spec) (λ x o. Captures (x .args .0 .now) (o .0))
+pub capture-check-tied : Promised capture-check.ended (λ M. capture-check.clauses) (λ M. capture-check.spec) (named (λ _ s r _. Captures (now s) r))
 capture-check-tied x = promises (x .𝓤) (λ o. by (Captures _) (captures _))
 
-pub import-tied : Promised import.ended (λ M. import.clauses) (λ M. import.spec) (λ x o. Imports (x .args .0 .now) (x .args .1 .0 .now) (outcome (o .0) (o .1 .1 .0)))
+pub import-tied : Promised import.ended (λ M. import.clauses) (λ M. import.spec) (named (λ _ response sheet r _ sheet′. Imports (now response) (now sheet) (outcome r sheet′)))
 import-tied x = promises (x .𝓤) (λ o. by (Imports _ _) (imports _ _))
 
 -- ---- rom
 
 pub rom-respond-accepted-tied : Promised rom-respond-accepted.ended (λ M. rom-respond-accepted.clauses) (λ M. rom-respond-accepted.spec)
-    (λ x o. ImagesOnce (x .args .0 .now) (x .args .1 .0 .now) (x .args .1 .1 .0 .now) (outcome (o .0) (o .1 .1 .1 .0)))
+    (named (λ _ image command out r _ _ out′. ImagesOnce (now image) (now command) (now out) (outcome r out′)))
 rom-respond-accepted-tied x = promises (x .𝓤) (λ o. by (ImagesOnce _ _ _) (images-once _ _ _))
 
 pub rom-respond-tied : Promised rom-respond.ended (λ M. rom-respond.clauses) (λ M. rom-respond.spec)
-    (λ x o. Images (x .args .0 .now) (x .args .1 .0 .now) (x .args .1 .1 .0 .now) (outcome (o .0) (o .1 .1 .1 .0)))
+    (named (λ _ image command out r _ _ out′. Images (now image) (now command) (now out) (outcome r out′)))
 rom-respond-tied x = promises (x .𝓤) (λ o. by (Images _ _ _) (images _ _ _))
 
 -- ---- sense
 
-pub sense-make-tied : Promised sense-make.ended (λ M. sense-make.clauses) (λ M. sense-make.spec) (λ x o. Makes (x .args .0) (x .args .1 .0 .now) (outcome (o .0) (o .1 .1 .0)))
+pub sense-make-tied : Promised sense-make.ended (λ M. sense-make.clauses) (λ M. sense-make.spec) (named (λ _ number out r _ out′. Makes number (now out) (outcome r out′)))
 sense-make-tied x = promises (x .𝓤) (λ o. by (Makes _ _) (makes-sense _ _))
 
-pub sense-read-tied : Promised sense-read.ended (λ M. sense-read.clauses) (λ M. sense-read.spec) (λ x o. Senses (x .args .0 .now) (heard (o .0)))
+pub sense-read-tied : Promised sense-read.ended (λ M. sense-read.clauses) (λ M. sense-read.spec) (named (λ _ s r _. Senses (now s) (heard r)))
 sense-read-tied x = promises (x .𝓤) (λ o. by (Senses _) (senses _))
 
 -- ---- hex
 
-pub hex-spell-tied : Promised hex-spell.ended (λ M. hex-spell.clauses) (λ M. hex-spell.spec) (λ x o. Spells (x .args .0 .now) (x .args .1 .0 .now) (hex.outcome (o .0) (o .1 .1 .0)))
+pub hex-spell-tied : Promised hex-spell.ended (λ M. hex-spell.clauses) (λ M. hex-spell.spec) (named (λ _ text out r _ out′. Spells (now text) (now out) (hex.outcome r out′)))
 hex-spell-tied x = promises (x .𝓤) (λ o. by (Spells _ _) (spells _ _))
