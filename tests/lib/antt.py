@@ -36,6 +36,9 @@ class Declaration(NamedTuple):
         lines = self.text.split(" where ", 1)[1] if self.kind == "record" and " where " in self.text else ""
         return [tuple(part.split(" : ", 1)) for part in lines.split("\n") if " : " in part]
 
+    def field_names(self):
+        return [field.split()[-1] for field, _ in self.fields()]
+
     def binders(self):
         """The names of its explicit parameters, those of its sections first."""
         heads = [section.removeprefix("module _").removesuffix("where") for section in self.sections]

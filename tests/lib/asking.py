@@ -18,13 +18,12 @@ def table():
 
 def cases():
     for function in source.functions():
-        if function.crate in outside():
-            exported = "an exported function" if function.crate == "abi" and function.public else "a function that stands outside"
-            wrong = f"{exported} asks something of its caller: {function.asks}" if function.asks else None
-            yield Case("open", f"{function.path}: it asks nothing", wrong)
+        if function.exported or function.crate in outside():
+            kind = "an exported function" if function.exported else "a function that stands outside"
+            yield Case("open", f"{function.path}: it asks nothing", function.asks and f"{kind} asks something of its caller: {function.asks}")
         elif function.asks and function.public:
             places = source.callers_outside(function, outside())
-            yield Case("calls", f"{function.path}: nothing outside calls it", places and f"{', '.join(places)} calls it, and what stands there must be asked nothing")
+            yield Case("calls", f"{function.path}: nothing outside calls it", ", ".join(places) and f"{', '.join(places)} calls it, and what stands there must be asked nothing")
     yield from listed()
 
 

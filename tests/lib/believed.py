@@ -1,6 +1,6 @@
 """What a reader must believe: the definitions of specs/, and of specs/inner/ those that a public contract or a kept statement reaches. The lists of docs/PROOFS.md are made of them.
 
-  listed  docs/PROOFS.md names each file that states a demand, and no file that is not there
+  listed  each of these files says at its head what it is about; docs/PROOFS.md names each file that states a demand, and no file that is not there
 """
 import re
 
@@ -87,6 +87,8 @@ NUMBER = re.compile(r"(?<=How many lines must be believed\?\*\* )\d[\d,]*\d")
 
 
 def cases():
+    for file in files():
+        yield Case("listed", f"{file}: what it is about", None if first_sentence(file) else "no comment at its head")
     guide = text_of("docs/PROOFS.md")
     for file in antt.demand_files():
         yield Case("listed", f"docs/PROOFS.md: {file}", None if re.search(rf"`{re.escape(file.rsplit('/', 1)[1])}`", guide) else "no word of it")

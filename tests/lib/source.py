@@ -6,10 +6,11 @@ from tree import crates, exists, is_library, kept, libraries, sources, text_of
 
 
 class Function(NamedTuple):
-    """`path` is CRATE::.. as it is called, `asks` its `requires`, `grounds` the comment line 'Asks:' above it."""
+    """`path` is CRATE::.. as it is called, `exported` whether C can call it, `asks` its `requires`, `grounds` the comment line 'Asks:' above it."""
     crate: str
     path: str
     public: bool
+    exported: bool
     asks: Optional[str]
     grounds: Optional[str]
     parameters: tuple
@@ -31,7 +32,7 @@ class Function(NamedTuple):
         return [name for name, kind in self.parameters if re.match(r"&(?:'\w+ )?mut ", kind)]
 
 
-HEAD = re.compile(r'^(?P<indent> *)(?P<pub>pub )?(?:unsafe )?(?:extern "C" )?fn (?P<name>\w+)')
+HEAD = re.compile(r'^(?P<indent> *)(?P<pub>pub )?(?:unsafe )?(?P<extern>extern "C" )?fn (?P<name>\w+)')
 
 
 def contract_after(lines, at):
@@ -112,7 +113,7 @@ def functions_of_file(crate, file, prefix, open_module):
         contract = contract_after(lines, at)
         asks = re.search(r"\brequires \{ (.*?) \}(?= ensures|$)", contract)
         found.append(Function(
-            crate, "::".join(parts), bool(head["pub"]) and open_module, asks and asks.group(1).strip("⌜⌝ "), grounds_above(lines, at),
+            crate, "::".join(parts), bool(head["pub"]) and open_module, bool(head["extern"]), asks and asks.group(1).strip("⌜⌝ "), grounds_above(lines, at),
             *parameters_of(contract, owner), contract, str(file)))
     return found
 
@@ -164,7 +165,7 @@ def leaves(prefix, path):
 
 def calls(source, crate, modules):
     """The paths that a source names with a call or hands on, resolved through its `use` lines, and the methods that it calls. A `*` brings every name of its module."""
-    code = LINE_COMMENT.sub("", source)
+    code = re.sub(r"\s*::\s*", "::", LINE_COMMENT.sub("", source))
     names = imported(code)
     stars = [path.removesuffix("::*") for path in names.values() if path.endswith("::*")]
     body = re.sub(r"^ *(?:pub )?(?:ghost )?use [^;]+;", "", code, flags=re.M)

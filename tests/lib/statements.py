@@ -22,12 +22,9 @@ proof, of a definition all of it. White space and comments are left out. `tests/
 
 
 def named_in_trace():
-    found = []
-    for _, _, shown in traced.rows():
-        for path, name in traced.cited(shown):
-            one = path.endswith(".antt") and exists(path) and antt.declarations(path).get(name)
-            found += [one] if one else []
-    return found
+    """The declarations that the rows of docs/TRACE.md name; of a field its record."""
+    pairs = {pair for _, _, shown in traced.rows() for pair in traced.cited(shown) if pair[0].endswith(".antt") and exists(pair[0])}
+    return [one for path, name in sorted(pairs) for one in antt.declarations(path).values() if name in (one.name, *one.field_names())]
 
 
 def demanded():
