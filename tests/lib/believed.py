@@ -69,9 +69,13 @@ def lines():
 
 
 def counts():
-    """How many lines that is, and how much of it is inner."""
+    """How many lines that is, how much of it is inner, and how many definitions of proofs/ the statements use beside them."""
     inner = [file for file in files() if is_inner(file)]
-    return [f"{len(files())} files, {lines():,} lines. {len(inner)} of the files, and {sum(size(file) for file in inner)} of the lines, are of `specs/inner/`."]
+    beside = [name for file, names in statements.collected().items() if "/proofs/" in file for name in names if antt.declarations(file)[name].is_definition()]
+    return [
+        f"{len(files())} files, {lines():,} lines. {len(inner)} of the files, and {sum(size(file) for file in inner)} of the lines, are of `specs/inner/`.",
+        f"Beside these the statements use {len(beside)} definitions of `proofs/`, most of them the records of what is promised: all of them stand in docs/STATEMENTS.md.",
+    ]
 
 
 def inner_table():
