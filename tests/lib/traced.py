@@ -45,14 +45,22 @@ def cited_wrong(path, name):
 
 
 def refused():
-    """The ids of the table of wrong definitions, a row's own, several, or a range as N1-N8; nothing where there is no such table."""
+    """The lines of the table of wrong definitions, by the ids of their rows, or nothing where there is no such table: the wrong definition, and what refuses it."""
     table = TABLE.search(text_of("docs/PROOFS.md"))
-    return table and {name for ids in re.findall(r"^\| ([\w, -]+?) \|.*\|.*\|$", table.group(1), re.M) for part in ids.split(", ") for name in spread(part)}
+    if not table:
+        return None
+    lines = re.findall(r"^\| ([\w, ]+?) \| (.*) \| (.*) \|$", table.group(1), re.M)
+    return {name: (wrong, by) for ids, wrong, by in lines for name in ids.split(", ")}
 
 
-def spread(part):
-    found = re.fullmatch(r"([A-Z]+)(\d+)-\1(\d+)", part)
-    return [f"{found.group(1)}{n}" for n in range(int(found.group(2)), int(found.group(3)) + 1)] if found else [part]
+def refused_wrong(line):
+    """What is wrong with a row's line: there is none; a name that it cites is not there; or it cites none and does not say in brackets that there is none."""
+    if line is None:
+        return "it has no line in the table"
+    wrong, by = line
+    if not cited(by) and not wrong.startswith("["):
+        return "it names no theorem, and does not say so in brackets"
+    return "; ".join(fault for path, word in cited(by) if (fault := cited_wrong(path, word)))
 
 
 def cases(quick):
@@ -71,4 +79,4 @@ def cases(quick):
         yield Case("trace", f"docs/TRACE.md, {name}", "; ".join(faults))
     if (found := refused()) is not None:
         for name, _, _ in rows():
-            yield Case("refused", f"docs/PROOFS.md, {name}: a wrong definition that is refused", None if name in found else "it has no line in the table")
+            yield Case("refused", f"docs/PROOFS.md, {name}: a wrong definition that is refused", refused_wrong(found.get(name)))

@@ -8,6 +8,7 @@ pub mod Steps
 pub mod Sweeping
 pub mod Fewest
 pub mod Checking
+pub mod Bodies
 pub mod Capturing
 pub mod Converting
 pub mod Importing

@@ -1,11 +1,14 @@
 -- Hexadecimal text: "which bytes a text spells; anything else gets a message with its line". `spelled` is what a text spells (crates/hex/specs/Text.antt). Assumes nothing.
 use borrow.Author.Tests.{lt-ltb, le-ltb, eq-eqb, ne-eqb}
 use mathlib.Core.Path.{_≡_, refl, sym, ap, _∙_}
-use mathlib.Core.List.{List, _++_}
+use mathlib.Core.List.{List, [], _∷_, _++_}
 use Prim.Native.Nat.{ℕ, zero, suc, _≤_, _<_}
 use native.Mathlib.Omega.{arith}
 use lib.ListN.{length, drop}
-use Rattle.hex.specs.Text.{Outcome, spelled, given}
+use Rattle.hex.specs.Chars.{choose, at, value, blank, parts, isA, pastOf, past, ends, lineAt}
+use Rattle.hex.specs.Front.{isOffset, isEnd, isSaid, isWords, width, openedAt, opened}
+use Rattle.hex.specs.Steps.{digit, prefix, space, bar, between, newline, other, char, step}
+use Rattle.hex.specs.Text.{some, ended, taken, spelling, Outcome, spelled, given}
 use Rattle.hex.proofs.Cases.{choose-yes, choose-no}
 
 -- the outcome o of the text s and the buffer d: the first line that is none, and then the count 0 and nothing changed; else the count of the bytes, which stand at the
@@ -41,3 +44,13 @@ spells s d = go (spelled s .line) refl
           short = λ z h. absurd (k z);
           made = λ z h. absurd (k z);
         }
+
+-- Texts, character by character: "46 0a" and "FF" on two lines are three bytes, the first digit of each the higher one; in "46" and "4z" on two lines the second
+-- spells none, in "465" half a byte is left.
+pub spelledE :
+    (spelled (52 ∷ 54 ∷ 32 ∷ 48 ∷ 97 ∷ 10 ∷ 70 ∷ 70 ∷ []) .bytes ≡ 0x46 ∷ 0x0A ∷ 0xFF ∷ [])
+    × (spelled (52 ∷ 54 ∷ 32 ∷ 48 ∷ 97 ∷ 10 ∷ 70 ∷ 70 ∷ []) .line ≡ 0)
+    × (spelled (52 ∷ 54 ∷ 10 ∷ 52 ∷ 122 ∷ []) .line ≡ 2)
+    × (spelled (52 ∷ 54 ∷ 53 ∷ []) .line ≡ 1)
+unfolding some ended taken spelling spelled digit prefix space bar between newline other char step isOffset isEnd isSaid isWords width openedAt opened choose at value blank parts isA pastOf past ends lineAt
+spelledE = (refl, refl, refl, refl)

@@ -1,15 +1,14 @@
 -- Where the fields of a drive sheet stand, in plain numbers of its bytes: a definition that is wrong is refused here, whatever code and laws are changed with
 -- it. Assumes nothing.
-use mathlib.Core.Path.{_≡_, refl, sym, ap, _∙_}
+use mathlib.Core.Path.{_≡_, sym, ap, _∙_}
 use mathlib.Core.List.{List}
 use Prim.Native.Nat.{ℕ, _+_, _*_, _<_}
 use native.Mathlib.Omega.{arith}
 use lib.ListN.{take, drop}
-use Rattle.fields.specs.Field.{field}
 use Rattle.fields.proofs.Laws.{field-take, field-drop, field-one}
 use Rattle.text.proofs.Promised.{byte, two, four, field-two, field-four}
 use Rattle.layout.specs.declared.Layout.the-variants.{Rows, Columns}
-use Rattle.layout.specs.Layout.{Sheet, stored, features, profiles, featureCount, profileCount, profilesPart, profilesIn, numberPlace, flagsPlace, lengthPlace, offsetPlace, number, flags, bodyLength, offset}
+use Rattle.layout.specs.Layout.{Sheet, stored, features, profiles, profilesIn, numberPlace, flagsPlace, lengthPlace, offsetPlace, number, flags, bodyLength, offset}
 
 -- the fields of entry i of the sheet s, which stand at these places of its bytes
 pub record Fields (s : Sheet) (i number-at flags-at length-at offset-at : ℕ) : Type 0 where

@@ -1,6 +1,6 @@
 -- The text's sentences on commands, flags, selections, descriptors and readings, in plain numbers of the bytes and without the words of the definitions: a
 -- definition that is wrong is refused here, whatever code and laws are changed with it. Assumes nothing.
-use borrow.Author.Tests.{le-leb, lt-leb, eq-eqb, ne-eqb, lt-ltb, le-ltb, leb-true, eqb-true}
+use borrow.Author.Tests.{le-leb, lt-leb, eq-eqb, ne-eqb, lt-ltb, le-ltb, eqb-true}
 use mathlib.Core.Path.{_≡_, refl, sym, ap, ap₂, _∙_}
 use mathlib.Core.Bool.{Bool, true, false, not, _&&_, and-false}
 use mathlib.Core.List.{List, [], _∷_, _++_, append-nil}
@@ -13,12 +13,11 @@ use Rattle.base.specs.Lists.{each, flat}
 use Rattle.base.proofs.Lists.{length-each}
 use Rattle.fields.specs.Field.{field, spell}
 use Rattle.refusal.specs.declared.Refusal.{Refusal}
-use Rattle.refusal.specs.First.{refuse, accept, _if_else_, _orElse_}
-use Rattle.refusal.proofs.First.{tests, if-true, if-false, orElse-none, orElse-fault, unless-none}
-use Rattle.text.specs.declared.Command.{Command}
+use Rattle.refusal.specs.First.{refuse, accept}
+use Rattle.refusal.proofs.First.{tests, if-true, if-false, orElse-none, orElse-fault}
 use Rattle.text.specs.declared.Reading.{Reading}
 use Rattle.text.specs.Flags.{flagsGiving}
-use Rattle.text.specs.Command.{opcodeOf, rtOf, sfnOf, allocationOf, commandFault, commandOf}
+use Rattle.text.specs.Command.{opcodeOf, rtOf, sfnOf, allocationOf, commandFault}
 use Rattle.text.specs.Drive.{Desc, Listed, Drive, bit, profileBytes}
 use Rattle.text.specs.Response.{bytes, feature0, wants, header, dataLength, full, selected, currentProfile}
 use Rattle.text.specs.Reading.{statedLength, statedProfile, statedEnd, headerRule, headRule, numberAt, flagsAt, lengthAt, descAt, headFault, Walked, walk, walked, readFault, nothingRead, taken, reading, wholes}
