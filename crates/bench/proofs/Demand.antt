@@ -102,19 +102,22 @@ module _ {m : Drive} (good : Sound m) (rt a : ℕ) (two : rt < 2) (eight : 8 ≤
   runs-ended : {o : Ending} → Runs m rt a bs 65536 0 0 0 bs o → Ended m rt a bs o
   runs-ended (done e j c t) = swept (rw e (swept-done j (omega arith) (omega arith)))
   runs-ended (stuck e xs d ys q t u b) = long e xs d ys q t u b
-  runs-ended (tight e q) = narrow e (omega (arith, length-flat-bytes wanted))
-  runs-ended (spent e q) = many e (omega arith)
+  runs-ended (tight e q g) = narrow e (omega (arith, length-flat-bytes wanted))
+  runs-ended (spent e q g) = many e (omega arith)
 
   -- the sweep of a drive that the text can speak of, with room for a longest response
-  pub run-ends : most a ≤ length (bs .response) → Ended m rt a bs (runFrom m (state (fresh rt a) bs))
+  pub run-runs : most a ≤ length (bs .response) → Runs m rt a bs 65536 0 0 0 bs (runFrom m (state (fresh rt a) bs))
   unfolding fresh heldAfter
-  run-ends h =
-      runs-ended
-      (ends good rt a two eight bs 65536 0 0 0 bs
+  run-runs h =
+      ends good rt a two eight bs 65536 0 0 0 bs
       (omega (arith, ap length (selected-zero rt m)))
       (selected-count good rt 0)
       (omega (arith, selected-count good rt 0))
-      h)
+      h
+      (omega arith)
+
+  pub run-ends : most a ≤ length (bs .response) → Ended m rt a bs (runFrom m (state (fresh rt a) bs))
+  run-ends h = runs-ended (run-runs h)
 
   -- demand 3 of such a drive
   pub run-swept : Premises m rt a bs → Swept m rt a bs (runFrom m (state (fresh rt a) bs))
@@ -147,7 +150,7 @@ module _ (s : Sheet) (rt a : ℕ) (bs : Buffers) where
   unfolding firstFault startRule
   first-eight e = ltb-false a 8 (if-zero 21 (ltb a 8) _ (if-zero 20 (ltb 1 rt) _ (orElse-zero _ _ (orElse-zero (verdict s) _ e .1) .0) .1) .0)
 
-  first-room : Accepted s → rt < 2 → 8 ≤ a → firstFault s rt a (length (bs .response)) ≡ (refuse 12 if ltb (length (bs .response)) (most a) else accept)
+  pub first-room : Accepted s → rt < 2 → 8 ≤ a → firstFault s rt a (length (bs .response)) ≡ (refuse 12 if ltb (length (bs .response)) (most a) else accept)
   unfolding firstFault startRule _if_else_ _orElse_ pickZero
   first-room accepted two eight =
       let h : rt ≤ 1 = omega arith in

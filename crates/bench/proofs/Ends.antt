@@ -3,10 +3,10 @@
 use mathlib.Core.Path.{_≡_, refl, sym, ap, _∙_}
 use mathlib.Core.Logic.{inl, inr, ⊎-elim}
 use mathlib.Core.List.{List, [], _∷_, _++_, append-nil, append-assoc}
-use Prim.Native.Nat.{ℕ, zero, suc, _+_, _≤_, _<_}
+use Prim.Native.Nat.{ℕ, zero, suc, _+_, _-_, _≤_, _<_}
 use native.Mathlib.Numerals.{add-one}
 use native.Mathlib.Omega.{arith}
-use lib.ListN.{length, set, length-append, length-set}
+use lib.ListN.{length, take, set, length-append, length-set}
 use lib.Seq.{sets, length-sets}
 use Rattle.base.specs.Lists.{flat, All}
 use Rattle.base.proofs.Lists.{flat-append, all-append}
@@ -35,15 +35,34 @@ finished m rt a f c k bs gs =
     ending record { refusal = accept; commands = c + length gs; collected = k + length (flat bytes (joined gs)) }
     (buffers (filled (sent rt (lastOf f (startsOf f gs)) a m) (bs .response)) (sets (bs .collected) k (flat bytes (joined gs))) (sets (bs .starts) c (startsOf f gs)))
 
+-- the bytes that the rounds gs take as far as there are n of them
+abbrev pub begun : (n : ℕ) → List (List Desc) → ℕ
+begun n gs = length (flat bytes (joined (take n gs)))
+
+-- a round that takes g, and those behind it
+begun-more : (g : List Desc) (gs : List (List Desc)) (c n : ℕ) → c < n → begun (n - c) (g ∷ gs) ≡ length (flat bytes g) + begun (n - (c + 1)) gs
+unfolding joined
+begun-more g gs c n h =
+    ap (λ (i : ℕ). begun i (g ∷ gs)) {x = n - c} {y = suc (n - (c + 1))} (omega arith)
+    ∙ ap length (flat-append bytes g (joined (take (n - (c + 1)) gs)))
+    ∙ length-append (flat bytes g) (flat bytes (joined (take (n - (c + 1)) gs)))
+
+-- no round
+begun-none : (gs : List (List Desc)) (c n : ℕ) → n ≤ c → begun (n - c) gs ≡ 0
+unfolding joined flat
+begun-none gs c n h = ap (λ (i : ℕ). begun i gs) {x = n - c} {y = 0} (omega arith)
+
 module _ (m : Drive) (rt a : ℕ) (came : Buffers) where
-  -- a run from f with room for n rounds
+  -- a run from f with room for n rounds; of 24 and 25 also whether the rounds that have a start have room for their bytes
   pub data Runs (n f c k : ℕ) (bs : Buffers) (o : Ending) : Type 0 where
     done : o ≡ finished m rt a f c k bs (plan m rt a n f) → joined (plan m rt a n f) ≡ selected rt f m
         → k + length (flat bytes (selected rt f m)) ≤ length (bs .collected) → c + length (plan m rt a n f) ≤ length (bs .starts) → Runs n f c k bs o
     stuck : o ≡ failing came (refuse 23) → (xs : List Desc) (d : Desc) (ys : List Desc)
         → selected rt f m ≡ xs ++ d ∷ ys → selected rt (nextStart f xs) m ≡ d ∷ ys → room a < size d → All (HasRoom a) xs → Runs n f c k bs o
-    tight : o ≡ failing came (refuse 24) → length (bs .collected) < k + length (flat bytes (selected rt f m)) → Runs n f c k bs o
-    spent : o ≡ failing came (refuse 25) → length (bs .starts) < c + length (plan m rt a n f) → Runs n f c k bs o
+    tight : o ≡ failing came (refuse 24) → length (bs .collected) < k + length (flat bytes (selected rt f m))
+        → length (bs .collected) < k + begun (length (bs .starts) - c) (plan m rt a n f) → Runs n f c k bs o
+    spent : o ≡ failing came (refuse 25) → length (bs .starts) < c + length (plan m rt a n f)
+        → k + begun (length (bs .starts) - c) (plan m rt a n f) ≤ length (bs .collected) → Runs n f c k bs o
 
 -- a round that takes g, and those behind it
 finished-more : (m : Drive) (rt a f c k : ℕ) (bs : Buffers) (g : List Desc) (gs : List (List Desc))
@@ -82,11 +101,13 @@ module _ {m : Drive} (good : Sound m) (rt a : ℕ) (two : rt < 2) (eight : 8 ≤
     taken-by e = run-round n m came w refl another (ap (λ (r : Refusal). r .number) (step-refusal (going m rt a f c k) (sent rt f a m) (bs .collected) ∙ e))
 
     -- 24
-    ends-tight : Takes m rt a f → length (bs .collected) < k + gain m rt a f → Runs m rt a came n f c k bs (rounds (suc n) m came w)
-    ends-tight t h =
+    ends-tight : Takes m rt a f → (gs : List (List Desc)) → plan m rt a n f ≡ fits m rt a f ∷ gs → length (bs .collected) < k + gain m rt a f
+        → Runs m rt a came n f c k bs (rounds (suc n) m came w)
+    ends-tight t gs p h =
         tight
         (refused-by (refuse 24) (λ z. omega arith) (take-narrow good rt a f eight two c k few t (length (bs .collected)) h))
         (omega (arith, flat-parts (room a) (selected rt f m)))
+        (rw p (omega (arith, begun-more (fits m rt a f) gs c (length (bs .starts)) another)))
 
     -- 23
     ends-stuck : (x : Desc) (xs : List Desc) → fits m rt a f ≡ [] → left m rt a f ≡ x ∷ xs → Runs m rt a came n f c k bs (rounds (suc n) m came w)
@@ -124,16 +145,22 @@ module _ {m : Drive} (good : Sound m) (rt a : ℕ) (two : rt < 2) (eight : 8 ≤
       (rw (groups-last (room a) n (selected rt f m) e) (append-nil (fits m rt a f) ∙ all f e))
       (omega (arith, ap (λ (r : List Desc). length (flat bytes r)) (all f e)))
       (omega (arith, ap length (groups-last (room a) n (selected rt f m) e))))
-      (λ (h : length (bs .collected) < k + gain m rt a f). ends-tight (suc n) f c k bs few another (inl e) h)
+      (λ (h : length (bs .collected) < k + gain m rt a f). ends-tight (suc n) f c k bs few another (inl e) [] (groups-last (room a) n (selected rt f m) e) h)
       (le-or-lt (k + gain m rt a f) (length (bs .collected)))
 
   -- something is left: what comes of the rounds from the next start on comes of those from this one
   module _ (f : ℕ) (x : Desc) (xs : List Desc) (l : left m rt a f ≡ x ∷ xs) (h : 0 < length (fits m rt a f)) where
-    onward : (n c k : ℕ) (bs : Buffers) (o : Ending) → 0 < n → length (sent rt f a m) ≤ length (bs .response)
+    -- the rounds that have a start
+    begun-onward : (n c : ℕ) (bs : Buffers) → c < length (bs .starts)
+        → begun (length (bs .starts) - c) (plan m rt a (suc n) f) ≡ gain m rt a f + begun (length (set (bs .starts) c f) - (c + 1)) (plan m rt a n (later m rt a f))
+    begun-onward n c bs b =
+        rw (plan-more good rt a f two h x xs l n, length-set (bs .starts) c f) (begun-more (fits m rt a f) (plan m rt a n (later m rt a f)) c (length (bs .starts)) b)
+
+    onward : (n c k : ℕ) (bs : Buffers) (o : Ending) → 0 < n → c < length (bs .starts) → length (sent rt f a m) ≤ length (bs .response)
         → Runs m rt a came n (later m rt a f) (c + 1) (k + gain m rt a f) (onto m rt a f c k bs) o
         → Runs m rt a came (suc n) f c k bs o
     unfolding joined
-    onward n c k bs o p r (done e j b s) =
+    onward n c k bs o p b r (done e j d s) =
         let gs : List (List Desc) = plan m rt a n (later m rt a f) in
         let g : plan m rt a (suc n) f ≡ fits m rt a f ∷ gs = plan-more good rt a f two h x xs l n in
         done
@@ -143,26 +170,34 @@ module _ {m : Drive} (good : Sound m) (rt a : ℕ) (two : rt < 2) (eight : 8 ≤
         (ap joined g ∙ ap (λ (r : List Desc). fits m rt a f ++ r) j ∙ sym (selected-split good rt a f two h))
         (omega (arith, length-sets (bs .collected) k (flat bytes (fits m rt a f)), selected-bytes good rt a f two h))
         (omega (arith, length-set (bs .starts) c f, ap length g))
-    onward n c k bs o p r (stuck e ys d zs q t u b) =
+    onward n c k bs o p b r (stuck e ys d zs q t u g) =
         stuck e (fits m rt a f ++ ys) d zs
         (selected-split good rt a f two h ∙ ap (λ (r : List Desc). fits m rt a f ++ r) q ∙ sym (append-assoc (fits m rt a f) ys (d ∷ zs)))
         (ap (λ (n : ℕ). selected rt n m) (sym (behind-append f (fits m rt a f) ys h)) ∙ t)
         u
-        (all-append (HasRoom a) (fits m rt a f) ys (whole-fits (room a) (selected rt f m)) b)
-    onward n c k bs o p r (tight e q) =
-        tight e (omega (arith, length-sets (bs .collected) k (flat bytes (fits m rt a f)), selected-bytes good rt a f two h))
-    onward n c k bs o p r (spent e q) = spent e (omega (arith, length-set (bs .starts) c f, ap length (plan-more good rt a f two h x xs l n)))
+        (all-append (HasRoom a) (fits m rt a f) ys (whole-fits (room a) (selected rt f m)) g)
+    onward n c k bs o p b r (tight e q g) =
+        tight e
+        (omega (arith, length-sets (bs .collected) k (flat bytes (fits m rt a f)), selected-bytes good rt a f two h))
+        (omega (arith, g, length-sets (bs .collected) k (flat bytes (fits m rt a f)), begun-onward n c bs b))
+    onward n c k bs o p b r (spent e q g) =
+        spent e
+        (omega (arith, length-set (bs .starts) c f, ap length (plan-more good rt a f two h x xs l n)))
+        (omega (arith, g, length-sets (bs .collected) k (flat bytes (fits m rt a f)), begun-onward n c bs b))
 
   -- a run with a round for each wanted descriptor
   abbrev Claim : (n : ℕ) → Type 0
   Claim n =
       (f c k : ℕ) (bs : Buffers) → 0 < length (selected rt f m) → length (selected rt f m) ≤ n → c + length (selected rt f m) ≤ 65536
-      → most a ≤ length (bs .response) → Runs m rt a came n f c k bs (rounds (suc n) m came (state (going m rt a f c k) bs))
+      → most a ≤ length (bs .response) → k ≤ length (bs .collected) → Runs m rt a came n f c k bs (rounds (suc n) m came (state (going m rt a f c k) bs))
 
   pub ends : (n : ℕ) → Claim n
-  ends zero f c k bs p q r s = absurd (omega arith)
-  ends (suc n) f c k bs p q r s = ⊎-elim
-      (λ (h : length (bs .starts) ≤ c). spent (run-full (suc n) m came w refl h) (omega (arith, groups-some (room a) (suc n) (selected rt f m) (omega arith))))
+  ends zero f c k bs p q r s v = absurd (omega arith)
+  ends (suc n) f c k bs p q r s v = ⊎-elim
+      (λ (h : length (bs .starts) ≤ c).
+      spent (run-full (suc n) m came w refl h)
+      (omega (arith, groups-some (room a) (suc n) (selected rt f m) (omega arith)))
+      (omega (arith, v, begun-none (plan m rt a (suc n) f) c (length (bs .starts)) h)))
       (λ (h : c < length (bs .starts)). go h (left m rt a f) refl (fits m rt a f) refl (ends n))
       (le-or-lt (length (bs .starts)) c)
     where
@@ -185,8 +220,8 @@ module _ {m : Drive} (good : Sound m) (rt a : ℕ) (two : rt < 2) (eight : 8 ≤
             taken-by (suc n) f c k bs (omega arith) h (take-fine good rt a f eight two c k (omega arith) (inr (j, i)) (length (bs .collected)) b),
             round-more good rt a f eight two c k (omega arith) bs b j i,
           )
-          (onward f x xs l i n c k bs _ (omega arith) v
+          (onward f x xs l i n c k bs _ (omega arith) h v
           (ih (later m rt a f) (c + 1) (k + gain m rt a f) (onto m rt a f c k bs)
-          (omega arith) (omega arith) (omega arith) (omega (arith, length-filled (sent rt f a m) (bs .response) v)))))
-          (λ (b : length (bs .collected) < k + gain m rt a f). ends-tight (suc n) f c k bs (omega arith) h (inr (j, i)) b)
+          (omega arith) (omega arith) (omega arith) (omega (arith, length-filled (sent rt f a m) (bs .response) v)) (omega (arith, b, length-sets (bs .collected) k (flat bytes (fits m rt a f)))))))
+          (λ (b : length (bs .collected) < k + gain m rt a f). ends-tight (suc n) f c k bs (omega arith) h (inr (j, i)) _ (plan-more good rt a f two i x xs l n) b)
           (le-or-lt (k + gain m rt a f) (length (bs .collected)))

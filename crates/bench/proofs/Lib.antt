@@ -10,3 +10,4 @@ pub mod Demand
 pub mod Fewest
 pub mod Carried
 pub mod Loop
+pub mod Promised

@@ -20,9 +20,10 @@ use Rattle.reading.specs.Places.{nextAt, descs}
 use Rattle.reading.specs.Judged.{oddFlags, oddIn}
 use Rattle.reading.proofs.Flagged.{odd-zero}
 use Rattle.reading.specs.inner.Between.{from}
-use Rattle.reading.proofs.At.{next-is}
+use Rattle.reading.proofs.At.{next-is, body-short}
 use Rattle.reading.proofs.Places.{from-step, from-end, left-here, left-next, left-end}
-use Rattle.profiles.specs.Profiles.{profilesOf, recordsFault}
+use Rattle.profiles.specs.Profiles.{profilesOf, recordsFault, stopped}
+use Rattle.profiles.proofs.Stopped.{records-short}
 use Rattle.reading.specs.Completed.{completeFault, completed}
 use Rattle.reading.proofs.Completed.{descs-from, complete-fault, complete-none, complete-zero}
 use Rattle.text.proofs.Walk.{readFault-header}
@@ -82,10 +83,9 @@ module _ (s : List ℕ) where
       sheet-flags k f first n g =
           g ∙ ap (λ (x : ℕ). flagsFaults 1 (from s x)) n ∙ sym (sheet-some ∙ orElse-none _ _ (sym (number-is profiles-are) ∙ k))
 
--- a body is shorter than the places of a list
-pub body-short : (s b : List ℕ) (at : ℕ) → Bytes s → b ≡ descAt s at .body → length b < 262144
-unfolding descAt lengthAt
-body-short s b at bs q = omega (arith, ap length q, length-take (getD s (at + 3) 0) (drop (at + 4) s), bs (at + 3))
+-- in a body a place is the profile's own
+pub body-records : (s b : List ℕ) (at : ℕ) (r : Refusal) → Bytes s → b ≡ descAt s at .body → r ≡ stopped (recordsFault b) → r ≡ recordsFault b
+body-records s b at r u q e = e ∙ records-short b (omega (arith, body-short s at b q u))
 
 -- ---- the loop over the flags: a return, a further turn, the end
 

@@ -66,41 +66,41 @@ long-accept Any body h = refl
 long-accept (Exactly k) body h = le-ltb _ _ h
 long-accept Counted body h = le-ltb _ _ h
 
-not-newer : (f : ℕ) → version f ≡ 0 → newer f ≡ false
+pub not-newer : (f : ℕ) → version f ≡ 0 → newer f ≡ false
 not-newer f v = not-no _ (eq-eqb (version f) 0 v)
 
-of-version : (f : ℕ) → newer f ≡ false → version f ≡ 0
+pub of-version : (f : ℕ) → newer f ≡ false → version f ≡ 0
 of-version f e = eqb-true (version f) 0 (not-false _ e)
 
 module _ (l : Length) (f : ℕ) (body : List ℕ) where
-  length-good : wrongLength l f (byteOf body 7) (length body) ≡ false → AtLeast l body × (version f ≡ 0 → AtMost l body)
+  pub length-good : wrongLength l f (byteOf body 7) (length body) ≡ false → AtLeast l body × (version f ≡ 0 → AtMost l body)
   unfolding wrongLength
   length-good e =
       let a = or-false _ _ e in
       (short-good l body (a .0), λ v. long-good l body (and-false _ _ (a .1) (not-yes _ (not-newer f v))))
 
-  length-accept : AtLeast l body → (version f ≡ 0 → AtMost l body) → wrongLength l f (byteOf body 7) (length body) ≡ false
+  pub length-accept : AtLeast l body → (version f ≡ 0 → AtMost l body) → wrongLength l f (byteOf body 7) (length body) ≡ false
   unfolding wrongLength
   length-accept h k = false-or _ _ (short-accept l body h) (false-and _ _ (λ n. long-accept l body (k (of-version f (not-true _ n)))))
 
 module _ (n f : ℕ) where
-  both-good : flagsShort n f ≡ false → n ≤ 0x0003 → (persistent f ≡ 1) × (current f ≡ 1)
+  pub both-good : flagsShort n f ≡ false → n ≤ 0x0003 → (persistent f ≡ 1) × (current f ≡ 1)
   unfolding flagsShort
   both-good e h =
       let a = and-true _ _ (not-false _ (and-false _ _ e (le-leb n 0x0003 h))) in
       (eqb-true _ _ (a .0), eqb-true _ _ (a .1))
 
-  both-accept : (n ≤ 0x0003 → (persistent f ≡ 1) × (current f ≡ 1)) → flagsShort n f ≡ false
+  pub both-accept : (n ≤ 0x0003 → (persistent f ≡ 1) × (current f ≡ 1)) → flagsShort n f ≡ false
   unfolding flagsShort
   both-accept g =
       false-and _ _ (λ h. let a = g (leb-true n 0x0003 h) in not-no _ (true-and _ _ (eq-eqb _ _ (a .0)) (eq-eqb _ _ (a .1))))
 
 module _ (b r : Bool) (f : ℕ) where
-  free-good : flagsBarred b r f ≡ false → b ≡ true → r ≡ true → persistent f ≡ 0
+  pub free-good : flagsBarred b r f ≡ false → b ≡ true → r ≡ true → persistent f ≡ 0
   unfolding flagsBarred
   free-good e h k = bit-zero (f / 2) (and-false (b && r) _ e (true-and b r h k))
 
-  free-accept : (b ≡ true → r ≡ true → persistent f ≡ 0) → flagsBarred b r f ≡ false
+  pub free-accept : (b ≡ true → r ≡ true → persistent f ≡ 0) → flagsBarred b r f ≡ false
   unfolding flagsBarred
   free-accept g =
       false-and (b && r) _
@@ -112,34 +112,34 @@ module _ (b r : Bool) (f : ℕ) where
 -- ---- 36, 37 and 39
 
 module _ (byte mask : ℕ) where
-  bits-good : reservedRule byte mask .number ≡ 0 → bitAnd byte mask ≡ byte
+  pub bits-good : reservedRule byte mask .number ≡ 0 → bitAnd byte mask ≡ byte
   unfolding reservedRule
   bits-good e = eqb-true _ _ (not-false _ (if-zero _ _ _ e .0))
 
-  bits-accept : bitAnd byte mask ≡ byte → reservedRule byte mask ≡ accept
+  pub bits-accept : bitAnd byte mask ≡ byte → reservedRule byte mask ≡ accept
   unfolding reservedRule
   bits-accept h = if-no _ _ _ (not-no _ (eq-eqb _ _ h))
 
 module _ (number byte4 cue : ℕ) where
-  cue-good : cueRule number byte4 cue .number ≡ 0 → number ≡ 0x002E → byte4 / 32 % 2 ≡ 0 → cue ≡ 0
+  pub cue-good : cueRule number byte4 cue .number ≡ 0 → number ≡ 0x002E → byte4 / 32 % 2 ≡ 0 → cue ≡ 0
   unfolding cueRule
   cue-good e h k =
       eqb-true _ _ (not-false _ (and-false _ _ (if-zero _ _ _ e .0) (true-and _ _ (eq-eqb _ _ h) (eq-eqb _ _ k))))
 
-  cue-accept : (number ≡ 0x002E → byte4 / 32 % 2 ≡ 0 → cue ≡ 0) → cueRule number byte4 cue ≡ accept
+  pub cue-accept : (number ≡ 0x002E → byte4 / 32 % 2 ≡ 0 → cue ≡ 0) → cueRule number byte4 cue ≡ accept
   unfolding cueRule
   cue-accept g =
       if-no _ _ _ (false-and _ _ (λ h. let a = and-true _ _ h in not-no _ (eq-eqb _ _ (g (eqb-true _ _ (a .0)) (eqb-true _ _ (a .1))))))
 
 module _ (number : ℕ) (body : List ℕ) where
-  profiles-good : profilesFault number body .number ≡ 0 → number ≡ 0x0000 → (i : ℕ) → i < length body / 4 → 0 < field 2 body (4 * i)
+  pub profiles-good : profilesFault number body .number ≡ 0 → number ≡ 0x0000 → (i : ℕ) → i < length body / 4 → 0 < field 2 body (4 * i)
   unfolding profilesFault profileAt
   profiles-good e h i l =
       let a = first-all (profileAt body) (length body / 4) (ap (λ (r : Refusal). r .number) (sym (if-no _ _ _ (not-no _ (eq-eqb _ _ h)))) ∙ e) i l in
       let z : field 2 body (4 * i) ≡ 0 → ⊥ = eqb-false _ _ (if-zero _ _ _ a .0) in
       omega arith
 
-  profiles-accept : (number ≡ 0x0000 → (i : ℕ) → i < length body / 4 → 0 < field 2 body (4 * i)) → profilesFault number body ≡ accept
+  pub profiles-accept : (number ≡ 0x0000 → (i : ℕ) → i < length body / 4 → 0 < field 2 body (4 * i)) → profilesFault number body ≡ accept
   unfolding profilesFault profileAt
   profiles-accept g = go (eqb number 0x0000) refl
     where
@@ -171,7 +171,7 @@ zero-of : {r : Refusal} → r ≡ accept → r .number ≡ 0
 zero-of e = ap (λ (r : Refusal). r .number) e
 
 module _ (removable : Bool) (d : Desc) where
-  desc-good : descFault removable d .number ≡ 0 → Faultless removable d
+  pub desc-good : descFault removable d .number ≡ 0 → Faultless removable d
   unfolding descFault flagsFault rowRule bodyFault reservedAt
   desc-good e =
       let a = orElse-zero _ _ e in

@@ -12,3 +12,5 @@ pub mod Reserved
 pub mod Lowest
 pub mod Resumed
 pub mod Lines
+pub mod Found
+pub mod Promised

@@ -17,7 +17,6 @@ use Rattle.base.specs.Lists.{each}
 use Rattle.fields.specs.Field.{field, spell}
 use Rattle.lent.specs.Wrote.{Wrote}
 use Rattle.lent.proofs.Laws.{same}
-use Rattle.profiles.specs.Profiles.{recordsFault}
 use Rattle.layout.specs.Layout.{stored}
 use Rattle.layout.specs.Contents.{entryOf, headBytes, contents}
 use Rattle.layout.specs.inner.Room.{Room}
@@ -28,7 +27,6 @@ use Rattle.fields.proofs.inside4 as inside4
 use Rattle.lent.proofs.place as place
 use Rattle.lent.proofs.place4 as place4
 use Rattle.lent.proofs.set4 as set4
-use Rattle.profiles.proofs.fault as profiles-fault
 use Rattle.layout.proofs.entry_in as entry-in
 use Rattle.layout.proofs.find as find
 use Rattle.layout.proofs.put_head as put-head
@@ -105,14 +103,6 @@ set4-decided x = decides-asking (x .𝓤) (λ o o′ p q. (same p q .0, same p q
 pub set4-tied : PromisedAsking set4.ended (λ M. set4.clauses) (λ M. set4.spec) (met (λ _ out at v. at + 4 ≤ length (now out)))
     (named (λ _ out at v r out′ _ _. Wrote (now out) at (spell 4 v) r out′))
 set4-tied x = promises-asking (x .𝓤) (λ o e. e)
-
--- ---- profiles
-
-pub profiles-fault-decided : DecidedAsking profiles-fault.ended (λ M. profiles-fault.clauses) (λ M. profiles-fault.spec) (met (λ _ b. length (now b) < 262144)) (λ κs r. r)
-profiles-fault-decided x = decides-asking (x .𝓤) (λ o o′ p q. (joined p q, refl))
-
-pub profiles-fault-tied : PromisedAsking profiles-fault.ended (λ M. profiles-fault.clauses) (λ M. profiles-fault.spec) (met (λ _ b. length (now b) < 262144)) (named (λ _ b r _. r ≡ recordsFault (now b)))
-profiles-fault-tied x = promises-asking (x .𝓤) (λ o e. e)
 
 -- ---- layout
 

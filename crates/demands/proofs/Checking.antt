@@ -1,4 +1,4 @@
--- The checks of a response: what the check of the descriptors finds, what is said of a profile, and what can be found in our own response. The
+-- The check of a response's descriptors: what it finds, and what can be found in our own response. The
 -- box's response to an accepted sheet, RT 0 from 0, sent whole, passes, or breaks a rule that a sheet can break: 30 (feature 0 or 1 missing), 31
 -- (length), 32 (flags not both 1), 35 (Persistent with 0003h reported), 36 (reserved body bit), 37 (cue sheet). Never a reading's number, 29, 33, 34
 -- or 39. Assumes nothing.
@@ -34,7 +34,6 @@ use Rattle.sheet.specs.Meaning.{meaning, Fine}
 use Rattle.sheet.proofs.Meaning.{meaning-fine}
 use Rattle.checks.specs.declared.Finding.{Finding}
 use Rattle.checks.specs.declared.legal.Row.{Row}
-use Rattle.checks.specs.declared.required.Need.{Need}
 use Rattle.checks.specs.Legal.{rowOf}
 use Rattle.base.specs.Pick.{pick}
 use Rattle.checks.specs.Rules.{byteOf, flagsFault, rowRule, reservedRule, reservedAt, cueRule, profileAt, profilesFault, bodyFault, descFault}
@@ -42,8 +41,6 @@ use Rattle.reading.specs.Places.{descs}
 use Rattle.reading.specs.Completed.{completeFault}
 use Rattle.checks.specs.Check.{reported, finding, _orNext_, firstFinding, checkedAll, checked}
 use Rattle.checks.specs.Faultless.{Passes}
-use Rattle.checks.specs.Required.{required, lacks}
-use Rattle.checks.specs.Judge.{Said, says, judged}
 use Rattle.checks.proofs.Bools.{not-yes, not-no}
 use Rattle.checks.proofs.Calls.{if-yes, if-no}
 use Rattle.checks.proofs.Findings.{next-none, next-fault}
@@ -51,7 +48,7 @@ use Rattle.base.proofs.Pick.{pick-here, pick-past}
 use Rattle.checks.proofs.Faultless.{passes-of, of-passes}
 use Rattle.capture.proofs.Numbers.{if-is, orElse-is}
 use Rattle.demands.proofs.Sheets.{oneOf}
-use Rattle.checks.proofs.Lowest.{Least, conforms-all, missing-lowest}
+use Rattle.checks.proofs.Found.{Found, found}
 
 -- no fault, or one of the six
 abbrev pub Findings : ℕ → Type 0
@@ -254,6 +251,8 @@ pub record Finds (s : List ℕ) (f : Finding) : Type 0 where
   pub refuses : (completeFault s .number ≡ 0 → ⊥) → f ≡ finding (completeFault s) 0
   pub sound : f .refusal .number ≡ 0 → Passes s
   pub complete : Passes s → f ≡ finding accept 0
+  -- of a complete response: 30 first, then the first descriptor that breaks a rule, with the first rule that it breaks, in the paper's order and numbers
+  pub order : completeFault s .number ≡ 0 → Found (descs s) f
   pub own : (t : Sheet) → Bytes (t .bytes) → sheet.Accepted t → length (full 0 0 (meaning t)) ≤ 65534 → s ≡ full 0 0 (meaning t) → Findings (f .refusal .number)
 
 pub finds : (s : List ℕ) → Finds s (checked s)
@@ -263,15 +262,6 @@ finds s = record {
   refuses = next-fault (finding (completeFault s) 0) (checkedAll (descs s));
   sound = passes-of s;
   complete = of-passes s;
+  order = found s;
   own = λ t b ok l e. rw e (own-findings t b ok l);
 }
-
--- Of what is said of the profile p and the response s, j: it conforms only if every line is met, and the feature named is the lowest of a line that
--- is not met.
-pub record Judges (p : ℕ) (s : List ℕ) (j : Said) : Type 0 where
-  pub exact : j ≡ judged p s
-  pub conforms : j ≡ says accept true [] → All (λ (n : Need). lacks p (descs s) n ≡ false) required
-  pub missing : (f : ℕ) → j ≡ says accept false (f ∷ []) → Least p (descs s) f required
-
-pub judges : (p : ℕ) (s : List ℕ) → Judges p s (judged p s)
-judges p s = record { exact = refl; conforms = conforms-all p s; missing = missing-lowest p s }

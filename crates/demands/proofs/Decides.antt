@@ -33,6 +33,7 @@ use Rattle.text.proofs.Command.fault as command-fault
 use Rattle.text.proofs.Command.read as command-read
 use Rattle.text.proofs.Header.new as header-new
 use Rattle.profiles.proofs.current as profiles-current
+use Rattle.profiles.proofs.fault as profiles-fault
 use Rattle.layout.proofs.feature_count as feature-count
 use Rattle.layout.proofs.profile_count as profile-count
 use Rattle.layout.proofs.profiles_behind as profiles-behind
@@ -191,6 +192,9 @@ header-new-decided = text-decides.new-decided
 
 pub profiles-current-decided : Decided profiles-current.ended (λ M. profiles-current.clauses) (λ M. profiles-current.spec)
 profiles-current-decided x = decides (x .𝓤) (λ o o′ p q. ((λ i. record { 0 = joined p q i }), refl))
+
+pub profiles-fault-decided : Decided profiles-fault.ended (λ M. profiles-fault.clauses) (λ M. profiles-fault.spec)
+profiles-fault-decided x = decides (x .𝓤) (λ o o′ p q. (joined p q, refl))
 
 -- ---- layout
 

@@ -3,7 +3,7 @@
 use mathlib.Core.Path.{_≡_, _∙_}
 use mathlib.Core.List.{[], _∷_}
 use lib.Dec.{eqb}
-use Prim.Native.Nat.{_+_, _*_, _/_, _%_}
+use Prim.Native.Nat.{_+_, _*_, _/_, _%_, _≤_}
 use lib.ListN.{length, take, drop, getD, replicate}
 use denote.Ref.{now}
 use Rattle.base.proofs.Promise.{Promised, promises, by}
@@ -15,7 +15,8 @@ use Rattle.text.specs.Flags as text
 use Rattle.text.specs.declared.Command.{Command}
 use Rattle.text.specs.Command.{commandFault, commandOf}
 use Rattle.text.specs.Response.{currentProfile, headerOf}
-use Rattle.profiles.specs.Profiles.{profilesOf}
+use Rattle.profiles.specs.Profiles.{profilesOf, recordsFault, stopped}
+use Rattle.profiles.proofs.Stopped.{records-short}
 use Rattle.text.specs.Reading.{numberAt, flagsAt, lengthAt, descAt}
 use Rattle.reading.specs.Places.{nextAt}
 use Rattle.text.proofs.Promised.{two, Commands, commands, Understood, understood, Flagging, flagging}
@@ -50,6 +51,7 @@ use Rattle.text.proofs.Command.fault as command-fault
 use Rattle.text.proofs.Command.read as command-read
 use Rattle.text.proofs.Header.new as header-new
 use Rattle.profiles.proofs.current as profiles-current
+use Rattle.profiles.proofs.fault as profiles-fault
 use Rattle.layout.proofs.feature_count as feature-count
 use Rattle.layout.proofs.profile_count as profile-count
 use Rattle.layout.proofs.profiles_behind as profiles-behind
@@ -156,6 +158,11 @@ header-new-tied x = promises (x .𝓤) (λ o e. e)
 
 pub profiles-current-tied : Promised profiles-current.ended (λ M. profiles-current.clauses) (λ M. profiles-current.spec) (named (λ _ b r _. (r .0 ≡ currentProfile (profilesOf (now b))) × Currents (now b) (r .0)))
 profiles-current-tied x = promises (x .𝓤) (λ o e. (e, by (Currents _) (currents _) e))
+
+-- the place stops at 65,535; in a list of so many profiles or fewer it is the profile's own
+pub profiles-fault-tied : Promised profiles-fault.ended (λ M. profiles-fault.clauses) (λ M. profiles-fault.spec)
+    (named (λ _ b r _. (r ≡ stopped (recordsFault (now b))) × (length (now b) / 4 ≤ 65535 → r ≡ recordsFault (now b))))
+profiles-fault-tied x = promises (x .𝓤) (λ o e. (e, λ h. e ∙ records-short _ h))
 
 -- ---- layout
 

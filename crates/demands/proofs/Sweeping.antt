@@ -27,7 +27,8 @@ use Rattle.sweep.specs.Sweep.{startRule, fresh}
 use Rattle.bench.specs.Bench.{Buffers, buffers, state, Ending, failing, rounds, firstFault, benched}
 use Rattle.bench.specs.Swept.{Premises, Swept, Ended, swept, short, long, narrow, many}
 use Rattle.bench.proofs.Demand as bench
-use Rattle.demands.specs.Recorder.{sheetE}
+use Rattle.bench.proofs.Promised.{Outright, outright}
+use Rattle.demands.specs.Recorder.{sheetE, sheetE′}
 
 pub demand3 : (s : Sheet) (rt a : ℕ) (b : Buffers) → Bytes (s .bytes) → Accepted s → Premises (meaning s) rt a b
     → Swept (meaning s) rt a b (benched s rt a b)
@@ -88,11 +89,13 @@ pub record Benches (s : Sheet) (rt a : ℕ) (b : Buffers) (o : Ending) : Type 0 
   pub sweeps : Bytes (s .bytes) → Accepted s → Premises (meaning s) rt a b → Swept (meaning s) rt a b o
   pub finishes : Bytes (s .bytes) → Accepted s → rt < 2 → 8 ≤ a → Ended (meaning s) rt a b o
   pub refuses-sheet : (verdict s .number ≡ 0 → ⊥) → o ≡ failing b (verdict s)
+  -- in the paper's numbers: which refusal comes first, 25 before 24, and what a refusal leaves
+  pub outright : Outright s rt a b o
   pub one-disc : Bytes (s .bytes) → Accepted s → o .reply .refusal .number ≡ 45 → ⊥
 
 pub benches : (s : Sheet) (rt a : ℕ) (b : Buffers) → Benches s rt a b (benched s rt a b)
 benches s rt a b =
-    record { exact = refl; sweeps = demand3 s rt a b; finishes = ends s rt a b; refuses-sheet = refuses-sheet s rt a b; one-disc = never-changed s rt a b }
+    record { exact = refl; sweeps = demand3 s rt a b; finishes = ends s rt a b; refuses-sheet = refuses-sheet s rt a b; outright = outright s rt a b; one-disc = never-changed s rt a b }
 
 -- ---- the premises can be met: sheet E, allocation length 20
 
@@ -134,3 +137,30 @@ premisesE = record {
 
 pub sweptE : Swept (meaning sheetE) 0 20 buffersE (benched sheetE 0 20 buffersE)
 sweptE = demand3 sheetE 0 20 buffersE bytesE acceptedE premisesE
+
+-- ---- and with RT 1: of sheet E with the flags of 001Fh made 00h, all descriptors but that one
+
+bytesE′ : Bytes (sheetE′ .bytes)
+unfolding sheetE sheetE′ low
+bytesE′ = bytes-low (sheetE′ .bytes) refl
+
+acceptedE′ : Accepted sheetE′
+unfolding each field _if_else_ pickZero _orElse_ firstOf placed layout.features layout.profiles layout.numberPlace layout.flagsPlace layout.lengthPlace layout.offsetPlace layout.number layout.flags layout.bodyLength layout.offset layout.profilesIn profiles.profileNumber profiles.profileCurrent profiles.profileLast profiles.lists profiles.recordRule profiles.recordFault profiles.recordsFault numberBefore endBefore flagsRule flags.flagsGiving entryRule entryFault counted verdict sheetE sheetE′
+acceptedE′ = refl
+
+abbrev buffersE′ : Buffers
+buffersE′ = buffers (replicate 20 0) (replicate 32 0) (replicate 3 0)
+
+premisesE′ : Premises (meaning sheetE′) 1 20 buffersE′
+unfolding each flat keep field spell profileBytes feature0 all wants selected total whole rest groups layout.features layout.profiles layout.numberPlace layout.flagsPlace layout.lengthPlace layout.offsetPlace layout.number layout.flags layout.bodyLength layout.offset layout.profilesIn profiles.profileNumber profiles.profileCurrent profiles.listed profiles.profilesOf desc meaning sheetE sheetE′
+premisesE′ = record {
+  kind = omega arith;
+  eight = omega arith;
+  small = omega arith;
+  response-room = omega arith;
+  collected-room = omega arith;
+  starts-room = omega arith;
+}
+
+pub sweptE′ : Swept (meaning sheetE′) 1 20 buffersE′ (benched sheetE′ 1 20 buffersE′)
+sweptE′ = demand3 sheetE′ 1 20 buffersE′ bytesE′ acceptedE′ premisesE′

@@ -47,7 +47,8 @@ use Rattle.demands.proofs.Readings.{Reads, reads, Scans, scans}
 use Rattle.demands.proofs.Listings.{Lists, lists}
 use Rattle.demands.proofs.Steps.{Starts, starts, Takes, takes}
 use Rattle.demands.proofs.Sweeping.{Benches, benches}
-use Rattle.demands.proofs.Checking.{Finds, finds, Judges, judges}
+use Rattle.demands.proofs.Checking.{Finds, finds}
+use Rattle.checks.proofs.Promised.{Judges, judges}
 use Rattle.demands.proofs.Capturing.{Captures, captures}
 use Rattle.demands.proofs.Importing.{Imports, imports}
 use Rattle.demands.proofs.Converting.{Converts, converts}

@@ -47,6 +47,15 @@ pub copied-all : (n : ℕ) (d b e : List ℕ) (at : ℕ) → length b ≡ n → 
     → Wrote d at b (at + n) (take at d ++ (e ++ drop (at + n - at) (drop at d)))
 copied-all n d b e at l h k = rw (← l) (copied d b e at (omega (arith, l, h)) k)
 
+-- four stores over four elements
+pub four-set : (d : List ℕ) (a b c e : ℕ) → length d ≡ 4 → set (set (set (set d 0 a) 1 b) 2 c) 3 e ≡ a ∷ b ∷ c ∷ e ∷ []
+four-set (x ∷ y ∷ z ∷ w ∷ []) a b c e h = refl
+four-set [] a b c e h = absurd (omega arith)
+four-set (x ∷ []) a b c e h = absurd (omega arith)
+four-set (x ∷ y ∷ []) a b c e h = absurd (omega arith)
+four-set (x ∷ y ∷ z ∷ []) a b c e h = absurd (omega arith)
+four-set (x ∷ y ∷ z ∷ w ∷ v ∷ d) a b c e h = absurd (omega arith)
+
 -- what is written, said otherwise
 pub written-as : {d e : List ℕ} {at r : ℕ} {xs ys : List ℕ} → xs ≡ ys → Wrote d at xs r e → Wrote d at ys r e
 written-as h w = rw (← h) w

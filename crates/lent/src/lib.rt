@@ -105,19 +105,27 @@ pub fn place4(out: &mut [u8], at: usize, part: &[u8]) -> usize
     behind
 }
 
+// Writes a field over four bytes, straight into them: the compiler makes one store of it.
+// Asks: four bytes; `set4` lends as many.
+fn fill4(out: &mut [u8], v: u32)
+    requires { ⌜ length (now out) ≡ 4 ⌝ }
+    ensures { λ _. ⌜ now (out .exit) ≡ spell 4 v ⌝ }
+{
+    out[0] = (v / 256 / 256 / 256 % 256) as u8;
+    out[1] = (v / 256 / 256 % 256) as u8;
+    out[2] = (v / 256 % 256) as u8;
+    out[3] = (v % 256) as u8;
+}
+
 // Puts a field of four bytes where there is room for it, all at once.
 // Asks: room for four bytes; whoever writes has looked at the buffer's length.
 pub fn set4(out: &mut [u8], at: usize, v: u32) -> usize
     requires { ⌜ at + 4 ≤ length (now out) ⌝ }
     ensures { λ r. ⌜ Wrote (now (out .entry)) at (spell 4 v) r (now (out .exit)) ⌝ }
 {
-    let word = [
-        (v / 256 / 256 / 256 % 256) as u8,
-        (v / 256 / 256 % 256) as u8,
-        (v / 256 % 256) as u8,
-        (v % 256) as u8,
-    ];
-    place4(out, at, &word)
+    let behind = at + 4;
+    fill4(&mut out[at..behind], v);
+    behind
 }
 
 // Copies a part of something else.

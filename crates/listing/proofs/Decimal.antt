@@ -77,7 +77,7 @@ spelt-append n [] ds = refl
 spelt-append n (c ∷ cs) ds = spelt-append (n * 10 + (c - 48)) cs ds
 
 -- by induction over a number and its tenth
-decimal-induct : (P : ℕ → List ℕ → Type 0)
+pub decimal-induct : (P : ℕ → List ℕ → Type 0)
     → ((n : ℕ) → n < 10 → P n (digit n ∷ []))
     → ((n : ℕ) → 10 ≤ n → P (n / 10) (decimal (n / 10)) → P n (decimal (n / 10) ++ (digit (n % 10) ∷ [])))
     → (k n : ℕ) → n ≤ k → P n (decimal n)

@@ -4,3 +4,4 @@ pub mod Passed
 pub mod Outcome
 pub mod Numbers
 pub mod Longest
+pub mod Promised

@@ -1,4 +1,5 @@
 -- Laws that this crate's proofs and those above it cite.
+pub mod Stopped
 pub mod Loops
 pub mod Kept
 pub mod Again

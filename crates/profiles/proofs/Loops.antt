@@ -14,8 +14,9 @@ use Rattle.refusal.specs.declared.Refusal.{Refusal}
 use Rattle.refusal.specs.First.{placed}
 use Rattle.text.specs.Response.{currentProfile}
 use Rattle.text.proofs.Profiles.{current-on, current-off}
-use Rattle.profiles.specs.Profiles.{profileNumber, profileCurrent, profileLast, listed, lists, recordRule, recordFault}
+use Rattle.profiles.specs.Profiles.{profileNumber, profileCurrent, profileLast, listed, lists, recordRule, recordFault, stopped}
 use Rattle.profiles.specs.inner.Within.{Within}
+use Rattle.profiles.proofs.Stopped.{stopped-placed}
 
 -- ---- a number among the records
 
@@ -98,10 +99,11 @@ module _ (w : ℕ) (b : List ℕ) (n i : ℕ) (e : w ≡ currentProfile (each (l
   unfolding each currentProfile
   current-none h = sym (e ∙ ap (λ (k : ℕ). currentProfile (each (listed b) i k)) {x = n - i} {y = 0} (omega arith))
 
--- ---- a record, judged at its place
+-- ---- a record, judged at its place, which stops at 65,535
 
 pub record-placed : (b : List ℕ) (i x y z : ℕ) (w : Bool) (r v : Refusal) → x ≡ field 2 b (4 * i) → w ≡ lists x b 0 i → y ≡ getD b (4 * i + 2) 0 → z ≡ getD b (4 * i + 3) 0
-    → r ≡ recordRule x w y z → v ≡ placed r (i + 1) → v ≡ recordFault b i
+    → r ≡ recordRule x w y z → (p : ℕ) → p ≡ min (i + 1) 65535 → v ≡ placed r p → v ≡ stopped (recordFault b i)
 unfolding recordFault profileNumber profileCurrent profileLast
-record-placed b i x y z w r v ex ew ey ez k q =
-    q ∙ rw add-one (ap (λ (a : Refusal). placed a (suc i)) (k ∙ (λ j. recordRule (ex j) ((ew ∙ ap (λ (n : ℕ). lists n b 0 i) ex) j) (ey j) (ez j))))
+record-placed b i x y z w r v ex ew ey ez k p n q =
+    q ∙ ap (placed r) n ∙ stopped-placed r (i + 1)
+    ∙ rw add-one (ap (λ (a : Refusal). stopped (placed a (suc i))) (k ∙ (λ j. recordRule (ex j) ((ew ∙ ap (λ (n : ℕ). lists n b 0 i) ex) j) (ey j) (ez j))))

@@ -2,7 +2,7 @@
 use mathlib.Core.Path.{_≡_}
 use mathlib.Core.Bool.{Bool, true, false, not}
 use mathlib.Core.List.{List, [], _∷_}
-use Prim.Native.Nat.{ℕ, zero, suc, _+_, _*_, _/_, _%_, _≤_, _<_}
+use Prim.Native.Nat.{ℕ, zero, suc, _+_, _*_, _/_, _%_, _≤_, _<_, min}
 use lib.Dec.{ltb, eqb}
 use lib.ListN.{length, getD}
 use Rattle.base.specs.Lists.{each, All}
@@ -49,6 +49,10 @@ recordFault b i = placed (recordRule (profileNumber b i) (lists (profileNumber b
 -- the first refusal of all records
 unfoldable pub recordsFault : List ℕ → Refusal
 recordsFault b = firstOf (recordFault b) 0 (length b / 4)
+
+-- a place is a sixteen-bit number: it stops at 65,535
+unfoldable pub stopped : Refusal → Refusal
+stopped r = record { number = r .number; place = min (r .place) 65535 }
 
 -- what a record is that is not refused
 pub record Kept (b : List ℕ) (i : ℕ) : Type 0 where

@@ -3,7 +3,7 @@ ghost use mathlib.Core.Path.{_≡_};
 ghost use Prim.Native.Nat.{_+_, _-_, _/_, _≤_, _<_, min};
 ghost use lib.ListN.{length};
 ghost use Rattle.text.specs.Response.{currentProfile};
-ghost use Rattle.profiles.specs.Profiles.{profilesOf, lists, recordRule, recordFault, recordsFault};
+ghost use Rattle.profiles.specs.Profiles.{profilesOf, lists, recordRule, recordFault, recordsFault, stopped};
 ghost use Rattle.profiles.specs.inner.Within.{Within};
 use refusal::Refusal;
 use text::Profile;
@@ -45,66 +45,74 @@ fn listed(b: &[u8], number: Profile, n: usize) -> bool
 
 // The same, where the numbers of the first n records lie from low to high: a number outside is looked for nowhere.
 // Asks: no more records than the list has, and their lowest and highest number; the walk carries them along.
-fn among(b: &[u8], number: Profile, n: usize, low: u16, high: u16) -> bool
-    requires { ⌜ (n ≤ length (now b) / 4) × Within low high (now b) n ⌝ }
+fn among(b: &[u8], number: Profile, n: usize, low: Profile, high: Profile) -> bool
+    requires { ⌜ (n ≤ length (now b) / 4) × Within (low .0) (high .0) (now b) n ⌝ }
     ensures { λ r. ⌜ r ≡ lists (number .0) (now (b .entry)) 0 n ⌝ }
 {
-    if number.0 < low {
+    if number.0 < low.0 {
         return false;
     }
-    if high < number.0 {
+    if high.0 < number.0 {
         return false;
     }
     listed(b, number, n)
 }
 
-// Asks: an index inside the list, whose places are sixteen-bit numbers, and the lowest and highest number before it; the walk stops at its end.
-fn record_fault(b: &[u8], i: usize, low: u16, high: u16) -> Refusal
-    requires { ⌜ (i < length (now b) / 4) × (i < 65535) × Within low high (now b) i ⌝ }
-    ensures { λ r. ⌜ r ≡ recordFault (now (b .entry)) i ⌝ }
+// The place of record i, counted from 1. It is a sixteen-bit number and stops at the highest.
+fn place_of(i: usize) -> u16
+    ensures { λ r. ⌜ r ≡ min (i + 1) 65535 ⌝ }
+{
+    if i < 65535 {
+        return (i + 1) as u16;
+    }
+    65535
+}
+
+// Asks: an index inside the list, and the lowest and highest number before it; the walk stops at its end.
+fn record_fault(b: &[u8], i: usize, low: Profile, high: Profile) -> Refusal
+    requires { ⌜ (i < length (now b) / 4) × Within (low .0) (high .0) (now b) i ⌝ }
+    ensures { λ r. ⌜ r ≡ stopped (recordFault (now (b .entry)) i) ⌝ }
 {
     let number = Profile(fields::inside2(b, 4 * i));
     let before = among(b, number, i, low, high);
     let current = fields::inside(b, 4 * i + 2);
     let last = fields::inside(b, 4 * i + 3);
     let fault = rule(number, before, current, last);
-    fault.placed((i + 1) as u16)
+    fault.placed(place_of(i))
 }
 
-fn lower(a: u16, b: u16) -> u16
-    ensures { λ r. ⌜ r ≡ min a b ⌝ }
+fn lower(a: Profile, b: Profile) -> Profile
+    ensures { λ r. ⌜ r .0 ≡ min (a .0) (b .0) ⌝ }
 {
-    if a < b {
+    if a.0 < b.0 {
         return a;
     }
     b
 }
 
-fn higher(a: u16, b: u16) -> u16
-    ensures { λ r. ⌜ r ≡ a + (b - a) ⌝ }
+fn higher(a: Profile, b: Profile) -> Profile
+    ensures { λ r. ⌜ r .0 ≡ a .0 + (b .0 - a .0) ⌝ }
 {
-    if a < b {
+    if a.0 < b.0 {
         return b;
     }
     a
 }
 
 // The first refusal of the records, which is 3 at the place of the record or none. In a list that ascends or descends no number is looked for.
-// Asks: fewer than 65,536 records, so that a place is a sixteen-bit number; a sheet and a body have at most 63.
 pub fn fault(b: &[u8]) -> Refusal
-    requires { ⌜ length (now b) < 262144 ⌝ }
-    ensures { λ r. ⌜ r ≡ recordsFault (now (b .entry)) ⌝ }
+    ensures { λ r. ⌜ r ≡ stopped (recordsFault (now (b .entry))) ⌝ }
 {
     let n = b.len() / 4;
     let mut i = 0;
-    let mut low: u16 = 65535;
-    let mut high: u16 = 0;
+    let mut low = Profile(65535);
+    let mut high = Profile(0);
     while i < n {
         let fault = record_fault(b, i, low, high);
         if fault.number != 0 {
             return fault;
         }
-        let number = fields::inside2(b, 4 * i);
+        let number = Profile(fields::inside2(b, 4 * i));
         low = lower(low, number);
         high = higher(high, number);
         i += 1;

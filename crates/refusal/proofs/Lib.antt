@@ -1,3 +1,4 @@
 pub mod First
 pub mod Lines
+pub mod Order
 pub mod Numbers

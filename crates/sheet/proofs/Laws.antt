@@ -10,6 +10,8 @@ use lib.ListN.{length, drop, length-take}
 use Rattle.refusal.specs.declared.Refusal.{Refusal}
 use Rattle.refusal.specs.First.{refuse, accept, _if_else_, firstOf, placed}
 use Rattle.refusal.proofs.First.{tests, rest, first-none, orElse-none}
+use Rattle.profiles.specs.Profiles.{recordsFault, stopped}
+use Rattle.profiles.proofs.Stopped.{records-short}
 use Rattle.layout.specs.declared.Entry.{Entry}
 use Rattle.layout.specs.Layout.{Sheet, sheetSize, features, profiles, featureCount, profileCount, profilesBehind, bodiesAt, profilesIn, offset, bodyLength}
 use Rattle.layout.specs.Contents.{entryOf}
@@ -25,10 +27,11 @@ pub verdict-counted : (s : Sheet) → 4 ≤ sheetSize s → bodiesAt s ≤ sheet
 unfolding verdict
 verdict-counted s h k = search tests
 
--- a list of at most 63 profiles is short
-pub few-records : (b : List ℕ) (p : ℕ) (x : List ℕ) → p ≡ profiles b → p ≤ 63 → x ≡ profilesIn b → length x < 262144
+-- in a list of at most 63 profiles a place is the profile's own
+pub few-records : (b : List ℕ) (p : ℕ) (x : List ℕ) (r : Refusal) → p ≡ profiles b → p ≤ 63 → x ≡ profilesIn b → r ≡ stopped (recordsFault x) → r ≡ recordsFault x
 unfolding profilesIn
-few-records b p x e h q = omega (arith, ap length q, length-take (4 * profiles b) (drop (profilesBehind (features b)) b))
+few-records b p x r e h q k =
+    k ∙ records-short x (omega (arith, ap length q, length-take (4 * profiles b) (drop (profilesBehind (features b)) b)))
 
 -- the rule at entry i as it was read, and at what was carried along from the one before
 pub carried : (s : Sheet) (i before end : ℕ) (e : Entry) (r : Refusal) → before ≡ numberBefore s i → end ≡ endBefore s i → e ≡ entryOf s i

@@ -4,3 +4,4 @@ pub mod Cases
 pub mod Taken
 pub mod Ends
 pub mod Profiles
+pub mod Promised
