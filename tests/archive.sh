@@ -145,15 +145,23 @@ run_it() { # FILE [WORD..]
     "${archive_run[@]}" "$@"
 }
 
-# Builds a program of second/against, which calls the archive, by the bindings, and the second program: target/against/NAME.
+# Builds a program of second/against, which calls the archive, by the bindings, and the second program: AGAINST/NAME. What it stands on is built once for each
+# stamp, one at a time.
 build_against() { # NAME
-    local out=$PWD/target/against
-    local words=(--extern "second=$out/libsecond.rlib" --extern "gcf=$out/libgcf.rlib")
-    mkdir -p "$out" || return 1
-    archive_rust_to "$out" second rlib second/src/lib.rs &&
-        archive_rust_to "$out" gcf rlib bindings/rust/src/lib.rs &&
-        archive_rust_to "$out" against rlib second/against/src/lib.rs "${words[@]}" &&
-        archive_rust_to "$out" "$1" bin "second/against/src/bin/$1.rs" "${words[@]}" --extern "against=$out/libagainst.rlib"
+    AGAINST=${ARCHIVE%/*}/against
+    local words=(--extern "second=$AGAINST/libsecond.rlib" --extern "gcf=$AGAINST/libgcf.rlib")
+    mkdir -p "$AGAINST" || return 1
+    (
+        flock 6 || exit 1
+        stamp=$({ "${archive_rust[@]}" --version && find "$ARCHIVE" second/src second/against/src bindings/rust/src -type f -print0 | sort -z | xargs -0 sha256sum; } | sha256sum)
+        [ "$stamp" != "$(cat "$AGAINST/stamp" 2>/dev/null)" ] || exit 0
+        rm -f "$AGAINST/stamp"
+        archive_rust_to "$AGAINST" second rlib second/src/lib.rs &&
+            archive_rust_to "$AGAINST" gcf rlib bindings/rust/src/lib.rs &&
+            archive_rust_to "$AGAINST" against rlib second/against/src/lib.rs "${words[@]}" &&
+            printf '%s\n' "$stamp" >"$AGAINST/stamp"
+    ) 6>"$AGAINST/lock" &&
+        archive_rust_to "$AGAINST" "$1" bin "second/against/src/bin/$1.rs" "${words[@]}" --extern "against=$AGAINST/libagainst.rlib"
 }
 
 archive_rust_to() { # FOLDER NAME KIND FILE [WORD..]

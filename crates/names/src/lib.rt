@@ -1,509 +1,126 @@
-// The names of features, profiles and body fields, in words: one table of each, from which a response is shown.
+// The names of features, profiles and values, in words: one table of each, a line for each number, in hexadecimal.
 use streams::say;
 
-// ---- features, as Table 6 of document 000 and document 002 name them
+// Says what a table has for a number, or what is said where it has nothing.
+fn say_named(table: &[u8], number: u32, otherwise: &[u8]) {
+    let name = tables::text_of(table, true, number);
+    if name.len() == 0 {
+        say(otherwise);
+        return;
+    }
+    say(name);
+}
 
+// Features, as Table 6 of document 000 and document 002 name them.
 pub fn say_feature(number: u16) {
-    match number {
-        0x0000 => say(b"Profile List"),
-        0x0001 => say(b"Core"),
-        0x0002 => say(b"Morphing"),
-        0x0003 => say(b"Removable Medium"),
-        0x0010 => say(b"Random Readable"),
-        0x001D => say(b"MultiRead"),
-        0x001E => say(b"CD Read"),
-        0x001F => say(b"DVD Read"),
-        0x0020 => say(b"Random Writable"),
-        0x0021 => say(b"Incremental Streaming Writable"),
-        0x0022 => say(b"Sector Erasable"),
-        0x0023 => say(b"Formattable"),
-        0x0024 => say(b"Defect Management"),
-        0x0025 => say(b"Write Once"),
-        0x0026 => say(b"Restricted Overwrite"),
-        0x002D => say(b"CD Track at Once"),
-        0x002E => say(b"CD Mastering"),
-        0x002F => say(b"DVD-R Write"),
-        0x0100 => say(b"Power Management"),
-        0x0101 => say(b"S.M.A.R.T."),
-        0x0102 => say(b"Embedded Changer"),
-        0x0103 => say(b"CD Audio analog play"),
-        0x0104 => say(b"Microcode Upgrade"),
-        0x0105 => say(b"Time-out"),
-        0x0106 => say(b"DVD-CSS"),
-        0x0107 => say(b"Real Time Streaming"),
-        0x0108 => say(b"Logical Unit serial number"),
-        0xFF00..=0xFFFF => say(b"Vendor Unique"),
-        _ => say(b"no name"),
+    if number >= 0xFF00 {
+        say(b"Vendor Unique");
+        return;
     }
+    say_named(
+        b"0000 Profile List\n\
+        0001 Core\n\
+        0002 Morphing\n\
+        0003 Removable Medium\n\
+        0010 Random Readable\n\
+        001D MultiRead\n\
+        001E CD Read\n\
+        001F DVD Read\n\
+        0020 Random Writable\n\
+        0021 Incremental Streaming Writable\n\
+        0022 Sector Erasable\n\
+        0023 Formattable\n\
+        0024 Defect Management\n\
+        0025 Write Once\n\
+        0026 Restricted Overwrite\n\
+        002D CD Track at Once\n\
+        002E CD Mastering\n\
+        002F DVD-R Write\n\
+        0100 Power Management\n\
+        0101 S.M.A.R.T.\n\
+        0102 Embedded Changer\n\
+        0103 CD Audio analog play\n\
+        0104 Microcode Upgrade\n\
+        0105 Time-out\n\
+        0106 DVD-CSS\n\
+        0107 Real Time Streaming\n\
+        0108 Logical Unit serial number",
+        number as u32,
+        b"no name",
+    );
 }
 
-// ---- profiles: those of document 000, Table 9, and those that the published MMC has added
-
-fn say_later(number: u16) {
-    match number {
-        0x0005 => say(b"AS-MO"),
-        0x0013 => say(b"DVD-RW Restricted Overwrite"),
-        0x0014 => say(b"DVD-RW Sequential Recording"),
-        0x0015 => say(b"DVD-R Dual Layer Sequential Recording"),
-        0x0016 => say(b"DVD-R Dual Layer Jump Recording"),
-        0x0017 => say(b"DVD-RW Dual Layer"),
-        0x0018 => say(b"DVD-Download"),
-        0x001A => say(b"DVD+RW"),
-        0x001B => say(b"DVD+R"),
-        0x0020 => say(b"DDCD-ROM"),
-        0x0021 => say(b"DDCD-R"),
-        0x0022 => say(b"DDCD-RW"),
-        0x002A => say(b"DVD+RW Dual Layer"),
-        0x002B => say(b"DVD+R Dual Layer"),
-        0x0040 => say(b"BD-ROM"),
-        0x0041 => say(b"BD-R SRM"),
-        0x0042 => say(b"BD-R RRM"),
-        0x0043 => say(b"BD-RE"),
-        0x0050 => say(b"HD DVD-ROM"),
-        0x0051 => say(b"HD DVD-R"),
-        0x0052 => say(b"HD DVD-RAM"),
-        0x0053 => say(b"HD DVD-RW"),
-        0x0058 => say(b"HD DVD-R Dual Layer"),
-        0x005A => say(b"HD DVD-RW Dual Layer"),
-        _ => say(b"no name"),
-    }
-}
-
+// Profiles: those of document 000, Table 9, and those that the published MMC has added.
 pub fn say_profile(number: u16) {
-    match number {
-        0x0000 => say(b"none"),
-        0x0001 => say(b"Non-removable disk"),
-        0x0002 => say(b"Removable disk"),
-        0x0003 => say(b"MO Erasable"),
-        0x0004 => say(b"MO Write Once"),
-        0x0008 => say(b"CD-ROM"),
-        0x0009 => say(b"CD-R"),
-        0x000A => say(b"CD-RW"),
-        0x0010 => say(b"DVD-ROM"),
-        0x0011 => say(b"DVD-R"),
-        0x0012 => say(b"DVD-RAM"),
-        0xFFFF => say(b"Logical Units Not Conforming to a Standard Profile"),
-        _ => say_later(number),
-    }
+    say_named(
+        b"0000 none\n\
+        0001 Non-removable disk\n\
+        0002 Removable disk\n\
+        0003 MO Erasable\n\
+        0004 MO Write Once\n\
+        0005 AS-MO\n\
+        0008 CD-ROM\n\
+        0009 CD-R\n\
+        000A CD-RW\n\
+        0010 DVD-ROM\n\
+        0011 DVD-R\n\
+        0012 DVD-RAM\n\
+        0013 DVD-RW Restricted Overwrite\n\
+        0014 DVD-RW Sequential Recording\n\
+        0015 DVD-R Dual Layer Sequential Recording\n\
+        0016 DVD-R Dual Layer Jump Recording\n\
+        0017 DVD-RW Dual Layer\n\
+        0018 DVD-Download\n\
+        001A DVD+RW\n\
+        001B DVD+R\n\
+        0020 DDCD-ROM\n\
+        0021 DDCD-R\n\
+        0022 DDCD-RW\n\
+        002A DVD+RW Dual Layer\n\
+        002B DVD+R Dual Layer\n\
+        0040 BD-ROM\n\
+        0041 BD-R SRM\n\
+        0042 BD-R RRM\n\
+        0043 BD-RE\n\
+        0050 HD DVD-ROM\n\
+        0051 HD DVD-R\n\
+        0052 HD DVD-RAM\n\
+        0053 HD DVD-RW\n\
+        0058 HD DVD-R Dual Layer\n\
+        005A HD DVD-RW Dual Layer\n\
+        FFFF Logical Units Not Conforming to a Standard Profile",
+        number as u32,
+        b"no name",
+    );
 }
-
-// ---- fields of bodies: of each feature that the check's table knows, as document 002 and the published MMC have them
-
-// A field: the feature that has it, the place of its first byte in the descriptor and how many bytes these are, what their number is divided by, the remainder that is
-// then taken (0: none is), and its name.
-pub struct Field {
-    pub feature: u16,
-    pub at: u8,
-    pub bytes: u8,
-    pub divisor: u32,
-    pub modulus: u32,
-    pub name: u8,
-}
-
-pub const PHYSICAL: u8 = 0;
-
-pub const LOADING: u8 = 5;
-
-pub const COUNT: usize = 41;
-
-pub const FIELDS: [Field; COUNT] = [
-    Field {
-        feature: 0x0001,
-        at: 4,
-        bytes: 4,
-        divisor: 1,
-        modulus: 0,
-        name: 0,
-    },
-    Field {
-        feature: 0x0001,
-        at: 8,
-        bytes: 1,
-        divisor: 2,
-        modulus: 2,
-        name: 1,
-    },
-    Field {
-        feature: 0x0001,
-        at: 8,
-        bytes: 1,
-        divisor: 1,
-        modulus: 2,
-        name: 2,
-    },
-    Field {
-        feature: 0x0002,
-        at: 4,
-        bytes: 1,
-        divisor: 2,
-        modulus: 2,
-        name: 3,
-    },
-    Field {
-        feature: 0x0002,
-        at: 4,
-        bytes: 1,
-        divisor: 1,
-        modulus: 2,
-        name: 4,
-    },
-    Field {
-        feature: 0x0003,
-        at: 4,
-        bytes: 1,
-        divisor: 32,
-        modulus: 8,
-        name: 5,
-    },
-    Field {
-        feature: 0x0003,
-        at: 4,
-        bytes: 1,
-        divisor: 16,
-        modulus: 2,
-        name: 6,
-    },
-    Field {
-        feature: 0x0003,
-        at: 4,
-        bytes: 1,
-        divisor: 8,
-        modulus: 2,
-        name: 7,
-    },
-    Field {
-        feature: 0x0003,
-        at: 4,
-        bytes: 1,
-        divisor: 4,
-        modulus: 2,
-        name: 8,
-    },
-    Field {
-        feature: 0x0003,
-        at: 4,
-        bytes: 1,
-        divisor: 1,
-        modulus: 2,
-        name: 9,
-    },
-    Field {
-        feature: 0x001F,
-        at: 4,
-        bytes: 1,
-        divisor: 1,
-        modulus: 2,
-        name: 10,
-    },
-    Field {
-        feature: 0x001F,
-        at: 6,
-        bytes: 1,
-        divisor: 2,
-        modulus: 2,
-        name: 11,
-    },
-    Field {
-        feature: 0x001F,
-        at: 6,
-        bytes: 1,
-        divisor: 1,
-        modulus: 2,
-        name: 12,
-    },
-    Field {
-        feature: 0x0020,
-        at: 4,
-        bytes: 4,
-        divisor: 1,
-        modulus: 0,
-        name: 13,
-    },
-    Field {
-        feature: 0x0020,
-        at: 8,
-        bytes: 4,
-        divisor: 1,
-        modulus: 0,
-        name: 14,
-    },
-    Field {
-        feature: 0x0020,
-        at: 12,
-        bytes: 2,
-        divisor: 1,
-        modulus: 0,
-        name: 15,
-    },
-    Field {
-        feature: 0x0020,
-        at: 14,
-        bytes: 1,
-        divisor: 1,
-        modulus: 2,
-        name: 16,
-    },
-    Field {
-        feature: 0x0021,
-        at: 4,
-        bytes: 2,
-        divisor: 1,
-        modulus: 0,
-        name: 17,
-    },
-    Field {
-        feature: 0x0021,
-        at: 6,
-        bytes: 1,
-        divisor: 4,
-        modulus: 2,
-        name: 18,
-    },
-    Field {
-        feature: 0x0021,
-        at: 6,
-        bytes: 1,
-        divisor: 2,
-        modulus: 2,
-        name: 19,
-    },
-    Field {
-        feature: 0x0021,
-        at: 6,
-        bytes: 1,
-        divisor: 1,
-        modulus: 2,
-        name: 20,
-    },
-    Field {
-        feature: 0x0021,
-        at: 7,
-        bytes: 1,
-        divisor: 1,
-        modulus: 0,
-        name: 21,
-    },
-    Field {
-        feature: 0x002D,
-        at: 4,
-        bytes: 1,
-        divisor: 64,
-        modulus: 2,
-        name: 20,
-    },
-    Field {
-        feature: 0x002D,
-        at: 4,
-        bytes: 1,
-        divisor: 16,
-        modulus: 2,
-        name: 22,
-    },
-    Field {
-        feature: 0x002D,
-        at: 4,
-        bytes: 1,
-        divisor: 8,
-        modulus: 2,
-        name: 23,
-    },
-    Field {
-        feature: 0x002D,
-        at: 4,
-        bytes: 1,
-        divisor: 4,
-        modulus: 2,
-        name: 24,
-    },
-    Field {
-        feature: 0x002D,
-        at: 4,
-        bytes: 1,
-        divisor: 2,
-        modulus: 2,
-        name: 25,
-    },
-    Field {
-        feature: 0x002D,
-        at: 4,
-        bytes: 1,
-        divisor: 1,
-        modulus: 2,
-        name: 26,
-    },
-    Field {
-        feature: 0x002D,
-        at: 6,
-        bytes: 2,
-        divisor: 1,
-        modulus: 0,
-        name: 17,
-    },
-    Field {
-        feature: 0x002E,
-        at: 4,
-        bytes: 1,
-        divisor: 64,
-        modulus: 2,
-        name: 20,
-    },
-    Field {
-        feature: 0x002E,
-        at: 4,
-        bytes: 1,
-        divisor: 32,
-        modulus: 2,
-        name: 27,
-    },
-    Field {
-        feature: 0x002E,
-        at: 4,
-        bytes: 1,
-        divisor: 16,
-        modulus: 2,
-        name: 28,
-    },
-    Field {
-        feature: 0x002E,
-        at: 4,
-        bytes: 1,
-        divisor: 8,
-        modulus: 2,
-        name: 29,
-    },
-    Field {
-        feature: 0x002E,
-        at: 4,
-        bytes: 1,
-        divisor: 4,
-        modulus: 2,
-        name: 24,
-    },
-    Field {
-        feature: 0x002E,
-        at: 4,
-        bytes: 1,
-        divisor: 2,
-        modulus: 2,
-        name: 25,
-    },
-    Field {
-        feature: 0x002E,
-        at: 4,
-        bytes: 1,
-        divisor: 1,
-        modulus: 2,
-        name: 30,
-    },
-    Field {
-        feature: 0x002E,
-        at: 5,
-        bytes: 3,
-        divisor: 1,
-        modulus: 0,
-        name: 31,
-    },
-    Field {
-        feature: 0x002F,
-        at: 4,
-        bytes: 1,
-        divisor: 64,
-        modulus: 2,
-        name: 20,
-    },
-    Field {
-        feature: 0x002F,
-        at: 4,
-        bytes: 1,
-        divisor: 8,
-        modulus: 2,
-        name: 32,
-    },
-    Field {
-        feature: 0x002F,
-        at: 4,
-        bytes: 1,
-        divisor: 4,
-        modulus: 2,
-        name: 24,
-    },
-    Field {
-        feature: 0x002F,
-        at: 4,
-        bytes: 1,
-        divisor: 2,
-        modulus: 2,
-        name: 33,
-    },
-];
-
-pub fn say_field(name: u8) {
-    match name {
-        0 => say(b"Physical Interface Standard"),
-        1 => say(b"INQ2"),
-        2 => say(b"DBE"),
-        3 => say(b"OCEvent"),
-        4 => say(b"Async"),
-        5 => say(b"Loading Mechanism"),
-        6 => say(b"Load"),
-        7 => say(b"Eject"),
-        8 => say(b"Prevent Jumper"),
-        9 => say(b"Lock"),
-        10 => say(b"MULTI110"),
-        11 => say(b"Dual-RW"),
-        12 => say(b"Dual-R"),
-        13 => say(b"Last Logical Block Address"),
-        14 => say(b"Logical Block Size"),
-        15 => say(b"Blocking"),
-        16 => say(b"Page Present"),
-        17 => say(b"Data Types Supported"),
-        18 => say(b"TRIO"),
-        19 => say(b"ARSV"),
-        20 => say(b"BUF"),
-        21 => say(b"Number of Link Sizes"),
-        22 => say(b"R-W Raw"),
-        23 => say(b"R-W Pack"),
-        24 => say(b"Test Write"),
-        25 => say(b"CD-RW"),
-        26 => say(b"R-W Subcode"),
-        27 => say(b"SAO"),
-        28 => say(b"Raw MS"),
-        29 => say(b"Raw"),
-        30 => say(b"R-W"),
-        31 => say(b"Maximum Cue Sheet Length"),
-        32 => say(b"RDL"),
-        33 => say(b"DVD-RW"),
-        _ => say(b"no name"),
-    }
-}
-
-// ---- values that have names
 
 // Physical Interface Standard: document 000, Table 11, and the published MMC's from 4 on.
 pub fn say_physical(value: u32) {
-    match value {
-        0 => say(b"Unspecified"),
-        1 => say(b"SCSI Family"),
-        2 => say(b"ATAPI"),
-        3 => say(b"IEEE 1394-1995"),
-        4 => say(b"IEEE 1394A"),
-        5 => say(b"Fibre Channel"),
-        6 => say(b"IEEE 1394B"),
-        7 => say(b"Serial ATAPI"),
-        8 => say(b"USB"),
-        0xFFFF => say(b"Vendor Unique"),
-        _ => say(b"no name"),
-    }
+    say_named(
+        b"0 Unspecified\n\
+        1 SCSI Family\n\
+        2 ATAPI\n\
+        3 IEEE 1394-1995\n\
+        4 IEEE 1394A\n\
+        5 Fibre Channel\n\
+        6 IEEE 1394B\n\
+        7 Serial ATAPI\n\
+        8 USB\n\
+        FFFF Vendor Unique",
+        value,
+        b"no name",
+    );
 }
 
 // Loading Mechanism: document 000, Table 15.
 pub fn say_loading(value: u32) {
-    match value {
-        0 => say(b"Caddy/Slot"),
-        1 => say(b"Tray"),
-        2 => say(b"Pop-up"),
-        4 => say(b"Embedded changer with individually changeable discs"),
-        5 => say(b"Embedded changer using a cartridge mechanism"),
-        _ => say(b"Reserved"),
-    }
+    say_named(
+        b"0 Caddy/Slot\n\
+        1 Tray\n\
+        2 Pop-up\n\
+        4 Embedded changer with individually changeable discs\n\
+        5 Embedded changer using a cartridge mechanism",
+        value,
+        b"Reserved",
+    );
 }

@@ -2,7 +2,6 @@
 // fields of the bodies that the check's table knows, every body in hexadecimal. Arguments: RT, starting feature number, allocation length (`asked`), whether JSON
 // is wanted, and whether hexadecimal text is read. Of its input only numbers get into JSON, so that it is valid whatever comes.
 use libc::STDOUT_FILENO;
-use names::Field;
 use refusal::Refusal;
 use streams::say;
 use streams::say_decimal;
@@ -60,6 +59,38 @@ fn say_bit(b: bool) {
 
 // ---- fields
 
+// A field: the feature that has it, the place of its first byte in the descriptor and how many bytes these are, what their number is divided by, the remainder that is
+// then taken (0: none is), and whose names its values have: none (0), those of the physical interfaces (1) or of the loading mechanisms (2).
+struct Field {
+    feature: u32,
+    at: u32,
+    bytes: u32,
+    divisor: u32,
+    modulus: u32,
+    values: u32,
+}
+
+// The hexadecimal number of a column.
+fn column(line: &[u8], at: usize, count: usize) -> u32 {
+    tables::number(fields::part(line, at, count), true)
+}
+
+// The numbers of a line, which stand in columns, and the name behind them.
+fn field_of(line: &[u8]) -> Field {
+    Field {
+        feature: column(line, 0, 4),
+        at: column(line, 5, 2),
+        bytes: column(line, 8, 1),
+        divisor: column(line, 10, 2),
+        modulus: column(line, 13, 2),
+        values: column(line, 16, 1),
+    }
+}
+
+fn name_of(line: &[u8]) -> &[u8] {
+    fields::part(line, 18, line.len())
+}
+
 // The value of a field in a descriptor; bytes behind its end count as 0.
 fn value_of(field: Field, descriptor: &[u8]) -> u32 {
     let at = field.at as usize;
@@ -87,78 +118,129 @@ fn divided(number: u32, divisor: u32, modulus: u32) -> u32 {
     number / divisor % modulus
 }
 
-// The name of a value, if values of this field have names: whether there is one, or the name itself.
-fn has_name(name: u8) -> bool {
-    if name == names::PHYSICAL {
-        return true;
-    }
-    name == names::LOADING
-}
-
-fn say_value_name(name: u8, value: u32) {
-    if name == names::PHYSICAL {
+// The name of a value.
+fn say_value_name(values: u32, value: u32) {
+    if values == 1 {
         names::say_physical(value);
         return;
     }
     names::say_loading(value);
 }
 
-fn say_field(name: u8, value: u32) {
+fn say_field(name: &[u8], values: u32, value: u32) {
     say(b"    ");
-    names::say_field(name);
+    say(name);
     say(b": ");
     say_decimal(value as u64);
-    if has_name(name) {
+    if values != 0 {
         say(b" (");
-        say_value_name(name, value);
+        say_value_name(values, value);
         say(b")");
     }
     say(b"\n");
 }
 
-fn say_field_json(name: u8, value: u32) {
+fn say_field_json(name: &[u8], values: u32, value: u32) {
     say(b"{\"name\":\"");
-    names::say_field(name);
+    say(name);
     say(b"\",\"value\":");
     say_decimal(value as u64);
-    if has_name(name) {
+    if values != 0 {
         say(b",\"meaning\":\"");
-        say_value_name(name, value);
+        say_value_name(values, value);
         say(b"\"");
     }
     say(b"}");
 }
 
-fn say_either(json: bool, later: bool, name: u8, value: u32) {
+fn say_either(json: bool, later: bool, name: &[u8], values: u32, value: u32) {
     if !json {
-        say_field(name, value);
+        say_field(name, values, value);
         return;
     }
     if later {
         say(b",");
     }
-    say_field_json(name, value);
+    say_field_json(name, values, value);
 }
 
 // Whether a feature has a field, and the descriptor all bytes of it.
 fn is_there(field: Field, number: u16, descriptor: &[u8]) -> bool {
-    if field.feature != number {
+    if field.feature != number as u32 {
         return false;
     }
     field.at as usize + field.bytes as usize <= descriptor.len()
 }
 
-fn say_fields(json: bool, number: u16, descriptor: &[u8]) {
+// Says the fields that a table, a line each, has for a feature.
+fn say_listed(table: &[u8], json: bool, number: u16, descriptor: &[u8]) {
     let mut later = false;
-    let mut i = 0;
-    while i < names::COUNT {
-        let field = names::FIELDS[i];
+    let mut at = 0;
+    while at < table.len() {
+        let line = tables::line_at(table, at);
+        let field = field_of(line);
         if is_there(field, number, descriptor) {
-            say_either(json, later, field.name, value_of(field, descriptor));
+            say_either(
+                json,
+                later,
+                name_of(line),
+                field.values,
+                value_of(field, descriptor),
+            );
             later = true;
         }
-        i += 1;
+        at = at + line.len() + 1;
     }
+}
+
+// The fields of each feature that the check's table knows, as document 002 and the published MMC have them.
+fn say_fields(json: bool, number: u16, descriptor: &[u8]) {
+    say_listed(
+        b"0001 04 4 01 00 1 Physical Interface Standard\n\
+        0001 08 1 02 02 0 INQ2\n\
+        0001 08 1 01 02 0 DBE\n\
+        0002 04 1 02 02 0 OCEvent\n\
+        0002 04 1 01 02 0 Async\n\
+        0003 04 1 20 08 2 Loading Mechanism\n\
+        0003 04 1 10 02 0 Load\n\
+        0003 04 1 08 02 0 Eject\n\
+        0003 04 1 04 02 0 Prevent Jumper\n\
+        0003 04 1 01 02 0 Lock\n\
+        001F 04 1 01 02 0 MULTI110\n\
+        001F 06 1 02 02 0 Dual-RW\n\
+        001F 06 1 01 02 0 Dual-R\n\
+        0020 04 4 01 00 0 Last Logical Block Address\n\
+        0020 08 4 01 00 0 Logical Block Size\n\
+        0020 0C 2 01 00 0 Blocking\n\
+        0020 0E 1 01 02 0 Page Present\n\
+        0021 04 2 01 00 0 Data Types Supported\n\
+        0021 06 1 04 02 0 TRIO\n\
+        0021 06 1 02 02 0 ARSV\n\
+        0021 06 1 01 02 0 BUF\n\
+        0021 07 1 01 00 0 Number of Link Sizes\n\
+        002D 04 1 40 02 0 BUF\n\
+        002D 04 1 10 02 0 R-W Raw\n\
+        002D 04 1 08 02 0 R-W Pack\n\
+        002D 04 1 04 02 0 Test Write\n\
+        002D 04 1 02 02 0 CD-RW\n\
+        002D 04 1 01 02 0 R-W Subcode\n\
+        002D 06 2 01 00 0 Data Types Supported\n\
+        002E 04 1 40 02 0 BUF\n\
+        002E 04 1 20 02 0 SAO\n\
+        002E 04 1 10 02 0 Raw MS\n\
+        002E 04 1 08 02 0 Raw\n\
+        002E 04 1 04 02 0 Test Write\n\
+        002E 04 1 02 02 0 CD-RW\n\
+        002E 04 1 01 02 0 R-W\n\
+        002E 05 3 01 00 0 Maximum Cue Sheet Length\n\
+        002F 04 1 40 02 0 BUF\n\
+        002F 04 1 08 02 0 RDL\n\
+        002F 04 1 04 02 0 Test Write\n\
+        002F 04 1 02 02 0 DVD-RW",
+        json,
+        number,
+        descriptor,
+    );
 }
 
 // ---- lists in bodies

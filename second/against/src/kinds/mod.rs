@@ -78,7 +78,7 @@ fn laid_as(layout: Layout, rows: &Given) -> Cow<'_, Given> {
 }
 
 /// A record, and the place of a refusal, as the numbers of a result.
-fn fields(record: Record, place: u16) -> [u64; 8] {
+pub(crate) fn fields(record: Record, place: u16) -> [u64; 8] {
     [
         u64::from(record.rt),
         u64::from(record.allocation),
@@ -92,7 +92,7 @@ fn fields(record: Record, place: u16) -> [u64; 8] {
 }
 
 /// A record as the proved side takes it.
-fn handed(record: Record) -> raw::Sweep {
+pub(crate) fn handed(record: Record) -> raw::Sweep {
     raw::Sweep {
         rt: record.rt,
         allocation: record.allocation,
@@ -105,7 +105,7 @@ fn handed(record: Record) -> raw::Sweep {
 }
 
 /// What the proved side gives of a sweep, as the same numbers.
-fn proved(step: raw::Step) -> [u64; 8] {
+pub(crate) fn proved(step: raw::Step) -> [u64; 8] {
     let sweep = step.sweep;
     let record = Record {
         rt: sweep.rt,

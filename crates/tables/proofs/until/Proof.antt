@@ -1,9 +1,9 @@
--- `vectors::until` is safe and ends: the index rises to the length.
+-- `tables::until` is safe and ends: the index rises to the length.
 use Prim.Native.Nat.{_-_}
 use lib.ListN.{length}
 use borrow.Author.Needs.{needs}
-use Rattle.vectors.proofs.until.Statement.{statement}
-use Rattle.vectors.proofs.until.Tie as tie
+use Rattle.tables.proofs.until.Statement.{statement}
+use Rattle.tables.proofs.until.Tie as tie
 
 abbrev Inv-loop : tie.InvT-loop
 Inv-loop s mark i₀ i = Unit {0}

@@ -1,0 +1,207 @@
+//! What an operation is on either side.
+
+use super::{Case, Numbers, Outcome};
+use crate::kinds::{fields as record_fields, handed, proved as step_fields};
+use crate::run::told;
+use gcf::raw;
+use second::refusal::Refusal;
+use second::sheet::{Layout, Sheet};
+use second::sweep::Record;
+use second::wire::{Feature, Profile};
+
+/// One of the two that a case is run on.
+pub struct Side {
+    pub name: &'static str,
+    run: fn(&Case, &mut [u8]) -> Option<Numbers>,
+}
+
+/// The exported functions, and the second program.
+pub const SIDES: [Side; 2] =
+    [Side { name: "archive", run: proved }, Side { name: "second program", run: plain }];
+
+/// What a lent buffer holds before a call, and the bytes beside it on either side.
+const BEFORE: u8 = 0xEE;
+const GUARD: usize = 33;
+
+impl Side {
+    /// What comes of a case; none where there is no such operation, or where bytes beside the buffer were changed.
+    pub fn outcome(&self, case: &Case) -> Option<Outcome> {
+        let length = case.wanted.buffer.len();
+        let mut memory = vec![BEFORE; GUARD + length + GUARD];
+        let numbers = (self.run)(case, &mut memory[GUARD..GUARD + length])?;
+        let (before, behind) = (&memory[..GUARD], &memory[GUARD + length..]);
+        let buffer = memory[GUARD..GUARD + length].to_vec();
+        before.iter().chain(behind).all(|byte| *byte == BEFORE).then(|| Outcome { numbers, buffer })
+    }
+}
+
+/// The layout that a number names.
+fn layout(columns: u64) -> Layout {
+    match columns {
+        1 => Layout::Columns,
+        _ => Layout::Rows,
+    }
+}
+
+/// A number of a call and what it told beside it, as the numbers of a case.
+fn with(number: u8, further: &[u64]) -> Numbers {
+    let mut numbers = [0; 8];
+    numbers[0] = u64::from(number);
+    numbers[1..=further.len()].copy_from_slice(further);
+    numbers
+}
+
+/// A record as the numbers of a case hold it.
+fn record(given: Numbers) -> Record {
+    Record {
+        rt: given[0] as u8,
+        allocation: given[1] as u16,
+        next: Feature(given[2] as u16),
+        commands: given[3] as u32,
+        collected: given[4] as usize,
+        ended: given[5] != 0,
+        profile: Profile(given[6] as u16),
+    }
+}
+
+/// A number and the seven fields of a record.
+fn after(number: u8, fields: [u64; 8]) -> Numbers {
+    with(number, &fields[..7])
+}
+
+/// The buffers of a bench sweep: for the response, for what is collected, for the starts, which are written behind the two.
+fn benched(out: &mut [u8], run: impl FnOnce(&mut [u8], &mut [u8], &mut [u16]) -> Numbers) -> Option<Numbers> {
+    let mut starts = [u16::from_be_bytes([BEFORE; 2]); 6];
+    let (response, rest) = out.split_at_mut(64.min(out.len()));
+    let (collected, list) = rest.split_at_mut(40.min(rest.len()));
+    if list.len() != 2 * starts.len() {
+        return None;
+    }
+    let numbers = run(response, collected, &mut starts);
+    for (bytes, start) in list.chunks_mut(2).zip(starts) {
+        bytes.copy_from_slice(&start.to_be_bytes());
+    }
+    Some(numbers)
+}
+
+/// The archive's side.
+fn proved(case: &Case, out: &mut [u8]) -> Option<Numbers> {
+    let (given, first, second) = (case.given, &case.first[..], &case.second[..]);
+    let mut numbers = [0; 5];
+    let told = &mut numbers[..];
+    let number = match (case.operation.as_str(), layout(given[0])) {
+        ("sheet", Layout::Rows) => raw::check_sheet(first, told),
+        ("sheet", Layout::Columns) => raw::check_columns(first, told),
+        ("respond", Layout::Rows) => raw::respond(first, second, out, told),
+        ("respond", Layout::Columns) => raw::respond_columns(first, second, out, told),
+        ("accepted", Layout::Rows) => raw::respond_accepted(first, second, out, told),
+        ("accepted", Layout::Columns) => raw::respond_columns_accepted(first, second, out, told),
+        ("convert", Layout::Rows) => raw::to_columns(first, out, told),
+        ("convert", Layout::Columns) => raw::to_rows(first, out, told),
+        ("import", _) => raw::import(first, out, told),
+        ("read", _) => raw::read(given[0] as u8, gcf::Feature(given[1] as u16), first, told),
+        ("descriptors", _) => raw::check_descriptors(first, told),
+        ("profile", _) => {
+            let number = raw::check_profile(gcf::Profile(given[0] as u16), first, told);
+            told[0] = u64::from(number == 0 && told[0] == 0);
+            number
+        }
+        ("held", _) => return Some(one(raw::held(gcf::Feature(given[0] as u16), first, second, out))),
+        ("list", _) => return Some(one(raw::list(first, out))),
+        ("most", _) => return Some(one(raw::most(given[0] as u16))),
+        ("start", _) => {
+            let step = raw::sweep_start(given[0] as u8, given[1] as u16);
+            return Some(after(step.refusal.number, step_fields(step)));
+        }
+        ("take", _) => {
+            let step = raw::sweep_take(handed(record(given)), first, out);
+            return Some(after(step.refusal.number, step_fields(step)));
+        }
+        ("bench", _) => {
+            let bench = if given[2] == 1 { raw::bench_columns } else { raw::bench };
+            return benched(out, |response, collected, starts| {
+                let number = bench(first, given[0] as u8, given[1] as u16, response, collected, starts, told);
+                with(number, told)
+            });
+        }
+        _ => return None,
+    };
+    Some(with(number, &numbers))
+}
+
+/// A count alone.
+fn one(count: usize) -> Numbers {
+    [count as u64, 0, 0, 0, 0, 0, 0, 0]
+}
+
+/// A count or a refusal, with its place.
+fn counted(given: Result<usize, Refusal>) -> Numbers {
+    let (number, place) = told(&given);
+    with(number, &[given.unwrap_or(0) as u64, place as u64])
+}
+
+/// The second program's side.
+fn plain(case: &Case, out: &mut [u8]) -> Option<Numbers> {
+    let (given, first, second) = (case.given, &case.first[..], &case.second[..]);
+    let laid = layout(given[0]);
+    Some(match case.operation.as_str() {
+        "sheet" => {
+            let (number, place) = told(&second::sheet::check(laid, first));
+            with(number, &[place as u64])
+        }
+        "respond" => counted(second::command::respond(laid, first, second, out)),
+        "accepted" => {
+            let sent = second::command::respond_checked(Sheet::assume_checked(laid, first), second, out);
+            with(sent.err().unwrap_or(0), &[sent.unwrap_or(0) as u64])
+        }
+        "convert" => {
+            let to = if laid == Layout::Rows { Layout::Columns } else { Layout::Rows };
+            counted(second::convert::convert(to, laid, first, out))
+        }
+        "import" => counted(second::import::import(first, out)),
+        "read" => {
+            let reading = second::reading::read(given[0] as u8, Feature(given[1] as u16), first, None);
+            let fields = [u64::from(reading.profile.0), u64::from(reading.data_length), reading.count as u64];
+            let [profile, length, count] = fields;
+            with(reading.number, &[profile, length, count, reading.end as u64, u64::from(reading.complete)])
+        }
+        "descriptors" => {
+            let (number, feature) = second::checks::check_descriptors(first);
+            with(number, &[u64::from(feature.0)])
+        }
+        "profile" => {
+            let answer = second::checks::check_profile(Profile(given[0] as u16), first);
+            let (number, missing, feature) = answer.fields();
+            with(number, &[u64::from(number == 0 && !missing), u64::from(feature.0)])
+        }
+        "held" => one(copied(second::find::find(Feature(given[0] as u16), first, second), out)),
+        "list" => one(copied(&second::lister::list(first), out)),
+        "most" => one(second::command::most_bytes(given[0] as u16)),
+        "start" => {
+            let (number, record) = Record::start(given[0] as u8, given[1] as u16);
+            after(number, record_fields(record, 0))
+        }
+        "take" => {
+            let (number, record) = record(given).take(first, out);
+            after(number, record_fields(record, 0))
+        }
+        "bench" => {
+            return benched(out, |response, collected, starts| {
+                let laid = layout(given[2]);
+                let (rt, allocation) = (given[0] as u8, given[1] as u16);
+                let end = second::bench::bench(laid, first, rt, allocation, response, collected, starts);
+                let (number, place) = told(&end);
+                let (commands, count) = end.map_or((0, 0), |done| (done.commands, done.collected));
+                with(number, &[commands as u64, count as u64, place as u64])
+            })
+        }
+        _ => return None,
+    })
+}
+
+/// Copies bytes to the front, as far as there is room, and counts them.
+fn copied(bytes: &[u8], out: &mut [u8]) -> usize {
+    let count = bytes.len().min(out.len());
+    out[..count].copy_from_slice(&bytes[..count]);
+    count
+}
