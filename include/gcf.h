@@ -25,7 +25,7 @@
 #include <stdint.h>
 
 /* The version, and its only place: all else that tells it takes it from here. docs/CHANGES.md says what each one brought. */
-#define GCF_VERSION "0.10.1"
+#define GCF_VERSION "0.11.0"
 
 #if SIZE_MAX != UINT64_MAX
 #error "gcf.h: size_t has not 64 bits here, and the functions of libgcf.a take every length and count as 64 bits. There is no libgcf.a for such a target."
@@ -119,6 +119,11 @@ enum gcf_number {
     GCF_SENSE_LENGTH = 46,
     GCF_SENSE_CODE = 47,
     GCF_SENSE_OTHER = 48,
+    /* loading a medium */
+    GCF_LIST_ORDER = 51,
+    GCF_SHEET_LACKS = 52,
+    GCF_LOADED_SHORT = 53,
+    /* sense data, beside 46 to 48 */
     GCF_NOT_GIVEN = 54,
     GCF_SENSE_BUFFER_SHORT = 55
 };
@@ -197,6 +202,29 @@ uint8_t gcf_to_columns(const uint8_t *sheet, size_t sheet_bytes, uint8_t *column
 
 /* The same back: a sheet in columns into one in rows. Each undoes the other. */
 uint8_t gcf_to_rows(const uint8_t *sheet, size_t sheet_bytes, uint8_t *rows, size_t rows_bytes, uint64_t *numbers, size_t numbers_count);
+
+/* ---- a medium goes in: the sheet as it leaves it */
+
+/*
+ * Of a sheet in rows, the sheet with a medium that makes these features and these profiles current: a Persistent feature stays current, each other one is
+ * current exactly if it is listed, each profile is current exactly if it is listed, and nothing else changes. What was in before makes no difference. The
+ * numbers of gcf_check_sheet, then 51 (a list that does not ascend, or repeats a number), 52 (a feature or profile that the sheet lacks; feature 0 counts as
+ * lacking), 53 (a buffer shorter than the sheet). Accepted: the sheet, as long as it was and accepted again, stands at the front of the buffer, and only its
+ * bytes changed. Refused: nothing changed. Sweep between two loadings, not across one (docs/MANUAL.md).
+ * numbers: bytes of the sheet, the place. Refused: 0, the place.
+ */
+uint8_t gcf_load(const uint8_t *sheet, size_t sheet_bytes,
+                 const gcf_feature *features, size_t features_count,
+                 const gcf_profile *profiles, size_t profiles_count,
+                 uint8_t *loaded, size_t loaded_bytes,
+                 uint64_t *numbers, size_t numbers_count);
+
+/* The same of a sheet in columns, which stays in columns. */
+uint8_t gcf_load_columns(const uint8_t *sheet, size_t sheet_bytes,
+                         const gcf_feature *features, size_t features_count,
+                         const gcf_profile *profiles, size_t profiles_count,
+                         uint8_t *loaded, size_t loaded_bytes,
+                         uint64_t *numbers, size_t numbers_count);
 
 /* ---- the box without a sheet: it holds an image, a complete response to RT 0 from 0 that gcf_import accepts */
 

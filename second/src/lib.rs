@@ -10,6 +10,7 @@ pub mod fewest;
 pub mod find;
 pub mod import;
 pub mod lister;
+pub mod load;
 pub mod numbers;
 pub mod reading;
 pub mod refusal;

@@ -112,6 +112,16 @@ pub const SENSE_LENGTH: u8 = 46;
 pub const SENSE_RESPONSE_CODE: u8 = 47;
 /// Any other content that the box can't write.
 pub const SENSE_OTHER: u8 = 48;
+
+// Loading a medium.
+/// A list out of order or with a repeat.
+pub const LIST_ORDER: u8 = 51;
+/// A listed feature or profile that the sheet lacks.
+pub const SHEET_LACKS: u8 = 52;
+/// Buffer for the loaded sheet too short.
+pub const LOADED_SHORT: u8 = 53;
+
+// The sense data's maker.
 /// A number that no command gives.
 pub const NOT_A_COMMANDS: u8 = 54;
 /// Buffer under 18 bytes.

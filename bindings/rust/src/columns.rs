@@ -5,7 +5,7 @@ use crate::{accepted, raw, Number, Refused, Rt, Sheet, Swept};
 
 /// A drive sheet in columns that was accepted. Its bytes are borrowed, so that they stay what was checked.
 #[derive(Clone, Copy, Debug)]
-pub struct Columns<'a>(&'a [u8]);
+pub struct Columns<'a>(pub(crate) &'a [u8]);
 
 impl<'a> Columns<'a> {
     /// The check of a drive sheet in columns: `gcf_check_columns`.

@@ -50,6 +50,7 @@ mod columns;
 mod drive;
 mod driver;
 mod image;
+mod medium;
 mod numbers;
 #[allow(unsafe_code, missing_docs)]
 pub mod raw;
@@ -61,6 +62,7 @@ pub use driver::{
     check_descriptors, check_profile, held, list, read, Finding, Judgement, Reading, Rt, Sweep,
 };
 pub use image::{respond_image, Image};
+pub use medium::{load, load_columns};
 pub use numbers::Number;
 pub use sense::{make_sense, read_sense, Kind};
 

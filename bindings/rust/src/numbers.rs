@@ -125,6 +125,12 @@ numbers! {
     SenseCode = 47,
     /// Sense data that the box does not write.
     SenseOther = 48,
+    /// A list of a medium's features or profiles does not ascend, or has a repeat.
+    ListOrder = 51,
+    /// A listed feature or profile is not in the sheet.
+    SheetLacks = 52,
+    /// The buffer for the loaded sheet is too short.
+    LoadedShort = 53,
     /// Sense data is asked for a number that no command gives.
     NotGiven = 54,
     /// The buffer for sense data has under 18 bytes.

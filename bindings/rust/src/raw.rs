@@ -99,6 +99,30 @@ extern "C" {
         numbers: *mut u64,
         numbers_len: usize,
     ) -> u8;
+    fn gcf_load(
+        sheet: *const u8,
+        sheet_len: usize,
+        features: *const Feature,
+        features_len: usize,
+        profiles: *const Profile,
+        profiles_len: usize,
+        loaded: *mut u8,
+        loaded_len: usize,
+        numbers: *mut u64,
+        numbers_len: usize,
+    ) -> u8;
+    fn gcf_load_columns(
+        sheet: *const u8,
+        sheet_len: usize,
+        features: *const Feature,
+        features_len: usize,
+        profiles: *const Profile,
+        profiles_len: usize,
+        loaded: *mut u8,
+        loaded_len: usize,
+        numbers: *mut u64,
+        numbers_len: usize,
+    ) -> u8;
     fn gcf_check_image(image: *const u8, image_len: usize, numbers: *mut u64, numbers_len: usize) -> u8;
     fn gcf_respond_image(
         image: *const u8,
@@ -307,6 +331,54 @@ pub fn to_rows(sheet: &[u8], rows: &mut [u8], numbers: &mut [u64]) -> u8 {
             sheet.len(),
             rows.as_mut_ptr(),
             rows.len(),
+            numbers.as_mut_ptr(),
+            numbers.len(),
+        )
+    }
+}
+
+/// Loads a medium; the numbers are: bytes of the sheet, place.
+pub fn load(
+    sheet: &[u8],
+    features: &[Feature],
+    profiles: &[Profile],
+    loaded: &mut [u8],
+    numbers: &mut [u64],
+) -> u8 {
+    unsafe {
+        gcf_load(
+            sheet.as_ptr(),
+            sheet.len(),
+            features.as_ptr(),
+            features.len(),
+            profiles.as_ptr(),
+            profiles.len(),
+            loaded.as_mut_ptr(),
+            loaded.len(),
+            numbers.as_mut_ptr(),
+            numbers.len(),
+        )
+    }
+}
+
+/// Loads a medium into a sheet in columns; the numbers are: bytes of the sheet, place.
+pub fn load_columns(
+    sheet: &[u8],
+    features: &[Feature],
+    profiles: &[Profile],
+    loaded: &mut [u8],
+    numbers: &mut [u64],
+) -> u8 {
+    unsafe {
+        gcf_load_columns(
+            sheet.as_ptr(),
+            sheet.len(),
+            features.as_ptr(),
+            features.len(),
+            profiles.as_ptr(),
+            profiles.len(),
+            loaded.as_mut_ptr(),
+            loaded.len(),
             numbers.as_mut_ptr(),
             numbers.len(),
         )

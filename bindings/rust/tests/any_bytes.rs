@@ -85,6 +85,27 @@ fn the_box_with_columns() {
 }
 
 #[test]
+fn media() {
+    let made = &mut Made(6);
+    for _ in 0..20_000 {
+        let (sheet, columns) = (made.spoilt(&SHEET_E), made.spoilt(&COLUMNS_E));
+        let features: Vec<Feature> =
+            (0..made.below(4)).map(|_| Feature([1, 3, 0x1F, 0x105, 0x20][made.below(5)])).collect();
+        let profiles: Vec<Profile> =
+            (0..made.below(3)).map(|_| Profile([0x10, 0x12, 0x13][made.below(3)])).collect();
+        let room = made.below(60);
+        let (mut loaded, mut other) = ([0; 60], [0; 60]);
+        let number = raw::load(&sheet, &features, &profiles, &mut loaded[..room], &mut []);
+        assert_eq!(refused(load(&sheet, &features, &profiles, &mut other[..room])), number);
+        let number = raw::load_columns(&columns, &features, &profiles, &mut loaded[..room], &mut []);
+        let made = load_columns(&columns, &features, &profiles, &mut other[..room]);
+        assert_eq!(refused(made), number);
+        // An accepted sheet stays accepted.
+        assert!(made.map_or(true, |made| Columns::check(made.bytes()).is_ok()));
+    }
+}
+
+#[test]
 fn the_box_with_an_image() {
     let made = &mut Made(4);
     for _ in 0..20_000 {

@@ -9,6 +9,7 @@ ghost use Rattle.layout.specs.declared.Layout.the-variants.{Rows, Columns};
 ghost use Rattle.layout.specs.Layout.{stored};
 ghost use Rattle.sheet.specs.Check.{verdict};
 ghost use Rattle.convert.specs.Convert.{converted};
+ghost use Rattle.load.specs.Load.{loading};
 ghost use Rattle.responder.specs.Answer.{answered};
 ghost use Rattle.responder.specs.Trusting.{trustingCommand};
 ghost use Rattle.reading.specs.Held.{heldOf};
@@ -215,6 +216,56 @@ pub extern "C" fn gcf_to_rows(sheet: &[u8], rows: &mut [u8], numbers: &mut [u64]
         ≡ showPlaced (converted Rows (stored Columns (now (sheet .entry))) (now (rows .entry))) (now (numbers .entry)) ⌝ }
 {
     convert_laid(Layout::Rows, Layout::Columns, sheet, rows, numbers)
+}
+
+// ---- a medium goes in
+
+// The two lists stand as C lends them: a slice of a declared type is none that the prover walks by itself, so that include/gcf.h alone has the two types here.
+fn load_laid(
+    lay: Layout,
+    sheet: &[u8],
+    features: &[u16],
+    profiles: &[u16],
+    out: &mut [u8],
+    numbers: &mut [u64],
+) -> u8
+    ensures { λ r. ⌜ left r (now (out .exit)) (now (numbers .exit))
+        ≡ showPlaced (loading (now (features .entry)) (now (profiles .entry)) (stored lay (now (sheet .entry))) (now (out .entry))) (now (numbers .entry)) ⌝ }
+{
+    let loaded = load::load(lay, sheet, features, profiles, out);
+    let fault = loaded.refusal;
+    tell2(numbers, loaded.count as u64, fault.place as u64);
+    fault.number
+}
+
+// The sheet as a medium leaves it that makes these features and these profiles current. Numbers: bytes of the sheet, the place of the profile or entry at fault.
+#[no_mangle]
+pub extern "C" fn gcf_load(
+    sheet: &[u8],
+    features: &[u16],
+    profiles: &[u16],
+    loaded: &mut [u8],
+    numbers: &mut [u64],
+) -> u8
+    ensures { λ r. ⌜ left r (now (loaded .exit)) (now (numbers .exit))
+        ≡ showPlaced (loading (now (features .entry)) (now (profiles .entry)) (stored Rows (now (sheet .entry))) (now (loaded .entry))) (now (numbers .entry)) ⌝ }
+{
+    load_laid(Layout::Rows, sheet, features, profiles, loaded, numbers)
+}
+
+// The same of a sheet in columns.
+#[no_mangle]
+pub extern "C" fn gcf_load_columns(
+    sheet: &[u8],
+    features: &[u16],
+    profiles: &[u16],
+    loaded: &mut [u8],
+    numbers: &mut [u64],
+) -> u8
+    ensures { λ r. ⌜ left r (now (loaded .exit)) (now (numbers .exit))
+        ≡ showPlaced (loading (now (features .entry)) (now (profiles .entry)) (stored Columns (now (sheet .entry))) (now (loaded .entry))) (now (numbers .entry)) ⌝ }
+{
+    load_laid(Layout::Columns, sheet, features, profiles, loaded, numbers)
 }
 
 // ---- the box with an image in place of a sheet

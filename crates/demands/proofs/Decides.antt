@@ -7,6 +7,7 @@ use Rattle.lent.proofs.Laws.{same}
 use Rattle.lent.proofs.Decides as lent-decides
 use Rattle.text.proofs.Decides as text-decides
 use Rattle.sheet.proofs.Decides as sheet-decides
+use Rattle.load.proofs.load as load
 use Rattle.reading.proofs.Decides as reading-decides
 use Rattle.lent.specs.Maker.{Outcome}
 use Rattle.fields.proofs.byte as byte
@@ -34,6 +35,7 @@ use Rattle.text.proofs.Command.read as command-read
 use Rattle.text.proofs.Header.new as header-new
 use Rattle.profiles.proofs.current as profiles-current
 use Rattle.profiles.proofs.fault as profiles-fault
+use Rattle.profiles.proofs.has as profiles-has
 use Rattle.layout.proofs.feature_count as feature-count
 use Rattle.layout.proofs.profile_count as profile-count
 use Rattle.layout.proofs.profiles_behind as profiles-behind
@@ -108,6 +110,8 @@ use Rattle.abi.proofs.gcf_check_profile as gcf-check-profile
 use Rattle.abi.proofs.gcf_import as gcf-import
 use Rattle.abi.proofs.gcf_to_rows as gcf-to-rows
 use Rattle.abi.proofs.gcf_to_columns as gcf-to-columns
+use Rattle.abi.proofs.gcf_load as gcf-load
+use Rattle.abi.proofs.gcf_load_columns as gcf-load-columns
 use Rattle.abi.proofs.gcf_make_sense as gcf-make-sense
 use Rattle.abi.proofs.gcf_read_sense as gcf-read-sense
 
@@ -196,6 +200,9 @@ profiles-current-decided x = decides (x .𝓤) (λ o o′ p q. ((λ i. record { 
 pub profiles-fault-decided : Decided profiles-fault.ended (λ M. profiles-fault.clauses) (λ M. profiles-fault.spec)
 profiles-fault-decided x = decides (x .𝓤) (λ o o′ p q. (joined p q, refl))
 
+pub profiles-has-decided : Decided profiles-has.ended (λ M. profiles-has.clauses) (λ M. profiles-has.spec)
+profiles-has-decided x = decides (x .𝓤) (λ o o′ p q. (joined p q, refl))
+
 -- ---- layout
 
 pub feature-count-decided : Decided feature-count.ended (λ M. feature-count.clauses) (λ M. feature-count.spec)
@@ -244,6 +251,11 @@ next-from-decided x = decides (x .𝓤) (λ o o′ p q. (joined p q, refl))
 
 pub check-decided : Decided check.ended (λ M. check.clauses) (λ M. check.spec)
 check-decided = sheet-decides.check-decided
+
+-- ---- load
+
+pub load-decided : Decided load.ended (λ M. load.clauses) (λ M. load.spec)
+load-decided x = decides (x .𝓤) (λ o o′ p q. (ap (λ (z : Outcome). z .made) (joined p q), refl & refl & refl & refl & ap (λ (z : Outcome). z .buffer) (joined p q) & refl))
 
 -- ---- convert
 
@@ -457,6 +469,12 @@ gcf-to-rows-decided x = decides (x .𝓤) (λ o o′ p q. (number (joined p q), 
 
 pub gcf-to-columns-decided : Decided gcf-to-columns.ended (λ M. gcf-to-columns.clauses) (λ M. gcf-to-columns.spec)
 gcf-to-columns-decided x = decides (x .𝓤) (λ o o′ p q. (number (joined p q), refl & buffers (joined p q) & numbers (joined p q) & refl))
+
+pub gcf-load-decided : Decided gcf-load.ended (λ M. gcf-load.clauses) (λ M. gcf-load.spec)
+gcf-load-decided x = decides (x .𝓤) (λ o o′ p q. (number (joined p q), refl & refl & refl & buffers (joined p q) & numbers (joined p q) & refl))
+
+pub gcf-load-columns-decided : Decided gcf-load-columns.ended (λ M. gcf-load-columns.clauses) (λ M. gcf-load-columns.spec)
+gcf-load-columns-decided x = decides (x .𝓤) (λ o o′ p q. (number (joined p q), refl & refl & refl & buffers (joined p q) & numbers (joined p q) & refl))
 
 pub gcf-make-sense-decided : Decided gcf-make-sense.ended (λ M. gcf-make-sense.clauses) (λ M. gcf-make-sense.spec)
 gcf-make-sense-decided x = decides (x .𝓤) (λ o o′ p q. (number (joined p q), refl & buffers (joined p q) & numbers (joined p q) & refl))

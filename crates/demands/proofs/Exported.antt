@@ -35,7 +35,10 @@ use Rattle.abi.proofs.gcf_check_profile as gcf-check-profile
 use Rattle.abi.proofs.gcf_import as gcf-import
 use Rattle.abi.proofs.gcf_to_columns as gcf-to-columns
 use Rattle.abi.proofs.gcf_to_rows as gcf-to-rows
+use Rattle.abi.proofs.gcf_load as gcf-load
+use Rattle.abi.proofs.gcf_load_columns as gcf-load-columns
 use Rattle.abi.proofs.gcf_make_sense as gcf-make-sense
+use Rattle.load.proofs.Promised.{Loads, loads-so}
 use Rattle.abi.proofs.gcf_read_sense as gcf-read-sense
 use Rattle.base.proofs.Promise.{Promised, promises, by, Shows, shows}
 use Rattle.reading.proofs.Promised.{Holds, holds}
@@ -168,6 +171,16 @@ gcf-to-columns-tied x = promises (x .𝓤) (λ o. shows _ (converts _ _ _))
 pub gcf-to-rows-tied : Promised gcf-to-rows.ended (λ M. gcf-to-rows.clauses) (λ M. gcf-to-rows.spec)
     (named (λ _ sheet rows numbers r _ rows′ numbers′. Shows (Converts Rows (stored Columns (now sheet)) (now rows)) (λ z. abi.showPlaced z (now numbers)) (left r rows′ numbers′)))
 gcf-to-rows-tied x = promises (x .𝓤) (λ o. shows _ (converts _ _ _))
+
+-- ---- loading
+
+pub gcf-load-tied : Promised gcf-load.ended (λ M. gcf-load.clauses) (λ M. gcf-load.spec)
+    (named (λ _ sheet features profiles loaded numbers r _ _ _ loaded′ numbers′. Shows (Loads (now features) (now profiles) (stored Rows (now sheet)) (now loaded)) (λ z. abi.showPlaced z (now numbers)) (left r loaded′ numbers′)))
+gcf-load-tied x = promises (x .𝓤) (λ o. shows _ (loads-so _ _ _ _))
+
+pub gcf-load-columns-tied : Promised gcf-load-columns.ended (λ M. gcf-load-columns.clauses) (λ M. gcf-load-columns.spec)
+    (named (λ _ sheet features profiles loaded numbers r _ _ _ loaded′ numbers′. Shows (Loads (now features) (now profiles) (stored Columns (now sheet)) (now loaded)) (λ z. abi.showPlaced z (now numbers)) (left r loaded′ numbers′)))
+gcf-load-columns-tied x = promises (x .𝓤) (λ o. shows _ (loads-so _ _ _ _))
 
 -- ---- sense
 

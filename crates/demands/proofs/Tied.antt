@@ -11,6 +11,8 @@ use Rattle.layout.specs.Layout.{stored}
 use Rattle.sheet.proofs.check as check
 use Rattle.lent.specs.Maker.{outcome}
 use Rattle.convert.proofs.convert as convert
+use Rattle.load.proofs.Promised.{Loads, loads-so}
+use Rattle.load.proofs.load as load
 use Rattle.responder.proofs.send as send
 use Rattle.responder.proofs.size as size
 use Rattle.responder.proofs.send_sized as send-sized
@@ -65,6 +67,12 @@ check-tied x = promises (x .𝓤) (λ o. by (Checks _) (checks _))
 pub convert-tied : Promised convert.ended (λ M. convert.clauses) (λ M. convert.spec)
     (named (λ _ to lay s out r _ _ _ out′. Converts to (stored lay (now s)) (now out) (outcome r out′)))
 convert-tied x = promises (x .𝓤) (λ o. by (Converts _ _ _) (converts _ _ _))
+
+-- ---- load
+
+pub load-tied : Promised load.ended (λ M. load.clauses) (λ M. load.spec)
+    (named (λ _ lay s features profiles out r _ _ _ _ out′. Loads (now features) (now profiles) (stored lay (now s)) (now out) (outcome r out′)))
+load-tied x = promises (x .𝓤) (λ o. by (Loads _ _ _ _) (loads-so _ _ _ _))
 
 -- ---- responder
 

@@ -1,2 +1,3 @@
 pub mod Recorder
 pub mod Star
+pub mod Across

@@ -2,7 +2,7 @@
 ghost use mathlib.Core.Path.{_≡_};
 ghost use Prim.Native.Nat.{_+_, _*_, _≤_, _<_};
 ghost use mathlib.Core.List.{[], _∷_, _++_};
-ghost use lib.ListN.{length, getD, take, drop};
+ghost use lib.ListN.{length, getD, set, take, drop};
 ghost use Rattle.fields.specs.Field.{spell};
 ghost use Rattle.fields.specs.Part.{PartOf};
 ghost use Rattle.lent.specs.Wrote.{Wrote};
@@ -207,6 +207,16 @@ pub fn put_counts(out: &mut [u8], features: u16, profiles: u16) -> usize
 {
     let second = lent::put2(out, 0, features);
     lent::put2(out, second, profiles)
+}
+
+// Sets the flags of entry i of n in a lent sheet.
+// Asks: an index of the entries, and a sheet that has them all; whoever changes a sheet has checked it.
+pub fn set_flags(out: &mut [u8], lay: Layout, n: u16, i: u16, flags: Flags)
+    requires { ⌜ (i < n) × (profilesBehind n ≤ length (now out)) ⌝ }
+    ensures { λ _. ⌜ now (out .exit) ≡ set (now (out .entry)) (flagsPlace lay n i) (flags .0) ⌝ }
+{
+    let at = flags_place(lay, n, i);
+    out[at] = flags.0;
 }
 
 // Which bytes of an entry are written: all in a row, or one field for its column.

@@ -134,3 +134,10 @@ pub fn current(b: &[u8]) -> Profile
     }
     Profile(0)
 }
+
+// Whether a record has this number.
+pub fn has(b: &[u8], number: Profile) -> bool
+    ensures { λ r. ⌜ r ≡ lists (number .0) (now (b .entry)) 0 (length (now (b .entry)) / 4) ⌝ }
+{
+    listed(b, number, b.len() / 4)
+}

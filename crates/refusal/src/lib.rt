@@ -269,6 +269,22 @@ pub const SENSE_OTHER: Refusal = Refusal {
     place: 0,
 };
 
+// The refusals of loading a medium.
+pub const LIST_ORDER: Refusal = Refusal {
+    number: 51,
+    place: 0,
+};
+
+pub const SHEET_LACKS: Refusal = Refusal {
+    number: 52,
+    place: 0,
+};
+
+pub const LOADED_SHORT: Refusal = Refusal {
+    number: 53,
+    place: 0,
+};
+
 pub const NOT_GIVEN: Refusal = Refusal {
     number: 54,
     place: 0,

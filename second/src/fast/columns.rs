@@ -11,10 +11,10 @@ use crate::refusal::Refusal;
 
 /// A sheet's parts, and its contents' four columns.
 #[derive(Clone, Copy)]
-struct Columns<'a> {
-    parts: Parts<'a>,
-    numbers: &'a [u8],
-    flags: &'a [u8],
+pub(super) struct Columns<'a> {
+    pub parts: Parts<'a>,
+    pub numbers: &'a [u8],
+    pub flags: &'a [u8],
     lengths: &'a [u8],
     offsets: &'a [u8],
 }
@@ -67,7 +67,7 @@ pub fn check(bytes: &[u8]) -> Result<(), Refusal> {
 }
 
 /// Checks a sheet; gives its columns.
-fn accept(bytes: &[u8]) -> Result<Columns<'_>, Refusal> {
+pub(super) fn accept(bytes: &[u8]) -> Result<Columns<'_>, Refusal> {
     let columns = Columns::of(bytes).ok_or(SHEET_SHORT)?;
     if columns.parts.profiles.len() > PROFILE_BYTES * PROFILES_MOST {
         return Err(PROFILE_COUNT.into());

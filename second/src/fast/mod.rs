@@ -9,6 +9,7 @@ pub mod checks;
 pub mod columns;
 pub mod command;
 pub mod import;
+pub mod load;
 pub mod reading;
 pub mod rom;
 pub mod sheet;

@@ -5,6 +5,7 @@ mod cross;
 mod fast;
 mod fewest;
 mod import;
+mod load;
 mod places;
 mod refusals;
 mod rom;

@@ -15,9 +15,11 @@ use second::fast::checks::{check_descriptors, check_profile};
 use second::fast::columns;
 use second::fast::command::{respond, respond_checked};
 use second::fast::import::import;
+use second::fast::load::{load, load_columns};
 use second::fast::reading::read;
 use second::fast::rom;
 use second::fast::sheet::check;
+use second::refusal::Refusal;
 use second::sheet::Layout;
 use second::wire::{Feature, Profile};
 
@@ -29,6 +31,10 @@ const USAGE: &str = "usage: benchmarks [--rounds N] [--milliseconds N] [--only W
 /// Answers a command from a sheet that was accepted before: the exported function of a layout, and the plain Rust for it.
 type Proved = fn(&[u8], &[u8], &mut [u8], &mut [u64]) -> u8;
 type Plain = fn(&[u8], &[u8], &mut [u8]) -> Result<usize, u8>;
+
+/// Loads a medium: likewise.
+type ProvedLoad = fn(&[u8], &[gcf::Feature], &[gcf::Profile], &mut [u8], &mut [u64]) -> u8;
+type PlainLoad = fn(&[u8], &[Feature], &[Profile], &mut [u8]) -> Result<usize, Refusal>;
 
 /// What the command line asks for.
 struct Run {
@@ -53,6 +59,7 @@ fn main() {
     readings(&run);
     sweeps(&run);
     sheets_in_columns(&run);
+    media(&run);
     checks_of_responses(&run);
     imports(&run);
 }
@@ -444,6 +451,49 @@ fn time_sweep_in_columns(run: &Run, sheet: &[u8], rt: u8, allocation: u16, bytes
             outcome.map_or(0, |outcome| outcome.commands)
         }),
     });
+}
+
+/// Media loaded: into sheet E, into 63 profiles, and into 65,535 features, of which all, each second and none are listed.
+fn media(run: &Run) {
+    let (every, profiles) = (every_feature(), many_profiles());
+    let current: Vec<u16> = (1..=63).collect();
+    time_load(run, "a medium into sheet E", &E, &[0x1F], &[0x12]);
+    time_load(run, "a medium into 63 profiles", &profiles, &[], &current);
+    for (name, step) in [("all", 1), ("each second one", 2), ("none", 65_536)] {
+        let listed: Vec<u16> = (1..=65_535).step_by(step).skip(step / 65_536).collect();
+        time_load(run, &format!("a medium into 65,535 features, {name} listed"), &every, &listed, &[1]);
+    }
+}
+
+/// Times a loading in both layouts.
+fn time_load(run: &Run, name: &str, rows: &[u8], features: &[u16], profiles: &[u16]) {
+    let sides: [(&str, Layout, ProvedLoad, PlainLoad); 2] = [
+        ("", Layout::Rows, raw::load, load),
+        (", in columns", Layout::Columns, raw::load_columns, load_columns),
+    ];
+    let (proved_features, proved_profiles): (Vec<_>, Vec<_>) = (
+        features.iter().map(|&number| gcf::Feature(number)).collect(),
+        profiles.iter().map(|&number| gcf::Profile(number)).collect(),
+    );
+    let (plain_features, plain_profiles): (Vec<_>, Vec<_>) = (
+        features.iter().map(|&number| Feature(number)).collect(),
+        profiles.iter().map(|&number| Profile(number)).collect(),
+    );
+    for (where_it_stands, layout, proved, plain) in sides {
+        run.time(Case {
+            name: format!("{name}{where_it_stands}"),
+            input: &rearranged(layout, Layout::Rows, rows),
+            room: rows.len(),
+            bytes: rows.len(),
+            pieces: None,
+            proved: Box::new(|sheet, out| {
+                let mut numbers = [0; 2];
+                let answer = proved(sheet, &proved_features, &proved_profiles, out, &mut numbers);
+                usize::from(answer) + numbers[0] as usize
+            }),
+            plain: Box::new(|sheet, out| plain(sheet, &plain_features, &plain_profiles, out).unwrap_or(0)),
+        });
+    }
 }
 
 /// How many bytes a sweep collects from a sheet.

@@ -98,6 +98,13 @@ fn proved(case: &Case, out: &mut [u8]) -> Option<Numbers> {
         ("accepted", Layout::Columns) => raw::respond_columns_accepted(first, second, out, told),
         ("convert", Layout::Rows) => raw::to_columns(first, out, told),
         ("convert", Layout::Columns) => raw::to_rows(first, out, told),
+        ("load", laid) => {
+            let (features, profiles) = lists(second, given[1]);
+            let features: Vec<_> = features.into_iter().map(gcf::Feature).collect();
+            let profiles: Vec<_> = profiles.into_iter().map(gcf::Profile).collect();
+            let load = if laid == Layout::Rows { raw::load } else { raw::load_columns };
+            load(first, &features, &profiles, out, told)
+        }
         ("import", _) => raw::import(first, out, told),
         ("read", _) => raw::read(given[0] as u8, gcf::Feature(given[1] as u16), first, told),
         ("descriptors", _) => raw::check_descriptors(first, told),
@@ -129,6 +136,14 @@ fn proved(case: &Case, out: &mut [u8]) -> Option<Numbers> {
     Some(with(number, &numbers))
 }
 
+/// The features of a medium, so many of the numbers that bytes hold, and its profiles, the others.
+fn lists(bytes: &[u8], features: u64) -> (Vec<u16>, Vec<u16>) {
+    let mut numbers: Vec<u16> =
+        bytes.chunks_exact(2).map(|number| u16::from_be_bytes([number[0], number[1]])).collect();
+    let profiles = numbers.split_off(numbers.len().min(features as usize));
+    (numbers, profiles)
+}
+
 /// A count alone.
 fn one(count: usize) -> Numbers {
     [count as u64, 0, 0, 0, 0, 0, 0, 0]
@@ -157,6 +172,12 @@ fn plain(case: &Case, out: &mut [u8]) -> Option<Numbers> {
         "convert" => {
             let to = if laid == Layout::Rows { Layout::Columns } else { Layout::Rows };
             counted(second::convert::convert(to, laid, first, out))
+        }
+        "load" => {
+            let (features, profiles) = lists(second, given[1]);
+            let features: Vec<_> = features.into_iter().map(Feature).collect();
+            let profiles: Vec<_> = profiles.into_iter().map(Profile).collect();
+            counted(second::load::load(laid, first, &features, &profiles, out))
         }
         "import" => counted(second::import::import(first, out)),
         "read" => {

@@ -30,6 +30,7 @@
 //! respond C | SHEET | COMMAND = refusal, count, place
 //! accepted C | SHEET | COMMAND = refusal, count: the same with no check of the sheet
 //! convert C | SHEET = refusal, count, place: to the other layout
+//! load C N | SHEET | NUMBERS = refusal, count, place: N features of a medium, two bytes each, then its profiles
 //! import | RESPONSE = refusal, count, place
 //! read RT SFN | RESPONSE = refusal, profile, Data Length, whole descriptors, the place behind the last, 1 if complete
 //! held FEATURE | FRESH | KEPT = count; the descriptor is copied to the buffer

@@ -12,6 +12,7 @@ mod held;
 mod images;
 mod import;
 mod list;
+mod load;
 mod make_sense;
 mod most;
 mod read;
@@ -43,6 +44,8 @@ pub const KINDS: &[Kind] = &[
     respond_accepted::COLUMNS,
     convert::TO_COLUMNS,
     convert::TO_ROWS,
+    load::ROWS,
+    load::COLUMNS,
     check_image::KIND,
     respond_image::KIND,
     respond_image_accepted::KIND,

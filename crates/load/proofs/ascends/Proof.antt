@@ -1,0 +1,33 @@
+-- `load::ascends` meets its contract: the loop carries what is left of the list, from the number before on.
+use Prim.Native.Nat.{_-_, _≤_}
+use mathlib.Core.Path.{_≡_}
+use native.Mathlib.Omega.{arith}
+use lib.ListN.{length, drop}
+use Rattle.load.specs.Load.{ascends}
+use Rattle.load.proofs.Numbers.{ascends-not, ascends-on, ascends-over}
+use borrow.Author.Needs.{needs}
+use Rattle.load.proofs.ascends.Statement.{statement}
+use Rattle.load.proofs.ascends.Tie as tie
+
+abbrev Inv-loop : tie.InvT-loop
+Inv-loop list i₀ i = (1 ≤ i) × (ascends list ≡ ascends (drop (i - 1) list))
+
+abbrev μ-loop : tie.MeasureT-loop
+μ-loop list i₀ i = length list - i
+
+loop-holds : tie.Need-loop-holds Inv-loop μ-loop
+loop-holds c = (omega arith, search needs)
+
+returns : tie.Need-returns Inv-loop μ-loop
+returns c = search ascends-not
+
+loop-again : tie.Need-loop-again Inv-loop μ-loop
+loop-again c = (omega arith, search ascends-on)
+
+returns-2 : tie.Need-returns-2 Inv-loop μ-loop
+returns-2 c = search ascends-over
+
+pub ascends-spec : {M : Type 1} → statement M
+ascends-spec =
+    tie.close
+    (tie.spec Inv-loop μ-loop loop-holds (λ c. search needs) (λ c. search needs) (λ c. search needs) (λ c. search needs) (λ c. search needs) returns (λ c. search needs) (λ c. search needs) loop-again returns-2)

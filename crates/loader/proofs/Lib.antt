@@ -1,0 +1,2 @@
+-- Laws that this crate's proofs cite.
+pub mod Whole
