@@ -145,23 +145,25 @@ run_it() { # FILE [WORD..]
     "${archive_run[@]}" "$@"
 }
 
-# Builds a program of second/against, which calls the archive, by the bindings, and the second program: AGAINST/NAME. What it stands on is built once for each
-# stamp, one at a time.
+# Builds a program of second/against, which calls the archive, by the bindings, and the second program: AGAINST/NAME. It, and what it stands on, is built once for
+# each stamp, one at a time.
 build_against() { # NAME
     AGAINST=${ARCHIVE%/*}/against
-    local words=(--extern "second=$AGAINST/libsecond.rlib" --extern "gcf=$AGAINST/libgcf.rlib")
     mkdir -p "$AGAINST" || return 1
     (
         flock 6 || exit 1
+        words=(--extern "second=$AGAINST/libsecond.rlib" --extern "gcf=$AGAINST/libgcf.rlib")
         stamp=$({ "${archive_rust[@]}" --version && find "$ARCHIVE" second/src second/against/src bindings/rust/src -type f -print0 | sort -z | xargs -0 sha256sum; } | sha256sum)
-        [ "$stamp" != "$(cat "$AGAINST/stamp" 2>/dev/null)" ] || exit 0
-        rm -f "$AGAINST/stamp"
-        archive_rust_to "$AGAINST" second rlib second/src/lib.rs &&
-            archive_rust_to "$AGAINST" gcf rlib bindings/rust/src/lib.rs &&
-            archive_rust_to "$AGAINST" against rlib second/against/src/lib.rs "${words[@]}" &&
-            printf '%s\n' "$stamp" >"$AGAINST/stamp"
-    ) 6>"$AGAINST/lock" &&
-        archive_rust_to "$AGAINST" "$1" bin "second/against/src/bin/$1.rs" "${words[@]}" --extern "against=$AGAINST/libagainst.rlib"
+        if [ "$stamp" != "$(cat "$AGAINST/stamp" 2>/dev/null)" ]; then
+            rm -f "$AGAINST"/*stamp
+            archive_rust_to "$AGAINST" second rlib second/src/lib.rs &&
+                archive_rust_to "$AGAINST" gcf rlib bindings/rust/src/lib.rs &&
+                archive_rust_to "$AGAINST" against rlib second/against/src/lib.rs "${words[@]}" &&
+                printf '%s\n' "$stamp" >"$AGAINST/stamp" || exit 1
+        fi
+        [ ! -f "$AGAINST/$1.stamp" ] || exit 0
+        archive_rust_to "$AGAINST" "$1" bin "second/against/src/bin/$1.rs" "${words[@]}" --extern "against=$AGAINST/libagainst.rlib" && : >"$AGAINST/$1.stamp"
+    ) 6>"$AGAINST/lock"
 }
 
 archive_rust_to() { # FOLDER NAME KIND FILE [WORD..]

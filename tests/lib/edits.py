@@ -15,12 +15,13 @@ from tree import crates, exists, text_of
 class Edit:
     """An .edit file: its replacements, and the wrong answers that they make: each a function, where it is refused, and what is wrong with it, from the
     lines `# CRATE::FN: ..`, refused in the function's own proof, or `# CRATE::FN, in PLACE: ..`, refused in the proof of the function PLACE, which it
-    calls, or at the theorem PLACE. One file may hold several with different places: then one check of the crate refuses them all."""
+    calls, at the theorem PLACE, or, where PLACE is FN/NEED, at that need in a function's proof, as `returns-2`, what its second way out needs. One file may
+    hold several with different places: then one check of the crate refuses them all."""
 
     def __init__(self, path):
         self.path, self.crate, self.label = path, path.parts[1], path.stem
         lines = text_of(path).splitlines()
-        heads = [head.groups() for line in lines if (head := re.match(r"# ([\w:]+)(?:, in ([\w:-]+))?: (.+)$", line))]
+        heads = [head.groups() for line in lines if (head := re.match(r"# ([\w:]+)(?:, in ([\w:/-]+))?: (.+)$", line))]
         self.answers = [(about, place or about.split("::", 1)[-1], what) for about, place, what in heads]
         self.pairs = replacements(lines)
 
@@ -47,8 +48,8 @@ class Edit:
         return self.declares("specs", about.split("::")[-1])
 
     def has_place(self, place):
-        """A function of its crate, a definition or a theorem."""
-        return self.is_about(f"{self.crate}::{place}") or self.declares("proofs", place)
+        """A function of its crate or a need of its proof, a definition or a theorem."""
+        return self.is_about(f"{self.crate}::{place.split('/')[0]}") or self.declares("proofs", place)
 
     def declares(self, folder, name):
         files = Path(f"crates/{self.crate}/{folder}").glob("**/*.antt")
@@ -137,9 +138,12 @@ def refusal_wrong(edit):
 
 
 def refused_at(path, errors, log):
-    """Whether a function's own proof was refused, and not just that of a function that it calls; or a theorem of that name."""
+    """Whether a function's own proof was refused, and not just that of a function that it calls, or one need of it; or a theorem of that name."""
     name = path.split("::", 1)[1]
-    own = "proofs/" + name.replace("::", "/") + "/"
+    function, _, need = name.partition("/")
+    own = "proofs/" + function.replace("::", "/") + "/"
+    if need:
+        return re.search(rf"^\S+/{own}\S+?:\d+:\d+: error(?:\[[\w-]+\])?: `{re.escape(need)}`: ", log, re.M)
     if any(place.startswith(own) for place, _ in errors) or re.search(rf"^fn {path}: no proof: .*`search` does not close", log, re.M):
         return True
     return re.search(rf"^\S+/proofs/\S+?:\d+:\d+: error(?:\[[\w-]+\])?: `{re.escape(name)}`: ", log, re.M)

@@ -8,10 +8,11 @@ use against::kinds::KINDS;
 use against::random::Random;
 use against::run::{Kind, Run};
 
-const USAGE: &str = "usage: differential [--seed N] [--seconds N] [--only NAME]
+const USAGE: &str = "usage: differential [--seed N] [--seconds N] [--only NAME] [--part K/N]
   --seed N      the seed of the made-up cases (1 if not given)
   --seconds N   how long made-up cases are tried behind the fixed ones (90 if not given; 0: without end)
-  --only NAME   only the function of this name, as gcf_read";
+  --only NAME   only the function of this name, as gcf_read
+  --part K/N    only every N-th function, from the K-th on: N runs, side by side, try them all";
 
 /// Answers of more kinds than this are counted, not listed.
 const LISTED_MOST: usize = 24;
@@ -21,6 +22,7 @@ struct Options {
     seed: u64,
     seconds: u64,
     only: Option<String>,
+    part: (usize, usize),
 }
 
 fn main() {
@@ -32,7 +34,8 @@ fn main() {
         }
     };
     let wanted = |kind: &&Kind| options.only.as_ref().map_or(true, |only| only == kind.name);
-    let kinds: Vec<&Kind> = KINDS.iter().filter(wanted).collect();
+    let (first, step) = options.part;
+    let kinds: Vec<&Kind> = KINDS.iter().skip(first - 1).step_by(step).filter(wanted).collect();
     if kinds.is_empty() {
         eprintln!("{USAGE}");
         exit(2);
@@ -47,17 +50,25 @@ fn main() {
 
 /// Reads the command line; none if it is not understood.
 fn options(words: &mut dyn Iterator<Item = String>) -> Option<Options> {
-    let mut options = Options { seed: 1, seconds: 90, only: None };
+    let mut options = Options { seed: 1, seconds: 90, only: None, part: (1, 1) };
     while let Some(word) = words.next() {
         let value = words.next()?;
         match word.as_str() {
             "--seed" => options.seed = value.parse().ok()?,
             "--seconds" => options.seconds = value.parse().ok()?,
             "--only" => options.only = Some(value),
+            "--part" => options.part = part(&value)?,
             _ => return None,
         }
     }
     Some(options)
+}
+
+/// K and N of `K/N`, where K is 1 to N.
+fn part(value: &str) -> Option<(usize, usize)> {
+    let (first, step) = value.split_once('/')?;
+    let (first, step) = (first.parse().ok()?, step.parse().ok()?);
+    (1..=step).contains(&first).then(|| (first, step))
 }
 
 /// Tries the fixed cases of every kind.
