@@ -37,16 +37,17 @@ static int refused(const char *what, uint8_t number)
     return 1;
 }
 
-/* A transport would carry the command to the box and its answer back; here the box is a call away. Gives the number and the bytes sent. */
+/* A transport would carry the packet to the box and its answer back; here the box is a call away. Gives the number and the bytes sent. */
 static uint8_t ask(uint8_t rt, gcf_feature sfn, uint16_t allocation, uint8_t *response, size_t room, size_t *sent)
 {
-    const uint8_t command[GCF_COMMAND_BYTES] = {
-        0x46, rt, (uint8_t)(sfn.number >> 8), (uint8_t)sfn.number, 0, 0, 0, (uint8_t)(allocation >> 8), (uint8_t)allocation, 0,
-    };
-    uint64_t numbers[1];
-    uint8_t number = gcf_respond_accepted(sheet, sizeof sheet, command, sizeof command, response, room, numbers, 1);
+    uint8_t command[GCF_PACKET_BYTES];
+    uint64_t count;
+    uint8_t number = gcf_build_command(sizeof command, rt, sfn, allocation, command, sizeof command, &count, 1);
 
-    *sent = (size_t)numbers[0];
+    if (number == GCF_ACCEPTED) {
+        number = gcf_respond_accepted(sheet, sizeof sheet, command, sizeof command, response, room, &count, 1);
+    }
+    *sent = (size_t)count;
     return number;
 }
 

@@ -25,7 +25,7 @@
 #include <stdint.h>
 
 /* The version, and its only place: all else that tells it takes it from here. docs/CHANGES.md says what each one brought. */
-#define GCF_VERSION "0.11.0"
+#define GCF_VERSION "0.12.0"
 
 #if SIZE_MAX != UINT64_MAX
 #error "gcf.h: size_t has not 64 bits here, and the functions of libgcf.a take every length and count as 64 bits. There is no libgcf.a for such a target."
@@ -131,13 +131,14 @@ enum gcf_number {
 /* What sense data says of a command. None is 0, which stands where sense data is refused. */
 enum gcf_kind {
     GCF_KIND_NOTHING = 1,   /* the command was accepted */
-    GCF_KIND_OPERATION = 2, /* it is no GET CONFIGURATION of 10 bytes */
+    GCF_KIND_OPERATION = 2, /* it is no GET CONFIGURATION of 10 or 12 bytes */
     GCF_KIND_FIELD = 3,     /* RT 3 */
     GCF_KIND_TROUBLE = 4    /* the box's own trouble: its sheet or its image, or its response buffer */
 };
 
 /* Sizes that are always enough. */
 #define GCF_COMMAND_BYTES 10
+#define GCF_PACKET_BYTES 12      /* the same command with its two pads, as ATAPI sends it */
 #define GCF_HEADER_BYTES 8
 #define GCF_DESCRIPTOR_MOST 256  /* one descriptor */
 #define GCF_RESPONSE_MOST 65534  /* one response */
@@ -257,6 +258,16 @@ uint8_t gcf_respond_image_accepted(const uint8_t *image, size_t image_bytes,
                                    uint64_t *numbers, size_t numbers_count);
 
 /* ---- the driver */
+
+/*
+ * Makes the command that asks for Requested Type rt from feature sfn on with this allocation length, every other bit 0. It has length bytes, GCF_COMMAND_BYTES
+ * or GCF_PACKET_BYTES: 9 for another length, then 11 for RT over 2, then 12 for a shorter buffer. Accepted: it stands at the front of the buffer, and only its
+ * bytes changed; a box takes it for exactly those three. Refused: nothing changed.
+ * numbers: bytes written.
+ */
+uint8_t gcf_build_command(size_t length, uint8_t rt, gcf_feature sfn, uint16_t allocation,
+                          uint8_t *command, size_t command_bytes,
+                          uint64_t *numbers, size_t numbers_count);
 
 /*
  * Reads a response to Requested Type rt from feature sfn on: 13 to 20.

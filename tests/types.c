@@ -1,9 +1,12 @@
 /*
  * Every place of the header that wants a feature or a profile number. tests/c-example compiles it as it stands, and sees to it that a compiler refuses
- * it as soon as one of the five places gets the other kind, or a plain number, and one of the two lists of a medium the other list, or one of plain numbers.
+ * it as soon as one of the places gets the other kind, or a plain number, and one of the two lists of a medium the other list, or one of plain numbers.
  */
 #include "../include/gcf.h"
 
+#ifndef BUILD
+#define BUILD gcf_feature_of(0x0000)
+#endif
 #ifndef READ
 #define READ gcf_feature_of(0x0000)
 #endif
@@ -40,6 +43,7 @@ int main(void)
     (void)features;
     (void)profiles;
     (void)plain;
+    gcf_build_command(GCF_PACKET_BYTES, 0, BUILD, 44, buffer, sizeof buffer, numbers, 6);
     gcf_read(0, READ, bytes, sizeof bytes, numbers, 6);
     gcf_held(HELD, bytes, sizeof bytes, bytes, sizeof bytes, buffer, sizeof buffer);
     sweep.next = TAKE;

@@ -27,7 +27,7 @@ pub struct Request {
 impl Request {
     /// Reads a command; gives the request, or the first of 9 to 11 that refuses it.
     pub fn parse(command: &[u8]) -> Result<Request, u8> {
-        if command.len() != COMMAND_BYTES {
+        if !is_command_length(command.len()) {
             return Err(COMMAND_LENGTH);
         }
         if byte(command, 0) != OPCODE {
@@ -46,6 +46,26 @@ impl Request {
         let [high, low] = self.allocation.to_be_bytes();
         [OPCODE, self.rt & 0x03, sfn_high, sfn_low, 0, 0, 0, high, low, 0]
     }
+
+    /// Writes the command of so many bytes to the front of a buffer; gives their count, or the first of 9, 11 and 12.
+    pub fn build(self, length: usize, out: &mut [u8]) -> Result<usize, u8> {
+        if !is_command_length(length) {
+            return Err(COMMAND_LENGTH);
+        }
+        if self.rt >= RT_RESERVED {
+            return Err(COMMAND_RT);
+        }
+        let room = out.get_mut(..length).ok_or(BUFFER_SHORT)?;
+        let (command, pads) = room.split_at_mut(COMMAND_BYTES);
+        command.copy_from_slice(&self.bytes());
+        pads.fill(0);
+        Ok(length)
+    }
+}
+
+/// Whether a command can have so many bytes.
+fn is_command_length(length: usize) -> bool {
+    length == COMMAND_BYTES || length == PACKET_BYTES
 }
 
 /// The most bytes a response can have for an allocation length; the paper calls it C.

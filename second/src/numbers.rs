@@ -22,7 +22,7 @@ pub const BODY_OFFSET: u8 = 7;
 pub const SHEET_END: u8 = 8;
 
 // The command.
-/// Command not 10 bytes.
+/// Command of neither 10 nor 12 bytes.
 pub const COMMAND_LENGTH: u8 = 9;
 /// Byte 0 not 46h.
 pub const COMMAND_OPCODE: u8 = 10;
@@ -132,6 +132,8 @@ pub const SENSE_BUFFER_SHORT: u8 = 55;
 pub const OPCODE: u8 = 0x46;
 /// Bytes in a command.
 pub const COMMAND_BYTES: usize = 10;
+/// A command in an ATAPI packet, with its two pads.
+pub const PACKET_BYTES: usize = 12;
 /// Bytes in a response's header.
 pub const HEADER_BYTES: usize = 8;
 /// Bytes in a descriptor before its body.

@@ -30,6 +30,7 @@ ORIGINS = {
     "named": "crates/demands/proofs/Named.antt",
     "met": "crates/demands/proofs/Named.antt",
     "saying": "crates/demands/proofs/Named.antt",
+    "Twice": "crates/demands/proofs/Packets.antt",
 }
 
 
@@ -134,6 +135,9 @@ def named(found):
     """Each call that a statement speaks of has the names of its function's head, and no part of it is taken by its place."""
     functions = {alias: by_module().get(module) for alias, module in antt.imports(found.file)[1].items()}
     outcomes = dict(re.findall(r"\((\S+) : Outcome (\S+)\.ended ", found.statement))
+    for alias, one, other in re.findall(r"^Twice (\S+)\.ended \(λ M\. \S+\) \(λ x (\S+) y (\S+)\. ", found.statement):
+        from_its_file(found, "Twice")
+        outcomes |= {one: alias, other: alias}
     for outcome, names in re.findall(r"saying (?:\([^()]*\)|\S+) (\S+) \(λ _ ([^.]*)\.", found.statement):
         from_its_file(found, "saying")
         in_order(found, functions.get(outcomes.get(outcome)), names.split(), False)

@@ -1,6 +1,6 @@
-//! The driver: reading a response, sweeping a drive, checking what it says.
+//! The driver: making a command, reading a response, sweeping a drive, checking what it says.
 
-use crate::{accepted, raw, Feature, Number, Profile, DESCRIPTOR_MOST};
+use crate::{accepted, raw, Feature, Number, Profile, COMMAND_BYTES, DESCRIPTOR_MOST, PACKET_BYTES};
 
 /// The Requested Type of a command.
 #[derive(Clone, Copy, Debug, PartialEq, Eq, Hash)]
@@ -12,6 +12,42 @@ pub enum Rt {
     Current = 1,
     /// The one feature that is named.
     One = 2,
+}
+
+/// The command that asks for `rt` from feature `sfn` on with this allocation length, all other bits 0: `gcf_build_command`.
+///
+/// ```
+/// use gcf::{Feature, Rt};
+///
+/// assert_eq!(gcf::command(Rt::Current, Feature(0x0105), 300), [0x46, 1, 1, 5, 0, 0, 0, 1, 44, 0]);
+/// ```
+pub fn command(rt: Rt, sfn: Feature, allocation: u16) -> [u8; COMMAND_BYTES] {
+    built(rt as u8, sfn, allocation)
+}
+
+/// The same in an ATAPI packet, with two pads behind it. A box answers both alike.
+///
+/// ```
+/// use gcf::{Feature, Rt};
+///
+/// assert_eq!(gcf::packet(Rt::One, Feature(3), 65_534), [0x46, 2, 0, 3, 0, 0, 0, 0xFF, 0xFE, 0, 0, 0]);
+/// ```
+///
+/// A profile number is no start.
+///
+/// ```compile_fail
+/// gcf::packet(gcf::Rt::All, gcf::Profile(0x0010), 300);
+/// ```
+pub fn packet(rt: Rt, sfn: Feature, allocation: u16) -> [u8; PACKET_BYTES] {
+    built(rt as u8, sfn, allocation)
+}
+
+/// Nothing is refused: the two above and a sweep have one of the two lengths, room for it, and an RT of at most 2.
+fn built<const LENGTH: usize>(rt: u8, sfn: Feature, allocation: u16) -> [u8; LENGTH] {
+    let mut command = [0; LENGTH];
+    let number = raw::build_command(LENGTH, rt, sfn, allocation, &mut command, &mut []);
+    debug_assert_eq!(number, 0);
+    command
 }
 
 /// What a response holds.
@@ -104,10 +140,18 @@ impl Sweep {
     }
 
     /// The command to send next, while the sweep has not ended. Receive at most [`most`](crate::most) bytes.
-    pub fn command(&self) -> [u8; 10] {
-        let ([sfn_high, sfn_low], [high, low]) =
-            (self.0.next.0.to_be_bytes(), self.0.allocation.to_be_bytes());
-        [0x46, self.0.rt, sfn_high, sfn_low, 0, 0, 0, high, low, 0]
+    pub fn command(&self) -> [u8; COMMAND_BYTES] {
+        built(self.0.rt, self.0.next, self.0.allocation)
+    }
+
+    /// The same in an ATAPI packet.
+    ///
+    /// ```
+    /// let sweep = gcf::Sweep::start(gcf::Rt::Current, 20).unwrap();
+    /// assert_eq!(sweep.packet(), [0x46, 1, 0, 0, 0, 0, 0, 0, 20, 0, 0, 0]);
+    /// ```
+    pub fn packet(&self) -> [u8; PACKET_BYTES] {
+        built(self.0.rt, self.0.next, self.0.allocation)
     }
 
     /// Takes the response to that command, exactly the bytes received: `gcf_sweep_take`. The whole descriptors are added to the

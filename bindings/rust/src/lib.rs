@@ -11,7 +11,7 @@
 //!
 //! let sheet = Sheet::check(&gcf::SHEET_E).unwrap();
 //! let mut response = [0; 44];
-//! let sent = sheet.respond(&[0x46, 0, 0, 0, 0, 0, 0, 0, 44, 0], &mut response).unwrap();
+//! let sent = sheet.respond(&[0x46, 0, 0, 0, 0, 0, 0, 0, 44, 0], &mut response).unwrap(); // 10 bytes, or 12 in a packet
 //! assert_eq!(sent[..8], [0, 0, 0, 40, 0, 0, 0, 0x12]);
 //! assert_eq!(sheet.respond(&[0x46, 3, 0, 0, 0, 0, 0, 0, 44, 0], &mut response), Err(Number::RtReserved));
 //! ```
@@ -21,7 +21,7 @@
 //! ```
 //! let image = gcf::Image::check(&gcf::IMAGE_E).unwrap();
 //! let mut response = [0; 44];
-//! let sent = image.respond(&[0x46, 0, 0, 0, 0, 0, 0, 0, 44, 0], &mut response).unwrap();
+//! let sent = image.respond(&gcf::packet(gcf::Rt::All, gcf::Feature(0), 44), &mut response).unwrap();
 //! assert_eq!(sent, gcf::IMAGE_E);
 //! ```
 //!
@@ -59,7 +59,8 @@ mod sense;
 pub use columns::{bench_columns, respond_columns, to_columns, to_rows, Columns};
 pub use drive::{bench, import, most, respond, Line, Refused, Sheet, Swept};
 pub use driver::{
-    check_descriptors, check_profile, held, list, read, Finding, Judgement, Reading, Rt, Sweep,
+    check_descriptors, check_profile, command, held, list, packet, read, Finding, Judgement, Reading, Rt,
+    Sweep,
 };
 pub use image::{respond_image, Image};
 pub use medium::{load, load_columns};
@@ -80,6 +81,10 @@ pub struct Feature(pub u16);
 #[derive(Clone, Copy, Debug, PartialEq, Eq, PartialOrd, Ord, Hash)]
 pub struct Profile(pub u16);
 
+/// A command.
+pub const COMMAND_BYTES: usize = 10;
+/// The same command with its two pads, as ATAPI sends it.
+pub const PACKET_BYTES: usize = 12;
 /// One descriptor has at most so many bytes.
 pub const DESCRIPTOR_MOST: usize = 256;
 /// One response has at most so many bytes.

@@ -49,7 +49,7 @@ numbers! {
     OffsetBad = 7,
     /// The sheet does not end where the last body ends.
     SheetLong = 8,
-    /// The command has not 10 bytes.
+    /// The command has neither 10 nor 12 bytes.
     CommandLength = 9,
     /// The command's first byte is not 46h.
     OpcodeOther = 10,

@@ -144,6 +144,16 @@ extern "C" {
         numbers: *mut u64,
         numbers_len: usize,
     ) -> u8;
+    fn gcf_build_command(
+        length: usize,
+        rt: u8,
+        sfn: Feature,
+        allocation: u16,
+        command: *mut u8,
+        command_len: usize,
+        numbers: *mut u64,
+        numbers_len: usize,
+    ) -> u8;
     fn gcf_read(
         rt: u8,
         sfn: Feature,
@@ -416,6 +426,29 @@ pub fn respond_image_accepted(image: &[u8], command: &[u8], response: &mut [u8],
             command.len(),
             response.as_mut_ptr(),
             response.len(),
+            numbers.as_mut_ptr(),
+            numbers.len(),
+        )
+    }
+}
+
+/// Makes the command of `length` bytes that asks for these; the numbers are: bytes written.
+pub fn build_command(
+    length: usize,
+    rt: u8,
+    sfn: Feature,
+    allocation: u16,
+    command: &mut [u8],
+    numbers: &mut [u64],
+) -> u8 {
+    unsafe {
+        gcf_build_command(
+            length,
+            rt,
+            sfn,
+            allocation,
+            command.as_mut_ptr(),
+            command.len(),
             numbers.as_mut_ptr(),
             numbers.len(),
         )

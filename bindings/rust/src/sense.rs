@@ -7,7 +7,7 @@ use crate::{accepted, raw, Number, SENSE_BYTES};
 pub enum Kind {
     /// The command was accepted.
     Nothing = 1,
-    /// It is no GET CONFIGURATION of 10 bytes.
+    /// It is no GET CONFIGURATION of 10 or 12 bytes.
     Operation = 2,
     /// RT 3.
     Field = 3,

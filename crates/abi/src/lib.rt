@@ -10,6 +10,7 @@ ghost use Rattle.layout.specs.Layout.{stored};
 ghost use Rattle.sheet.specs.Check.{verdict};
 ghost use Rattle.convert.specs.Convert.{converted};
 ghost use Rattle.load.specs.Load.{loading};
+ghost use Rattle.command.specs.Command.{built};
 ghost use Rattle.responder.specs.Answer.{answered};
 ghost use Rattle.responder.specs.Trusting.{trustingCommand};
 ghost use Rattle.reading.specs.Held.{heldOf};
@@ -25,6 +26,7 @@ ghost use Rattle.rom.specs.Image.{imageCommanded};
 ghost use Rattle.sense.specs.Sense.{made, sensed};
 ghost use Rattle.abi.specs.Left.{left, showVerdict, showMade, showPlaced, readingNumbers, showRead, showBenched, showFinding, showJudged, kindNumber, showSensed};
 use checks::Judgement;
+use command::Command;
 use layout::Layout;
 use sense::Kind;
 use sense::Sense;
@@ -316,6 +318,25 @@ pub extern "C" fn gcf_respond_image_accepted(
 }
 
 // ---- the driver
+
+// Makes the command of so many bytes, 10 or 12, that asks for these. Numbers: bytes written.
+#[no_mangle]
+pub extern "C" fn gcf_build_command(
+    length: usize,
+    rt: u8,
+    sfn: Feature,
+    allocation: u16,
+    command: &mut [u8],
+    numbers: &mut [u64],
+) -> u8
+    ensures { λ r. ⌜ left r (now (command .exit)) (now (numbers .exit))
+        ≡ showMade (built length rt (sfn .0) allocation (now (command .entry))) (now (numbers .entry)) ⌝ }
+{
+    let built = Command::build(length, rt, sfn, allocation, command);
+    let fault = built.refusal;
+    tell(numbers, 0, built.count as u64);
+    fault.number
+}
 
 // Reads a response. Numbers: profile, Data Length, whole descriptors, the place behind the last, 1 if complete.
 #[no_mangle]

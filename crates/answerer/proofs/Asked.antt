@@ -6,7 +6,7 @@ use native.Mathlib.Omega.{arith}
 use lib.ListN.{length, drop, length-append}
 use Rattle.refusal.specs.declared.Refusal.{Refusal}
 use Rattle.refusal.specs.First.{_orElse_, unless}
-use Rattle.text.specs.Command.{commandFault, rtOf, sfnOf, allocationOf}
+use Rattle.command.specs.Command.{commandFault, rtOf, sfnOf, allocationOf}
 use Rattle.refusal.proofs.First.{unless-none, unless-fault}
 use Rattle.lent.specs.Maker.{refusing, making}
 use Rattle.lent.proofs.Maker.{makes-made, makes-fault}

@@ -1,9 +1,9 @@
 // Reads a drive sheet from standard input and writes the box's answer to a command to standard output. A refusal is a line on standard error, and
-// nothing is written then. Arguments: the command's bytes, two hexadecimal digits each, with none RT 0 from 0, allocation length 65,535; whether
-// hexadecimal text is written; and whether the sheet is in columns.
+// nothing is written then. Arguments: what the command asks for, and how many bytes it has (`packets`), with none RT 0 from 0, allocation length 65,535; in their place all its
+// bytes, two hexadecimal digits each; whether hexadecimal text is written; and whether the sheet is in columns.
 ghost use mathlib.Core.Path.{_≡_};
 ghost use Rattle.io.specs.Counts.{Counts};
-ghost use Rattle.text.specs.Command.{commandFault};
+ghost use Rattle.command.specs.Command.{commandFault};
 ghost use Rattle.layout.specs.Layout.{stored};
 ghost use Rattle.sheet.specs.Check.{verdict};
 ghost use Rattle.refusal.specs.First.{unless, _orElse_};
@@ -19,11 +19,14 @@ const MOST: usize = 1048576;
 // One byte more: an input that fills it is too long, and is not shortened.
 const ROOM: usize = MOST + 1;
 
+// The argument that has all bytes of the command.
+const COMMAND: usize = 5;
+
 // The argument that says whether hexadecimal text is written.
-const HEX_OUT: usize = 2;
+const HEX_OUT: usize = 6;
 
 // The one that says whether the sheet is in columns.
-const COLUMNS: usize = 3;
+const COLUMNS: usize = 7;
 
 // The answer, whole: the buffer has room for the longest answer, so that 12 is never given.
 fn answer_of(
@@ -54,14 +57,19 @@ fn answer_command(sheet: &[u8], command: &[u8]) {
     dumps::say(HEX_OUT, &response[..count]);
 }
 
-fn answer(sheet: &[u8]) {
-    if !streams::given(1) {
-        answer_command(sheet, b"\x46\0\0\0\0\0\0\xFF\xFF\0");
+fn answer_made(sheet: &[u8], made: Made, command: &[u8; 64]) {
+    let refusal = made.refusal;
+    if refusal.number != 0 {
+        told::say_not_built(refusal);
         return;
     }
+    answer_command(sheet, fields::part(command, 0, made.count));
+}
+
+fn answer(sheet: &[u8]) {
     let mut command = [0u8; 64];
-    let count = streams::arg_bytes(1, &mut command);
-    answer_command(sheet, &command[..count]);
+    let made = packets::build_or_take(COMMAND, &mut command);
+    answer_made(sheet, made, &command);
 }
 
 fn answer_input(input: &mut [u8]) {

@@ -21,7 +21,7 @@ use Rattle.lent.proofs.Maker.{makes-fault}
 use Rattle.refusal.specs.declared.Refusal.{Refusal}
 use Rattle.refusal.specs.First.{refuse, accept, _if_else_, _orElse_, unless}
 use Rattle.refusal.proofs.First.{orElse-fault, unless-fault}
-use Rattle.text.specs.Command.{commandFault, rtOf, sfnOf, allocationOf}
+use Rattle.command.specs.Command.{commandFault, rtOf, sfnOf, allocationOf}
 use Rattle.text.specs.Drive.{Drive}
 use Rattle.text.specs.Response.{most, sent}
 use Rattle.layout.specs.declared.Layout.{Layout}

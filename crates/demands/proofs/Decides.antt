@@ -30,8 +30,9 @@ use Rattle.text.proofs.Flags.version as flags-version
 use Rattle.text.proofs.Flags.persistent as flags-persistent
 use Rattle.text.proofs.Flags.current as flags-current
 use Rattle.text.proofs.Flags.fault as flags-fault
-use Rattle.text.proofs.Command.fault as command-fault
-use Rattle.text.proofs.Command.read as command-read
+use Rattle.command.proofs.Command.fault as command-fault
+use Rattle.command.proofs.Command.read as command-read
+use Rattle.command.proofs.Command.build as command-build
 use Rattle.text.proofs.Header.new as header-new
 use Rattle.profiles.proofs.current as profiles-current
 use Rattle.profiles.proofs.fault as profiles-fault
@@ -112,6 +113,7 @@ use Rattle.abi.proofs.gcf_to_rows as gcf-to-rows
 use Rattle.abi.proofs.gcf_to_columns as gcf-to-columns
 use Rattle.abi.proofs.gcf_load as gcf-load
 use Rattle.abi.proofs.gcf_load_columns as gcf-load-columns
+use Rattle.abi.proofs.gcf_build_command as gcf-build-command
 use Rattle.abi.proofs.gcf_make_sense as gcf-make-sense
 use Rattle.abi.proofs.gcf_read_sense as gcf-read-sense
 
@@ -188,6 +190,9 @@ command-fault-decided x = decides (x .𝓤) (λ o o′ p q. (joined p q, refl))
 
 pub command-read-decided : Decided command-read.ended (λ M. command-read.clauses) (λ M. command-read.spec)
 command-read-decided x = decides (x .𝓤) (λ o o′ p q. (joined p q, refl))
+
+pub command-build-decided : Decided command-build.ended (λ M. command-build.clauses) (λ M. command-build.spec)
+command-build-decided x = decides (x .𝓤) (λ o o′ p q. (ap (λ (z : Outcome). z .made) (joined p q), refl & refl & refl & refl & ap (λ (z : Outcome). z .buffer) (joined p q) & refl))
 
 pub header-new-decided : Decided header-new.ended (λ M. header-new.clauses) (λ M. header-new.spec)
 header-new-decided = text-decides.new-decided
@@ -475,6 +480,9 @@ gcf-load-decided x = decides (x .𝓤) (λ o o′ p q. (number (joined p q), ref
 
 pub gcf-load-columns-decided : Decided gcf-load-columns.ended (λ M. gcf-load-columns.clauses) (λ M. gcf-load-columns.spec)
 gcf-load-columns-decided x = decides (x .𝓤) (λ o o′ p q. (number (joined p q), refl & refl & refl & buffers (joined p q) & numbers (joined p q) & refl))
+
+pub gcf-build-command-decided : Decided gcf-build-command.ended (λ M. gcf-build-command.clauses) (λ M. gcf-build-command.spec)
+gcf-build-command-decided x = decides (x .𝓤) (λ o o′ p q. (number (joined p q), refl & refl & refl & refl & buffers (joined p q) & numbers (joined p q) & refl))
 
 pub gcf-make-sense-decided : Decided gcf-make-sense.ended (λ M. gcf-make-sense.clauses) (λ M. gcf-make-sense.spec)
 gcf-make-sense-decided x = decides (x .𝓤) (λ o o′ p q. (number (joined p q), refl & buffers (joined p q) & numbers (joined p q) & refl))

@@ -16,7 +16,7 @@ use denote.Ref.{now}
 use Rattle.base.specs.Lists.{Bytes}
 use Rattle.base.proofs.Decided.{Call, Outcome, allowed}
 use Rattle.text.specs.declared.Reading.{Reading}
-use Rattle.text.specs.Command.{rtOf, sfnOf, allocationOf, commandFault}
+use Rattle.command.specs.Command.{rtOf, sfnOf, allocationOf, commandFault}
 use Rattle.refusal.specs.declared.Refusal.{Refusal}
 use Rattle.refusal.proofs.First.{if-zero}
 use Rattle.layout.specs.declared.Layout.the-variants.{Rows}

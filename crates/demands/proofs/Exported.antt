@@ -37,8 +37,10 @@ use Rattle.abi.proofs.gcf_to_columns as gcf-to-columns
 use Rattle.abi.proofs.gcf_to_rows as gcf-to-rows
 use Rattle.abi.proofs.gcf_load as gcf-load
 use Rattle.abi.proofs.gcf_load_columns as gcf-load-columns
+use Rattle.abi.proofs.gcf_build_command as gcf-build-command
 use Rattle.abi.proofs.gcf_make_sense as gcf-make-sense
 use Rattle.load.proofs.Promised.{Loads, loads-so}
+use Rattle.command.proofs.Promised.{Builds, builds}
 use Rattle.abi.proofs.gcf_read_sense as gcf-read-sense
 use Rattle.base.proofs.Promise.{Promised, promises, by, Shows, shows}
 use Rattle.reading.proofs.Promised.{Holds, holds}
@@ -181,6 +183,12 @@ gcf-load-tied x = promises (x .𝓤) (λ o. shows _ (loads-so _ _ _ _))
 pub gcf-load-columns-tied : Promised gcf-load-columns.ended (λ M. gcf-load-columns.clauses) (λ M. gcf-load-columns.spec)
     (named (λ _ sheet features profiles loaded numbers r _ _ _ loaded′ numbers′. Shows (Loads (now features) (now profiles) (stored Columns (now sheet)) (now loaded)) (λ z. abi.showPlaced z (now numbers)) (left r loaded′ numbers′)))
 gcf-load-columns-tied x = promises (x .𝓤) (λ o. shows _ (loads-so _ _ _ _))
+
+-- ---- a command
+
+pub gcf-build-command-tied : Promised gcf-build-command.ended (λ M. gcf-build-command.clauses) (λ M. gcf-build-command.spec)
+    (named (λ _ length rt sfn allocation command numbers r _ _ _ _ command′ numbers′. Shows (Builds length rt (sfn .0) allocation (now command)) (λ z. abi.showMade z (now numbers)) (left r command′ numbers′)))
+gcf-build-command-tied x = promises (x .𝓤) (λ o. shows _ (builds _ _ _ _ _))
 
 -- ---- sense
 

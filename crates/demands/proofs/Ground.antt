@@ -12,14 +12,12 @@ use Rattle.fields.specs.Part.{PartOf}
 use Rattle.refusal.specs.First.{refuse, accept, placed}
 use Rattle.lent.specs.Wrote.{Wrote}
 use Rattle.text.specs.Flags as text
-use Rattle.text.specs.declared.Command.{Command}
-use Rattle.text.specs.Command.{commandFault, commandOf}
 use Rattle.text.specs.Response.{currentProfile, headerOf}
 use Rattle.profiles.specs.Profiles.{profilesOf, recordsFault, stopped}
 use Rattle.profiles.proofs.Stopped.{records-short}
 use Rattle.text.specs.Reading.{numberAt, flagsAt, lengthAt, descAt}
 use Rattle.reading.specs.Places.{nextAt}
-use Rattle.text.proofs.Promised.{two, Commands, commands, Understood, understood, Flagging, flagging}
+use Rattle.text.proofs.Promised.{two, Flagging, flagging}
 use Rattle.profiles.proofs.Promised.{Currents, currents}
 use Rattle.layout.proofs.Promised.{laying}
 use Rattle.reading.specs.Judged.{judged}
@@ -47,8 +45,6 @@ use Rattle.text.proofs.Flags.version as flags-version
 use Rattle.text.proofs.Flags.persistent as flags-persistent
 use Rattle.text.proofs.Flags.current as flags-current
 use Rattle.text.proofs.Flags.fault as flags-fault
-use Rattle.text.proofs.Command.fault as command-fault
-use Rattle.text.proofs.Command.read as command-read
 use Rattle.text.proofs.Header.new as header-new
 use Rattle.profiles.proofs.current as profiles-current
 use Rattle.profiles.proofs.fault as profiles-fault
@@ -143,13 +139,6 @@ flags-current-tied x = promises (x .𝓤) (λ o e. e)
 
 pub flags-fault-tied : Promised flags-fault.ended (λ M. flags-fault.clauses) (λ M. flags-fault.spec) (named (λ _ self bits lone r _ _ _. (r ≡ text.flagsGiving bits lone (self .0)) × Flagging bits lone (self .0) r))
 flags-fault-tied x = promises (x .𝓤) (λ o e. (e, by (Flagging _ _ _) (flagging _ _ _) e))
-
-pub command-fault-tied : Promised command-fault.ended (λ M. command-fault.clauses) (λ M. command-fault.spec) (named (λ _ bytes r _. (r ≡ commandFault (now bytes)) × Commands (now bytes) r))
-command-fault-tied x = promises (x .𝓤) (λ o e. (e, by (Commands _) (commands _) e))
-
-pub command-read-tied : Promised command-read.ended (λ M. command-read.clauses) (λ M. command-read.spec) (named (λ _ bytes r _. (r ≡ commandOf (now bytes)) × Understood (now bytes) (r .rt) (r .sfn .0) (r .allocation)))
-unfolding commandOf
-command-read-tied x = promises (x .𝓤) (λ o e. (e, by (λ (c : Command). Understood (x .args .0 .now) (c .rt) (c .sfn .0) (c .allocation)) (understood (x .args .0 .now)) e))
 
 pub header-new-tied : Promised header-new.ended (λ M. header-new.clauses) (λ M. header-new.spec) (named (λ _ «data_length» profile r _ _. r ≡ headerOf «data_length» (profile .0)))
 header-new-tied x = promises (x .𝓤) (λ o e. e)

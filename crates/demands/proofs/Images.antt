@@ -21,7 +21,7 @@ use Rattle.refusal.specs.First.{refuse, accept, _if_else_, _orElse_}
 use Rattle.refusal.proofs.First.{orElse-none, unless-none, unless-fault}
 use Rattle.lent.specs.Maker as maker
 use Rattle.lent.proofs.Maker.{makes-fault, makes-number}
-use Rattle.text.specs.Command.{commandFault, rtOf, sfnOf, allocationOf}
+use Rattle.command.specs.Command.{commandFault, rtOf, sfnOf, allocationOf}
 use Rattle.text.specs.Drive.{Drive}
 use Rattle.text.specs.Response.{sent}
 use Rattle.layout.specs.declared.Layout.the-variants.{Rows}

@@ -18,7 +18,7 @@ use Rattle.fields.specs.Field.{field, spell}
 use Rattle.refusal.specs.declared.Refusal.{Refusal}
 use Rattle.refusal.specs.First.{refuse, accept, _if_else_, pickZero, _orElse_, firstOf, unless, placed}
 use Rattle.text.specs.Flags as flags
-use Rattle.text.specs.Command.{opcodeOf, rtOf, sfnOf, allocationOf, commandFault}
+use Rattle.command.specs.Command.{opcodeOf, rtOf, sfnOf, allocationOf, commandFault, commandLength, commandBytes, packet}
 use Rattle.text.specs.Drive.{profileBytes}
 use Rattle.text.specs.Response.{bytes, feature0, all, wants, selected, currentProfile, header, dataLength, full, sent}
 use Rattle.text.specs.Reading as text
@@ -127,19 +127,19 @@ replayed-answer r c d b e ok rt sfn l room =
     ∙ ap (λ (xs : List ℕ). making xs d) x
 
 command-plain : (a : ℕ) → commandFault (command 0 0 a) .number ≡ 0
-unfolding command spell commandFault opcodeOf rtOf _if_else_
+unfolding command commandBytes packet spell commandFault commandLength opcodeOf rtOf _if_else_
 command-plain a = refl
 
 command-rt : (a : ℕ) → rtOf (command 0 0 a) ≡ 0
-unfolding command spell rtOf
+unfolding command commandBytes packet spell rtOf
 command-rt a = refl
 
 command-sfn : (a : ℕ) → sfnOf (command 0 0 a) ≡ 0
-unfolding command spell field sfnOf
+unfolding command commandBytes packet spell field sfnOf
 command-sfn a = refl
 
 command-allocation : (a : ℕ) → a ≤ 65535 → allocationOf (command 0 0 a) ≡ a
-unfolding command spell field allocationOf
+unfolding command commandBytes packet spell field allocationOf
 command-allocation a l = omega arith
 
 -- Such a command is 46h 00h 00h 00h 00h 00h 00h, the allocation length in two bytes, 00h.

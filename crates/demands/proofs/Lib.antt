@@ -11,6 +11,7 @@ pub mod Checking
 pub mod Bodies
 pub mod Capturing
 pub mod Converting
+pub mod Packets
 pub mod Loading
 pub mod Importing
 pub mod Images

@@ -24,7 +24,7 @@ use Rattle.refusal.specs.First.{refuse, accept, _if_else_, pickZero, _orElse_, 
 use Rattle.refusal.proofs.First.{unless-none, unless-fault}
 use Rattle.lent.specs.declared.Made.{Made}
 use Rattle.lent.specs.Maker as maker
-use Rattle.text.specs.Command.{commandFault, rtOf, sfnOf, allocationOf}
+use Rattle.command.specs.Command.{commandFault, rtOf, sfnOf, allocationOf}
 use Rattle.text.specs.Flags.{persistent, current}
 use Rattle.text.specs.Drive.{Drive, bit, profileBytes}
 use Rattle.text.specs.Response.{bytes, feature0, all, wants, selected, currentProfile, header, dataLength, full, sent}

@@ -24,7 +24,7 @@ use Rattle.lent.specs.declared.Made.{Made}
 use Rattle.text.specs.declared.Reading.{Reading}
 use Rattle.refusal.specs.First.{_if_else_, pickZero, _orElse_, firstOf, unless, placed}
 use Rattle.text.specs.Flags as flags
-use Rattle.text.specs.Command.{opcodeOf, rtOf, sfnOf, allocationOf, commandFault}
+use Rattle.command.specs.Command.{opcodeOf, rtOf, sfnOf, allocationOf, commandFault, commandLength, commandBytes, packet}
 use Rattle.text.specs.Drive.{Desc, Drive, Sound, profileBytes}
 use Rattle.text.specs.Response.{bytes, feature0, all, wants, selected, currentProfile, header, dataLength, full, sent}
 use Rattle.text.specs.Reading as text
@@ -163,7 +163,7 @@ abbrev ExchangedE : (rt sfn : ℕ) → Type 0
 ExchangedE rt sfn = Exchanged (command rt sfn 64) (asked rt sfn .made) (asked rt sfn .buffer) rt sfn (sentBy (asked rt sfn)) (text.reading 65534 rt sfn (sentBy (asked rt sfn)))
 
 pub exchangedE : ExchangedE 0 1 × ExchangedE 1 3
-unfolding each flat keep field spell _if_else_ pickZero _orElse_ firstOf placed opcodeOf rtOf sfnOf allocationOf commandFault profileBytes bytes feature0 all wants selected currentProfile header dataLength full sent layout.features layout.profiles layout.numberPlace layout.flagsPlace layout.lengthPlace layout.offsetPlace layout.number layout.flags layout.bodyLength layout.offset layout.profilesIn profiles.profileNumber profiles.profileCurrent profiles.profileLast profiles.listed profiles.profilesOf profiles.lists profiles.recordRule profiles.recordFault profiles.recordsFault numberBefore endBefore flagsRule flags.flagsGiving entryRule entryFault counted verdict desc meaning unless maker.refusing maker.making maker.makes box.answered sheetE command text.statedLength text.statedProfile text.headerRule text.headRule text.numberAt text.flagsAt text.lengthAt text.descAt text.headFault text.walk text.walked text.readFault text.reading text.taken
+unfolding each flat keep field spell _if_else_ pickZero _orElse_ firstOf placed opcodeOf rtOf sfnOf allocationOf commandFault commandLength profileBytes bytes feature0 all wants selected currentProfile header dataLength full sent layout.features layout.profiles layout.numberPlace layout.flagsPlace layout.lengthPlace layout.offsetPlace layout.number layout.flags layout.bodyLength layout.offset layout.profilesIn profiles.profileNumber profiles.profileCurrent profiles.profileLast profiles.listed profiles.profilesOf profiles.lists profiles.recordRule profiles.recordFault profiles.recordsFault numberBefore endBefore flagsRule flags.flagsGiving entryRule entryFault counted verdict desc meaning unless maker.refusing maker.making maker.makes box.answered sheetE command commandBytes packet text.statedLength text.statedProfile text.headerRule text.headRule text.numberAt text.flagsAt text.lengthAt text.descAt text.headFault text.walk text.walked text.readFault text.reading text.taken
 exchangedE = (
   record { answered = refl; asked-rt = refl; asked-sfn = refl; handed = refl; complete = refl },
   record { answered = refl; asked-rt = refl; asked-sfn = refl; handed = refl; complete = refl },

@@ -12,7 +12,7 @@ use Rattle.base.specs.Lists.{flat, keep, Bytes}
 use Rattle.fields.specs.Field.{field, spell}
 use Rattle.refusal.specs.declared.Refusal.{Refusal}
 use Rattle.refusal.specs.First.{refuse, accept, _orElse_}
-use Rattle.text.specs.Command.{opcodeOf, rtOf, sfnOf, allocationOf, commandFault}
+use Rattle.command.specs.Command.{opcodeOf, rtOf, sfnOf, allocationOf, commandLength, commandFault}
 use Rattle.text.specs.Drive.{Desc, Drive}
 use Rattle.text.specs.Response as text
 use Rattle.text.specs.Response.{bytes, feature0, all, selected, currentProfile, dataLength, full, sent}
@@ -21,7 +21,8 @@ use Rattle.lent.specs.Maker.{Outcome, refusing, making, makes}
 use Rattle.lent.proofs.Maker.{makes-made, makes-short, makes-fault}
 use Rattle.text.proofs.Sizes.{length-full, dataLength-full, dataLength-low}
 use Rattle.text.proofs.Profiles.{Off, FirstOn, current-cases}
-use Rattle.text.proofs.Promised.{byte, Long, commands, understood, Wanting, wanting, Worded, worded, descriptor-bytes, Zeroth, zeroth}
+use Rattle.command.proofs.Promised.{Long, commands, understood}
+use Rattle.text.proofs.Promised.{byte, Wanting, wanting, Worded, worded, descriptor-bytes, Zeroth, zeroth}
 use Rattle.text.proofs.Sent.{sent-prefix, length-sent, sent-dataLength, sent-field, sent-profile, sent-none, sent-65532, sent-65536}
 use Rattle.layout.specs.Layout.{Sheet, featureCount}
 use Rattle.sheet.specs.Check.{verdict, Accepted}
@@ -168,9 +169,9 @@ serves-sized s rt sfn a from n d = record {
 
 -- ---- beside it
 
--- Every ignored bit is really ignored: commands that agree on length, operation code, RT, Starting Feature Number and allocation length are
--- answered alike.
-pub ignored : (s : Sheet) (c c′ d : List ℕ) → length c ≡ length c′ → opcodeOf c ≡ opcodeOf c′ → rtOf c ≡ rtOf c′ → sfnOf c ≡ sfnOf c′ → allocationOf c ≡ allocationOf c′
+-- Every ignored bit is really ignored: commands that agree on operation code, RT, Starting Feature Number and allocation length, and on whether a command may have
+-- their length, are answered alike.
+pub ignored : (s : Sheet) (c c′ d : List ℕ) → commandLength (length c) ≡ commandLength (length c′) → opcodeOf c ≡ opcodeOf c′ → rtOf c ≡ rtOf c′ → sfnOf c ≡ sfnOf c′ → allocationOf c ≡ allocationOf c′
     → answered s c d ≡ answered s c′ d
 unfolding answered commandFault
 ignored s c c′ d l o r f a = cc

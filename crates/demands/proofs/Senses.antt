@@ -18,7 +18,7 @@ use Rattle.refusal.specs.First.{refuse, accept, _if_else_, pickZero, _orElse_, 
 use Rattle.refusal.proofs.First.{unless-none, unless-fault}
 use Rattle.refusal.proofs.Numbers.{if-holds, orElse-holds, first-holds, placed-holds}
 use Rattle.text.specs.Flags as flags
-use Rattle.text.specs.Command.{opcodeOf, rtOf, sfnOf, allocationOf, commandFault}
+use Rattle.command.specs.Command.{opcodeOf, rtOf, sfnOf, allocationOf, commandFault, commandLength, commandBytes, packet}
 use Rattle.text.specs.Drive.{profileBytes}
 use Rattle.text.specs.Response.{bytes, feature0, all, wants, selected, currentProfile, header, dataLength, full, sent}
 use Rattle.layout.specs.Layout as layout
@@ -193,7 +193,7 @@ verdict-taken s =
     (if-holds Taken (refuse 8) _ accept refl refl)))))
 
 command-taken : (c : List ℕ) → Taken (commandFault c .number)
-unfolding commandFault pick given kindOf
+unfolding commandFault commandLength pick given kindOf
 command-taken c = if-holds Taken (refuse 9) _ _ refl (if-holds Taken (refuse 10) _ _ refl (if-holds Taken (refuse 11) _ accept refl refl))
 
 -- Whatever number a command gives, the maker takes it.
@@ -291,7 +291,7 @@ head number len behind = 0 ∷ number ∷ 3 ∷ len ∷ behind
 
 -- Each number of the table is given: 0 to 12, 44 from a sheet, 14 to 18, 20, 29, 41 with an image.
 pub each-given : All Occurs taken
-unfolding each flat keep field spell _if_else_ pickZero _orElse_ firstOf placed opcodeOf rtOf sfnOf allocationOf commandFault profileBytes bytes feature0 all wants selected currentProfile header dataLength full sent layout.features layout.profiles layout.numberPlace layout.flagsPlace layout.lengthPlace layout.offsetPlace layout.number layout.flags layout.bodyLength layout.offset layout.profilesIn profiles.profileNumber profiles.profileCurrent profiles.profileLast profiles.listed profiles.profilesOf profiles.lists profiles.recordRule profiles.recordFault profiles.recordsFault numberBefore endBefore flagsRule flags.flagsGiving entryRule entryFault counted verdict desc meaning unless refusing making makes answered command captureFault ownRule flagsFaults sheetRule completeFault text.statedLength text.statedProfile text.headerRule text.headRule text.numberAt text.flagsAt text.lengthAt text.descAt text.headFault text.walk text.walked text.readFault text.wholes imageAnswered
+unfolding each flat keep field spell _if_else_ pickZero _orElse_ firstOf placed opcodeOf rtOf sfnOf allocationOf commandFault commandLength profileBytes bytes feature0 all wants selected currentProfile header dataLength full sent layout.features layout.profiles layout.numberPlace layout.flagsPlace layout.lengthPlace layout.offsetPlace layout.number layout.flags layout.bodyLength layout.offset layout.profilesIn profiles.profileNumber profiles.profileCurrent profiles.profileLast profiles.listed profiles.profilesOf profiles.lists profiles.recordRule profiles.recordFault profiles.recordsFault numberBefore endBefore flagsRule flags.flagsGiving entryRule entryFault counted verdict desc meaning unless refusing making makes answered command commandBytes packet captureFault ownRule flagsFaults sheetRule completeFault text.statedLength text.statedProfile text.headerRule text.headRule text.numberAt text.flagsAt text.lengthAt text.descAt text.headFault text.walk text.walked text.readFault text.wholes imageAnswered
 each-given = (occurs-in none (command 0 0 0) [] refl, (occurs-in (stored Rows []) [] [] refl, (occurs-in (stored Rows (0 ∷ 0 ∷ 0 ∷ 64 ∷ replicate 256 0)) [] [] refl, (occurs-in (stored Rows (0 ∷ 0 ∷ 0 ∷ 1 ∷ 0 ∷ 0 ∷ 0 ∷ 0 ∷ [])) [] [] refl, (occurs-in (one 0 0 0 12) [] [] refl, (occurs-in (one 1 0x40 0 12) [] [] refl, (occurs-in (one 1 0 1 12) [] [] refl, (occurs-in (one 1 0 0 0) [] [] refl, (occurs-in (stored Rows (0 ∷ 0 ∷ 0 ∷ 0 ∷ 0 ∷ [])) [] [] refl, (occurs-in none [] [] refl, (occurs-in none (replicate 10 0) [] refl, (occurs-in none (command 3 0 0) [] refl, (occurs-in none (command 0 0 1) [] refl, (occurs-with [] [] [] refl, (occurs-with (image 0 []) [] [] refl, (occurs-with (image 4 (head 0 0 [])) [] [] refl, (occurs-with (image 8 (head 0 1 [])) [] [] refl, (occurs-with (image 12 (head 0 0 (head 0 0 []))) [] [] refl, (occurs-with (image 8 (head 0 4 [])) [] [] refl, (occurs-with (image 8 []) [] [] refl, (occurs-with (image 4 []) [] [] refl, (occurs-in (one 1 2 0 12) [] [] refl, tt))))))))))))))))))))))
 
 -- So the maker takes no other number than a command gives.

@@ -2,7 +2,7 @@
 use mathlib.Core.List.{List, [], _∷_, _++_}
 use Prim.Native.Nat.{ℕ}
 use lib.ListN.{set}
-use Rattle.fields.specs.Field.{spell}
+use Rattle.command.specs.Command.{commandBytes}
 use Rattle.layout.specs.declared.Layout.the-variants.{Rows}
 use Rattle.layout.specs.Layout.{Sheet, stored}
 
@@ -22,6 +22,6 @@ sheetE = stored Rows (
 unfoldable pub sheetE′ : Sheet
 sheetE′ = stored Rows (set (sheetE .bytes) 22 0x00)
 
--- the command with this RT, Starting Feature Number and allocation length, every other bit 0
+-- the command of 10 bytes with this RT, Starting Feature Number and allocation length, every other bit 0
 unfoldable pub command : (rt sfn a : ℕ) → List ℕ
-command rt sfn a = (0x46 ∷ rt ∷ []) ++ spell 2 sfn ++ (0 ∷ 0 ∷ 0 ∷ []) ++ spell 2 a ++ (0 ∷ [])
+command rt sfn a = commandBytes 10 rt sfn a

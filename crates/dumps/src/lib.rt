@@ -181,6 +181,24 @@ fn say_byte(b: u8) {
     streams::say(&[digit(b / 16), digit(b)]);
 }
 
+// Byte i as a word, a blank before all but the first.
+fn say_word(bytes: &[u8], i: usize) {
+    if i > 0 {
+        streams::say(b" ");
+    }
+    say_byte(fields::byte(bytes, i));
+}
+
+// Writes bytes to standard output as a line of words, two digits each, as `sg_raw` takes a command.
+pub fn say_words(bytes: &[u8]) {
+    let mut i = 0;
+    while i < bytes.len() {
+        say_word(bytes, i);
+        i += 1;
+    }
+    streams::say(b"\n");
+}
+
 // The offset of a line, and a colon.
 fn say_offset(offset: usize) {
     say_byte((offset / 16777216 % 256) as u8);

@@ -10,7 +10,7 @@ use Rattle.lent.specs.Maker.{refusing, making, makes}
 use Rattle.lent.proofs.Maker.{makes-after}
 use Rattle.refusal.specs.declared.Refusal.{Refusal}
 use Rattle.refusal.specs.First.{refuse, accept, _if_else_, unless}
-use Rattle.text.specs.Command.{commandFault, rtOf, sfnOf, allocationOf}
+use Rattle.command.specs.Command.{commandFault, rtOf, sfnOf, allocationOf}
 use Rattle.text.specs.Response.{full, most, sent}
 use Rattle.refusal.proofs.First.{if-plain, orElse-none, orElse-accept, unless-none, unless-fault}
 use Rattle.text.proofs.Sent.{length-sent}

@@ -4,7 +4,7 @@ use mathlib.Core.List.{List}
 use Prim.Native.Nat.{ℕ}
 use Rattle.refusal.specs.First.{unless}
 use Rattle.lent.specs.Maker.{Outcome, refusing}
-use Rattle.text.specs.Command.{commandFault, rtOf, sfnOf, allocationOf}
+use Rattle.command.specs.Command.{commandFault, rtOf, sfnOf, allocationOf}
 use Rattle.layout.specs.Layout.{Sheet}
 use Rattle.responder.specs.Sized.{sized}
 use Rattle.responder.specs.inner.Index.{takenFrom, takenSize}

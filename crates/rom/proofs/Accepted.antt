@@ -17,7 +17,7 @@ use Rattle.refusal.specs.First.{accept, unless}
 use Rattle.refusal.proofs.First.{if-plain, orElse-accept}
 use Rattle.lent.specs.Maker.{refusing, makes}
 use Rattle.lent.proofs.Maker.{makes-after}
-use Rattle.text.specs.Command.{commandFault, rtOf, sfnOf, allocationOf}
+use Rattle.command.specs.Command.{commandFault, rtOf, sfnOf, allocationOf}
 use Rattle.text.specs.Drive.{Desc, Asc}
 use Rattle.text.specs.Flags.{current}
 use Rattle.text.specs.Response.{bytes, wants, selected, currentProfile, header, dataLength, full, most, sent}

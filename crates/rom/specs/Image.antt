@@ -5,7 +5,7 @@ use Prim.Native.Nat.{ℕ}
 use lib.ListN.{length, take}
 use Rattle.refusal.specs.First.{accept, unless}
 use Rattle.lent.specs.Maker.{Outcome, refusing, makes}
-use Rattle.text.specs.Command.{commandFault, rtOf, sfnOf, allocationOf}
+use Rattle.command.specs.Command.{commandFault, rtOf, sfnOf, allocationOf}
 use Rattle.text.specs.Response.{most}
 use Rattle.rom.specs.inner.Standing.{headOf, wanted}
 

@@ -3,7 +3,7 @@ use mathlib.Core.List.{List}
 use Prim.Native.Nat.{ℕ}
 use Rattle.refusal.specs.First.{_orElse_}
 use Rattle.lent.specs.Maker.{Outcome, makes}
-use Rattle.text.specs.Command.{commandFault, rtOf, sfnOf, allocationOf}
+use Rattle.command.specs.Command.{commandFault, rtOf, sfnOf, allocationOf}
 use Rattle.text.specs.Response.{sent}
 use Rattle.reading.specs.Places.{descs}
 use Rattle.capture.specs.Capture.{captured, captureFault}

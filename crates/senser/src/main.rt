@@ -16,7 +16,7 @@ fn say_kind(kind: Kind) {
     match kind {
         Kind::Nothing => streams::say(b"NO SENSE: the command was accepted\n"),
         Kind::Operation => streams::say(
-            b"ILLEGAL REQUEST, invalid command operation code: the command has not 10 bytes, or its first byte is not 46h\n",
+            b"ILLEGAL REQUEST, invalid command operation code: the command has neither 10 nor 12 bytes, or its first byte is not 46h\n",
         ),
         Kind::Field => streams::say(
             b"ILLEGAL REQUEST, invalid field in CDB, byte 1 bit 1: RT 3 is reserved\n",

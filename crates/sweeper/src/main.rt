@@ -1,5 +1,6 @@
 // Reads a drive sheet from standard input, runs the bench sweep against it and tells its rounds and totals. Arguments: RT, `-`, allocation length (`asked`), whether
-// the collected descriptors are to be written as one response, and whether the sheet is in columns.
+// the collected descriptors are to be written as one response, whether the sheet is in columns, whether the commands are told, and how many bytes each has.
+use command::Command;
 use layout::Layout;
 use streams::say;
 use streams::say_decimal;
@@ -16,7 +17,30 @@ const ROOM: usize = MOST + 1;
 // No sweep has more commands.
 const STARTS: usize = 65536;
 
-// A line for each start that was noted: the box is asked again, and gives the same bytes.
+// The argument that says whether the commands are told.
+const COMMANDS: usize = 6;
+
+// The argument that says how many bytes a command has.
+const LENGTH: usize = 7;
+
+fn say_command(command: &[u8]) {
+    if streams::given(COMMANDS) {
+        say(b"command ");
+        dumps::say_words(command);
+    }
+}
+
+// A round of the bench sweep: the box is asked again, and gives the same bytes.
+fn say_round(lay: Layout, sheet: &[u8], rt: u8, start: Feature, a: u16, response: &mut [u8]) {
+    let mut command = [0u8; Command::PACKET];
+    let made = Command::build(packets::length(LENGTH), rt, start, a, &mut command);
+    let built = fields::part(&command, 0, made.count);
+    say_command(built);
+    let reply = responder::respond_accepted(lay, sheet, built, response);
+    told::say_round(rt, start, fields::part(response, 0, reply.count));
+}
+
+// A line for each start that was noted.
 fn say_rounds(
     lay: Layout,
     sheet: &[u8],
@@ -31,9 +55,7 @@ fn say_rounds(
         if commands as usize <= i {
             return;
         }
-        let start = Feature(starts[i]);
-        let reply = responder::send(lay, sheet, rt, start, a, response);
-        told::say_round(rt, start, fields::part(response, 0, reply.count));
+        say_round(lay, sheet, rt, Feature(starts[i]), a, response);
         i += 1;
     }
 }

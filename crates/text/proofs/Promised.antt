@@ -1,4 +1,4 @@
--- The text's sentences on commands, flags, selections, descriptors and readings, in plain numbers of the bytes and without the words of the definitions: a
+-- The text's sentences on flags, selections, descriptors and readings, in plain numbers of the bytes and without the words of the definitions: a
 -- definition that is wrong is refused here, whatever code and laws are changed with it. Assumes nothing.
 use borrow.Author.Tests.{le-leb, lt-leb, eq-eqb, ne-eqb, lt-ltb, le-ltb, eqb-true}
 use mathlib.Core.Path.{_≡_, refl, sym, ap, ap₂, _∙_}
@@ -17,7 +17,6 @@ use Rattle.refusal.specs.First.{refuse, accept}
 use Rattle.refusal.proofs.First.{tests, if-true, if-false, orElse-none, orElse-fault}
 use Rattle.text.specs.declared.Reading.{Reading}
 use Rattle.text.specs.Flags.{flagsGiving}
-use Rattle.text.specs.Command.{opcodeOf, rtOf, sfnOf, allocationOf, commandFault}
 use Rattle.text.specs.Drive.{Desc, Listed, Drive, bit, profileBytes}
 use Rattle.text.specs.Response.{bytes, feature0, wants, header, dataLength, full, selected, currentProfile}
 use Rattle.text.specs.Reading.{statedLength, statedProfile, statedEnd, headerRule, headRule, numberAt, flagsAt, lengthAt, descAt, headFault, Walked, walk, walked, readFault, nothingRead, taken, reading, wholes}
@@ -44,38 +43,6 @@ field-two s i = rw add-zero (omega arith)
 pub field-four : (s : List ℕ) (i : ℕ) → field 4 s i ≡ four s i
 unfolding field
 field-four s i = rw add-zero (omega arith)
-
--- ---- a command
-
--- it has 10 bytes
-abbrev pub Long : List ℕ → Type 0
-Long c = length c ≡ 10
-
--- 9 for another length, then 10 for a first byte that is not 46h, then 11 for RT 3; nothing else is refused of a command
-pub record Commands (c : List ℕ) (r : Refusal) : Type 0 where
-  pub nine : (Long c → ⊥) → r ≡ refuse 9
-  pub ten : Long c → (byte c 0 ≡ 0x46 → ⊥) → r ≡ refuse 10
-  pub eleven : Long c → byte c 0 ≡ 0x46 → byte c 1 % 4 ≡ 3 → r ≡ refuse 11
-  pub fine : Long c → byte c 0 ≡ 0x46 → (byte c 1 % 4 ≡ 3 → ⊥) → r ≡ accept
-
-pub commands : (c : List ℕ) → Commands c (commandFault c)
-unfolding commandFault opcodeOf rtOf
-commands c = record {
-  nine = λ h. search tests;
-  ten = λ h k. search tests;
-  eleven = λ h k l. search tests;
-  fine = λ h k l. search tests;
-}
-
--- what it asks for: RT in bits 1-0 of byte 1, the start in bytes 2 and 3, the allocation length in bytes 7 and 8
-pub record Understood (c : List ℕ) (rt sfn allocation : ℕ) : Type 0 where
-  pub asked : rt ≡ byte c 1 % 4
-  pub start : sfn ≡ byte c 2 * 256 + byte c 3
-  pub most : allocation ≡ byte c 7 * 256 + byte c 8
-
-pub understood : (c : List ℕ) → Understood c (rtOf c) (sfnOf c) (allocationOf c)
-unfolding rtOf sfnOf allocationOf
-understood c = record { asked = refl; start = field-two c 2; most = field-two c 7 }
 
 -- ---- the flags byte
 

@@ -1,6 +1,5 @@
 pub mod Flags
 pub mod Drive
-pub mod Command
 pub mod Response
 pub mod Reading
 pub mod Packing

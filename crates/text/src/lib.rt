@@ -4,7 +4,6 @@ ghost use mathlib.Core.Bool.{not};
 ghost use lib.Dec.{eqb};
 ghost use Rattle.refusal.specs.First.{accept, _if_else_};
 ghost use Rattle.text.specs.Flags.{reserved, version, persistent, current, alone, flagsGiving};
-ghost use Rattle.text.specs.Command.{commandFault, commandOf};
 ghost use Rattle.text.specs.Response.{headerOf, most};
 use refusal::Refusal;
 
@@ -94,46 +93,6 @@ pub struct Reading {
     pub count: u32,
     pub end: usize,
     pub complete: bool,
-}
-
-// GET CONFIGURATION as a host asks it.
-pub struct Command {
-    pub rt: u8,
-    pub sfn: Feature,
-    pub allocation: u16,
-}
-
-impl Command {
-    pub const OPCODE: u8 = 0x46;
-
-    pub const LENGTH: usize = 10;
-
-    // The first refusal of a command's bytes.
-    pub fn fault(bytes: &[u8]) -> Refusal
-        ensures { λ r. ⌜ r ≡ commandFault (now (bytes .entry)) ⌝ }
-    {
-        if bytes.len() != Command::LENGTH {
-            return refusal::COMMAND_LENGTH;
-        }
-        if fields::byte(bytes, 0) != Command::OPCODE {
-            return refusal::OPCODE_OTHER;
-        }
-        if fields::byte(bytes, 1) % 4 == 3 {
-            return refusal::RT_RESERVED;
-        }
-        refusal::ACCEPTED
-    }
-
-    // The command that its bytes spell. All other bits are reserved or control, and are ignored.
-    pub fn read(bytes: &[u8]) -> Command
-        ensures { λ r. ⌜ r ≡ commandOf (now (bytes .entry)) ⌝ }
-    {
-        Command {
-            rt: fields::byte(bytes, 1) % 4,
-            sfn: Feature(fields::get2(bytes, 2)),
-            allocation: fields::get2(bytes, 7),
-        }
-    }
 }
 
 // The header of a response.

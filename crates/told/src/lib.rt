@@ -79,6 +79,12 @@ pub fn say_sheet_refused(refusal: Refusal, lay: Layout, sheet: &[u8]) {
     words::say_refused(STDERR_FILENO, refusal, profiles as u64, feature.0);
 }
 
+// A refusal of a command that was to be built.
+pub fn say_not_built(refusal: Refusal) {
+    streams::mark_fault();
+    words::say_refused(STDERR_FILENO, refusal, 0, 0);
+}
+
 pub fn say_sheet_too_long() {
     streams::mark_fault();
     streams::say_to(

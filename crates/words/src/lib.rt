@@ -17,7 +17,7 @@ pub fn say_meaning(fd: i32, refusal: Refusal) {
         6 a body length is no multiple of 4\n\
         7 a body offset is not the end of the body before\n\
         8 the sheet does not end where the last body ends\n\
-        9 the command has not 10 bytes\n\
+        9 the command has neither 10 nor 12 bytes\n\
         10 the command's first byte is not 46h\n\
         11 RT 3 is reserved\n\
         12 the response buffer is too short\n\

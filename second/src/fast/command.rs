@@ -19,7 +19,7 @@ pub fn respond_checked(sheet: &[u8], command: &[u8], out: &mut [u8]) -> Result<u
 
 /// Answers the command; gives the count of bytes sent.
 fn answer(parts: Parts, command: &[u8], out: &mut [u8]) -> Result<usize, u8> {
-    if command.len() != COMMAND_BYTES {
+    if !matches!(command.len(), COMMAND_BYTES | PACKET_BYTES) {
         return Err(COMMAND_LENGTH);
     }
     if command[0] != OPCODE {

@@ -20,7 +20,7 @@ pub fn respond(image: &[u8], command: &[u8], out: &mut [u8]) -> Result<usize, Re
 
 /// Answers the command from an image accepted before; gives the count of bytes sent.
 pub fn respond_checked(image: &[u8], command: &[u8], out: &mut [u8]) -> Result<usize, u8> {
-    if command.len() != COMMAND_BYTES {
+    if !matches!(command.len(), COMMAND_BYTES | PACKET_BYTES) {
         return Err(COMMAND_LENGTH);
     }
     if command[0] != OPCODE {

@@ -227,6 +227,13 @@ fn each_ruled(see: &mut dyn FnMut(&[u8])) {
     }
 }
 
+/// Has some commands in a packet, with any pads.
+fn pad(numbers: &mut Numbers, command: &mut Vec<u8>) {
+    if numbers.below(2) == 0 {
+        command.extend([numbers.below(256) as u8, numbers.below(256) as u8]);
+    }
+}
+
 #[test]
 fn sheets_and_commands() {
     let mut numbers = Numbers(0x5EED_0000_0000_0001);
@@ -242,6 +249,7 @@ fn sheets_and_commands() {
             let (rt, sfn) = (numbers.below(3) as u8, numbers.below(70) as u16);
             let allocation = [numbers.below(300) as u16, 65_535][numbers.below(2) as usize];
             let mut command = command(rt, [0, sfn][numbers.below(2) as usize], allocation).to_vec();
+            pad(&mut numbers, &mut command);
             if numbers.below(4) == 0 {
                 damage(&mut numbers, &mut command);
             }
@@ -277,6 +285,7 @@ fn images() {
             let (rt, sfn) = (numbers.below(3) as u8, numbers.below(70) as u16);
             let allocation = [numbers.below(300) as u16, 65_535][numbers.below(2) as usize];
             let mut command = command(rt, [0, sfn][numbers.below(2) as usize], allocation).to_vec();
+            pad(&mut numbers, &mut command);
             if numbers.below(4) == 0 {
                 damage(&mut numbers, &mut command);
             }

@@ -3,7 +3,7 @@
 use super::{command, response, told, E, E_FULL, FILL};
 use crate::bench::{bench, Outcome};
 use crate::checks::{check_descriptors, check_profile, ProfileAnswer};
-use crate::command::respond;
+use crate::command::{respond, Request};
 use crate::find::find;
 use crate::numbers::*;
 use crate::reading::{read, Reading};
@@ -24,9 +24,9 @@ fn refused_command(sheet: &[u8], command: &[u8], room: usize) -> u8 {
 #[test]
 fn commands() {
     let good = command(0, 0, 44);
-    assert_eq!(refused_command(&E, &good[..9], 44), COMMAND_LENGTH);
-    assert_eq!(refused_command(&E, &[], 44), COMMAND_LENGTH);
-    assert_eq!(refused_command(&E, &[0x46; 12], 44), COMMAND_LENGTH);
+    for length in (0..=16).filter(|length| ![10, 12].contains(length)) {
+        assert_eq!(refused_command(&E, &vec![0x46; length], 44), COMMAND_LENGTH);
+    }
     let mut opcode = good;
     opcode[0] = 0x47;
     opcode[1] = 3;
@@ -47,6 +47,38 @@ fn reserved_bits_of_a_command_are_ignored() {
     assert_eq!(respond(Rows, &E, &noisy, &mut out), Ok(16));
     assert_eq!(out[8..16], E_FULL[20..28]);
     assert_eq!(out[16..], [FILL; 16]);
+    // So are the pads of a packet.
+    let packet = [&noisy[..], &[0xFF, 0x46]].concat();
+    let mut again = [FILL; 32];
+    assert_eq!(respond(Rows, &E, &packet, &mut again), Ok(16));
+    assert_eq!(again, out);
+}
+
+#[test]
+fn built_commands() {
+    let request = |rt, sfn, allocation| Request { rt, sfn: Feature(sfn), allocation };
+    for length in 0..=16 {
+        for room in 0..=16 {
+            for rt in [0, 2, 3, 255] {
+                let mut out = [FILL; 16];
+                let built = request(rt, 0x0105, 300).build(length, &mut out[..room]);
+                let wanted = match (length, rt) {
+                    (10 | 12, 0..=2) if room >= length => Ok(length),
+                    (10 | 12, 0..=2) => Err(BUFFER_SHORT),
+                    (10 | 12, _) => Err(COMMAND_RT),
+                    _ => Err(COMMAND_LENGTH),
+                };
+                assert_eq!(built, wanted);
+                let bytes = [0x46, rt, 1, 5, 0, 0, 0, 1, 44, 0, 0, 0];
+                let count = built.unwrap_or(0);
+                assert_eq!(out[..count], bytes[..count]);
+                assert!(out[count..].iter().all(|&byte| byte == FILL));
+                if built.is_ok() {
+                    assert_eq!(Request::parse(&out[..count]), Ok(request(rt, 0x0105, 300)));
+                }
+            }
+        }
+    }
 }
 
 /// The number of a reading that must be refused.

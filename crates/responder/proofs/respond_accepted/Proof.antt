@@ -1,7 +1,7 @@
 -- `responder::respond_accepted` meets its contract: the command's refusal, or what is sent.
 use mathlib.Core.Path.{sym, ap, _∙_}
-use Rattle.text.specs.declared.Command.{Command}
-use Rattle.text.specs.Command.{commandOf, commandFault}
+use Rattle.command.specs.declared.Command.{Command}
+use Rattle.command.specs.Command.{commandOf, commandFault}
 use Rattle.layout.specs.Layout.{stored}
 use Rattle.responder.specs.Trusting.{trusting, trustingCommand}
 use Rattle.refusal.proofs.First.{unless-none}

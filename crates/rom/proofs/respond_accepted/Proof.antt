@@ -3,8 +3,8 @@ use mathlib.Core.Path.{sym, ap, _∙_}
 use Rattle.refusal.proofs.First.{unless-none}
 use Rattle.lent.specs.Maker.{refusing}
 use Rattle.lent.proofs.Maker.{refused-unless}
-use Rattle.text.specs.declared.Command.{Command}
-use Rattle.text.specs.Command.{commandOf, commandFault}
+use Rattle.command.specs.declared.Command.{Command}
+use Rattle.command.specs.Command.{commandOf, commandFault}
 use Rattle.rom.specs.Image.{imageRequested, imageCommanded}
 use borrow.Author.Needs.{needs}
 use Rattle.rom.proofs.respond_accepted.Statement.{statement}

@@ -4,6 +4,7 @@ use super::{Case, Numbers, Outcome};
 use crate::kinds::{fields as record_fields, handed, proved as step_fields};
 use crate::run::told;
 use gcf::raw;
+use second::command::Request;
 use second::refusal::Refusal;
 use second::sheet::{Layout, Sheet};
 use second::sweep::Record;
@@ -105,6 +106,10 @@ fn proved(case: &Case, out: &mut [u8]) -> Option<Numbers> {
             let load = if laid == Layout::Rows { raw::load } else { raw::load_columns };
             load(first, &features, &profiles, out, told)
         }
+        ("build", _) => {
+            let (rt, sfn) = (given[1] as u8, gcf::Feature(given[2] as u16));
+            raw::build_command(given[0] as usize, rt, sfn, given[3] as u16, out, told)
+        }
         ("import", _) => raw::import(first, out, told),
         ("read", _) => raw::read(given[0] as u8, gcf::Feature(given[1] as u16), first, told),
         ("descriptors", _) => raw::check_descriptors(first, told),
@@ -178,6 +183,11 @@ fn plain(case: &Case, out: &mut [u8]) -> Option<Numbers> {
             let features: Vec<_> = features.into_iter().map(Feature).collect();
             let profiles: Vec<_> = profiles.into_iter().map(Profile).collect();
             counted(second::load::load(laid, first, &features, &profiles, out))
+        }
+        "build" => {
+            let (rt, sfn, allocation) = (given[1] as u8, Feature(given[2] as u16), given[3] as u16);
+            let built = Request { rt, sfn, allocation }.build(given[0] as usize, out);
+            with(built.err().unwrap_or(0), &[built.unwrap_or(0) as u64])
         }
         "import" => counted(second::import::import(first, out)),
         "read" => {

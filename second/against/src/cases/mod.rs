@@ -29,6 +29,7 @@
 //! sheet C | SHEET = refusal, place; here and below C is 1 where the sheet is in columns
 //! respond C | SHEET | COMMAND = refusal, count, place
 //! accepted C | SHEET | COMMAND = refusal, count: the same with no check of the sheet
+//! build LENGTH RT SFN A = refusal, count
 //! convert C | SHEET = refusal, count, place: to the other layout
 //! load C N | SHEET | NUMBERS = refusal, count, place: N features of a medium, two bytes each, then its profiles
 //! import | RESPONSE = refusal, count, place

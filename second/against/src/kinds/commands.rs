@@ -80,6 +80,7 @@ fn each_two_faults(run: &mut Run, compare: Compare) {
     faults.push(fault(9, |asked: &mut Asked| asked.command.truncate(0)));
     faults.push(fault(9, |asked: &mut Asked| asked.command.truncate(9)));
     faults.push(fault(9, |asked: &mut Asked| asked.command.push(0)));
+    faults.push(fault(9, |asked: &mut Asked| asked.command.resize(13, 0)));
     faults.push(fault(10, |asked: &mut Asked| asked.command[0] = 0x47));
     faults.push(fault(10, |asked: &mut Asked| asked.command[0] = 0));
     faults.push(fault(11, |asked: &mut Asked| asked.command[1] |= 3));
@@ -94,10 +95,13 @@ fn each_two_faults(run: &mut Run, compare: Compare) {
     });
 }
 
-/// Commands of every length up to 20, every first byte, and every second byte with all reserved bits set behind.
+/// Commands of every length up to 20, every first byte, and every second byte with all reserved bits set behind, in packets too.
 pub fn commands_that_are_none(run: &mut Run, compare: Compare, asked: &Given) {
-    for length in (0..20).chain([10 + 0x100, 10 + 0x1_0000]) {
-        compare(run, asked, &vec![0x46; length], 100, 2);
+    for length in (0..20).chain([10 + 0x100, 12 + 0x100, 10 + 0x1_0000, 12 + 0x1_0000]) {
+        let told = compare(run, asked, &vec![0x46; length], 100, 2);
+        if ![10, 12].contains(&length) {
+            run.expect_told(told, (9, 0));
+        }
     }
     for byte in 0..=255 {
         let mut first = command(0, 0, 44);
@@ -106,7 +110,9 @@ pub fn commands_that_are_none(run: &mut Run, compare: Compare, asked: &Given) {
         let mut second = [0xFF; 10];
         second[..4].copy_from_slice(&[0x46, byte, 0, 1]);
         second[7..9].copy_from_slice(&[0, 100]);
-        compare(run, asked, &second, 100, 1);
+        let told = compare(run, asked, &second, 100, 1);
+        let packet = compare(run, asked, &[&second[..], &[byte, 0xFF]].concat(), 100, 1);
+        run.expect_told(packet, told);
     }
 }
 
@@ -172,6 +178,11 @@ pub fn made_up_commands(
         let allocation = random.near(full);
         let mut asked = command(rt, sfn, allocation).to_vec();
         reserved(random, &mut asked);
+        match random.below(6) {
+            0 => asked.resize(random.below(17), random.byte()),
+            1..=3 => asked.extend([random.byte(), random.byte()]),
+            _ => {}
+        }
         if random.once_in(6) {
             damage(random, &mut asked);
         }

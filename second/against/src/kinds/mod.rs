@@ -2,6 +2,7 @@
 //! A further function takes a wrapper in bindings/rust/src/raw.rs, a file here, and its line in `KINDS`.
 
 mod bench;
+mod build_command;
 mod check_descriptors;
 mod check_image;
 mod check_profile;
@@ -49,6 +50,7 @@ pub const KINDS: &[Kind] = &[
     check_image::KIND,
     respond_image::KIND,
     respond_image_accepted::KIND,
+    build_command::KIND,
     read::KIND,
     held::KIND,
     list::KIND,

@@ -1,0 +1,4 @@
+-- Laws of a command's bytes, and of those that are made.
+pub mod Same
+pub mod Built
+pub mod Promised

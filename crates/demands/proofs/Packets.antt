@@ -1,0 +1,271 @@
+-- Request 14: "Accept 10 or 12, ignore the pads, and show once over the length that the answer depends only on bytes 0 to 8. Give the driver a builder of either
+-- length from RT, SFN and allocation length, all other bits 0, whose commands the box understands as exactly those three." `built` is the contract of
+-- `Command::build`. Assumes nothing.
+use mathlib.Core.Path.{_≡_, sym, ap, _∙_}
+use mathlib.Core.List.{List}
+use Prim.Native.Nat.{ℕ, _≤_, _<_}
+use lib.ListN.{take}
+use base.Logic.{ent, id⊢, via}
+use contract.Monad.{conj, conj-mono, fact}
+use contract.Lifetimes.{Lfts}
+use denote.Triple.Clauses.{Ended}
+use denote.Triple.Entry.{Args}
+use denote.Ref.{now}
+use Rattle.base.specs.Lists.{Bytes}
+use Rattle.base.proofs.Decided.{Contract, Call, Outcome, allowed}
+use Rattle.base.proofs.Promise.{Promised, promises, by, beside, both}
+use Rattle.refusal.specs.declared.Refusal.{Refusal}
+use Rattle.refusal.specs.First.{accept, unless, _orElse_}
+use Rattle.lent.specs.declared.Made.{Made}
+use Rattle.lent.specs.Maker as maker
+use Rattle.text.specs.declared.Reading.{Reading}
+use Rattle.text.specs.Response.{sent}
+use Rattle.command.specs.declared.Command.{Command}
+use Rattle.command.specs.Command.{rtOf, sfnOf, allocationOf, commandFault, commandOf, SameAsked}
+use Rattle.command.proofs.Same.{same-rt, same-sfn, same-allocation, same-fault}
+use Rattle.command.proofs.Promised.{Commands, commands, Understood, understood, Builds, builds}
+use Rattle.command.proofs.Command.fault as command-fault
+use Rattle.command.proofs.Command.read as command-read
+use Rattle.command.proofs.Command.build as command-build
+use Rattle.layout.specs.declared.Layout.the-variants.{Rows, Columns}
+use Rattle.layout.specs.Layout.{Sheet, stored}
+use Rattle.sheet.specs.Check.{verdict}
+use Rattle.sheet.specs.Meaning.{meaning}
+use Rattle.responder.specs.Answer.{answered}
+use Rattle.responder.specs.Trusting.{trusting, trustingCommand}
+use Rattle.responder.proofs.respond as respond
+use Rattle.responder.proofs.respond_accepted as respond-accepted
+use Rattle.reading.specs.Places.{descs}
+use Rattle.reading.proofs.read as read
+use Rattle.capture.specs.Capture.{captured, captureFault}
+use Rattle.rom.specs.Rom.{imageAnswered}
+use Rattle.rom.specs.Image.{imageRequested, imageCommanded}
+use Rattle.rom.proofs.respond as rom-respond
+use Rattle.rom.proofs.respond_accepted as rom-respond-accepted
+use Rattle.abi.specs.Left.{left, showMade, showPlaced}
+use Rattle.abi.proofs.gcf_respond as gcf-respond
+use Rattle.abi.proofs.gcf_respond_columns as gcf-respond-columns
+use Rattle.abi.proofs.gcf_respond_accepted as gcf-respond-accepted
+use Rattle.abi.proofs.gcf_respond_columns_accepted as gcf-respond-columns-accepted
+use Rattle.abi.proofs.gcf_respond_image as gcf-respond-image
+use Rattle.abi.proofs.gcf_respond_image_accepted as gcf-respond-image-accepted
+use Rattle.demands.proofs.Sending.{Answers, demand2}
+use Rattle.demands.proofs.Readings.{ReadBack, Reads, reads}
+use Rattle.demands.proofs.EndToEnd.{read-back}
+use Rattle.demands.proofs.Named.{named, saying}
+
+-- ---- bytes 0 to 8 alone count, whichever of the two lengths a command has
+
+-- whatever f makes of its refusal, RT, Starting Feature Number and allocation length
+same-asked : {A : Type 0} {c e : List ℕ} → SameAsked c e → (f : Refusal → (rt sfn a : ℕ) → A)
+    → f (commandFault c) (rtOf c) (sfnOf c) (allocationOf c) ≡ f (commandFault e) (rtOf e) (sfnOf e) (allocationOf e)
+same-asked {c = c} {e = e} same f = rw (same-fault c e same, same-rt c e same, same-sfn c e same, same-allocation c e same)
+
+module _ {c e : List ℕ} (same : SameAsked c e) where
+  same-answered : (s : Sheet) (d : List ℕ) → answered s c d ≡ answered s e d
+  unfolding answered
+  same-answered s d = same-asked same (λ r rt sfn a. maker.makes (verdict s orElse r) 12 (sent rt sfn a (meaning s)) d)
+
+  same-trusted : (s : Sheet) (d : List ℕ) → trustingCommand s c d ≡ trustingCommand s e d
+  unfolding trustingCommand
+  same-trusted s d = same-asked same (λ r rt sfn a. unless r (maker.refusing d) (trusting s rt sfn a d))
+
+  same-image : (i d : List ℕ) → imageAnswered i c d ≡ imageAnswered i e d
+  unfolding imageAnswered
+  same-image i d = same-asked same (λ r rt sfn a. maker.makes (captureFault i orElse r) 12 (sent rt sfn a (captured (descs i))) d)
+
+  same-image-accepted : (i d : List ℕ) → imageCommanded i c d ≡ imageCommanded i e d
+  unfolding imageCommanded
+  same-image-accepted i d = same-asked same (λ r rt sfn a. unless r (maker.refusing d) (imageRequested i rt sfn a d))
+
+-- Of two calls of a function φ holds, whatever outcomes its contract allows.
+abbrev Twice : (T : Ended) (c : Contract T) → ((x : Call T c) → Outcome T c x → (y : Call T c) → Outcome T c y → Type 0) → Type 2
+Twice T c φ =
+    (x : Call T c) (κs : Lfts (T .signature .lifetimes)) (args : Args (T .signature) κs) (g : c (x .M) (x .𝓤) (x .H) (x .A) (x .mem) (x .run) κs args .ghost)
+    (o : Outcome T c x) (p : Outcome T c (beside x κs args g))
+    → ent (x .𝓤) (conj (x .𝓤) (allowed T c x o) (allowed T c (beside x κs args g) p)) (fact (x .𝓤) (φ x o (beside x κs args g) p))
+
+-- Two calls of an engine that answers from s, with the commands c and c′ and the buffers d and d′, which leave o and o′: where the commands have the same bytes 0 to 8, each 10
+-- bytes or 12 long, and all else is the same, the same is left: number, place, count, and every byte.
+abbrev Alike : {S L : Type 0} (s s′ : S) (c c′ d d′ : List ℕ) (o o′ : L) → Type 0
+Alike s s′ c c′ d d′ o o′ = s ≡ s′ → SameAsked c c′ → d ≡ d′ → o ≡ o′
+
+alike : {S L : Type 0} {s s′ : S} {c c′ d d′ : List ℕ} {o o′ : L} (f : S → List ℕ → List ℕ → L) → (SameAsked c c′ → f s′ c d′ ≡ f s′ c′ d′) → o ≡ f s c d → o′ ≡ f s′ c′ d′ → Alike s s′ c c′ d d′ o o′
+alike {c = c} f same e e′ is-s is-c is-d = e ∙ rw (is-s, is-d) (same is-c) ∙ sym e′
+
+-- the sheet engine, in either layout, and its unchecked entry
+pub respond-alike : Twice respond.ended (λ M. respond.clauses)
+    (λ x o y p. saying x o (λ _ lay s command out r _ _ _ out′. saying y p (λ _ lay₂ s₂ command₂ out₂ r₂ _ _ _ out₂′.
+    Alike (stored lay (now s)) (stored lay₂ (now s₂)) (now command) (now command₂) (now out) (now out₂) (maker.outcome r out′) (maker.outcome r₂ out₂′))))
+respond-alike x κs args g o p = both (x .𝓤) (alike answered (λ same. same-answered same _ _))
+
+pub respond-accepted-alike : Twice respond-accepted.ended (λ M. respond-accepted.clauses)
+    (λ x o y p. saying x o (λ _ lay s command out r _ _ _ out′. saying y p (λ _ lay₂ s₂ command₂ out₂ r₂ _ _ _ out₂′.
+    Alike (stored lay (now s)) (stored lay₂ (now s₂)) (now command) (now command₂) (now out) (now out₂) (maker.outcome r out′) (maker.outcome r₂ out₂′))))
+respond-accepted-alike x κs args g o p = both (x .𝓤) (alike trustingCommand (λ same. same-trusted same _ _))
+
+-- the image engine, and its unchecked entry
+pub rom-respond-alike : Twice rom-respond.ended (λ M. rom-respond.clauses)
+    (λ x o y p. saying x o (λ _ image command out r _ _ out′. saying y p (λ _ image₂ command₂ out₂ r₂ _ _ out₂′.
+    Alike (now image) (now image₂) (now command) (now command₂) (now out) (now out₂) (maker.outcome r out′) (maker.outcome r₂ out₂′))))
+rom-respond-alike x κs args g o p = both (x .𝓤) (alike imageAnswered (λ same. same-image same _ _))
+
+pub rom-respond-accepted-alike : Twice rom-respond-accepted.ended (λ M. rom-respond-accepted.clauses)
+    (λ x o y p. saying x o (λ _ image command out r _ _ out′. saying y p (λ _ image₂ command₂ out₂ r₂ _ _ out₂′.
+    Alike (now image) (now image₂) (now command) (now command₂) (now out) (now out₂) (maker.outcome r out′) (maker.outcome r₂ out₂′))))
+rom-respond-accepted-alike x κs args g o p = both (x .𝓤) (alike imageCommanded (λ same. same-image-accepted same _ _))
+
+-- the same of the exported functions, with the array of numbers
+told-alike : {S L : Type 0} {s s′ : S} {c c′ d d′ n n′ : List ℕ} {o o′ : L} (show : maker.Outcome → List ℕ → L) (f : S → List ℕ → List ℕ → maker.Outcome) → (SameAsked c c′ → f s′ c d′ ≡ f s′ c′ d′)
+    → o ≡ show (f s c d) n → o′ ≡ show (f s′ c′ d′) n′ → n ≡ n′ → Alike s s′ c c′ d d′ o o′
+told-alike {n′ = n′} show f same e e′ is-n is-s is-c is-d = e ∙ rw (is-n, is-s, is-d) (ap (λ (z : maker.Outcome). show z n′) (same is-c)) ∙ sym e′
+
+pub gcf-respond-alike : Twice gcf-respond.ended (λ M. gcf-respond.clauses)
+    (λ x o y p. saying x o (λ _ sheet command response numbers r _ _ response′ numbers′. saying y p (λ _ sheet₂ command₂ response₂ numbers₂ r₂ _ _ response₂′ numbers₂′.
+    now numbers ≡ now numbers₂ → Alike (now sheet) (now sheet₂) (now command) (now command₂) (now response) (now response₂) (left r response′ numbers′) (left r₂ response₂′ numbers₂′))))
+gcf-respond-alike x κs args g o p = both (x .𝓤) (told-alike showPlaced (λ s. answered (stored Rows s)) (λ same. same-answered same _ _))
+
+pub gcf-respond-columns-alike : Twice gcf-respond-columns.ended (λ M. gcf-respond-columns.clauses)
+    (λ x o y p. saying x o (λ _ sheet command response numbers r _ _ response′ numbers′. saying y p (λ _ sheet₂ command₂ response₂ numbers₂ r₂ _ _ response₂′ numbers₂′.
+    now numbers ≡ now numbers₂ → Alike (now sheet) (now sheet₂) (now command) (now command₂) (now response) (now response₂) (left r response′ numbers′) (left r₂ response₂′ numbers₂′))))
+gcf-respond-columns-alike x κs args g o p = both (x .𝓤) (told-alike showPlaced (λ s. answered (stored Columns s)) (λ same. same-answered same _ _))
+
+pub gcf-respond-accepted-alike : Twice gcf-respond-accepted.ended (λ M. gcf-respond-accepted.clauses)
+    (λ x o y p. saying x o (λ _ sheet command response numbers r _ _ response′ numbers′. saying y p (λ _ sheet₂ command₂ response₂ numbers₂ r₂ _ _ response₂′ numbers₂′.
+    now numbers ≡ now numbers₂ → Alike (now sheet) (now sheet₂) (now command) (now command₂) (now response) (now response₂) (left r response′ numbers′) (left r₂ response₂′ numbers₂′))))
+gcf-respond-accepted-alike x κs args g o p = both (x .𝓤) (told-alike showMade (λ s. trustingCommand (stored Rows s)) (λ same. same-trusted same _ _))
+
+pub gcf-respond-columns-accepted-alike : Twice gcf-respond-columns-accepted.ended (λ M. gcf-respond-columns-accepted.clauses)
+    (λ x o y p. saying x o (λ _ sheet command response numbers r _ _ response′ numbers′. saying y p (λ _ sheet₂ command₂ response₂ numbers₂ r₂ _ _ response₂′ numbers₂′.
+    now numbers ≡ now numbers₂ → Alike (now sheet) (now sheet₂) (now command) (now command₂) (now response) (now response₂) (left r response′ numbers′) (left r₂ response₂′ numbers₂′))))
+gcf-respond-columns-accepted-alike x κs args g o p = both (x .𝓤) (told-alike showMade (λ s. trustingCommand (stored Columns s)) (λ same. same-trusted same _ _))
+
+pub gcf-respond-image-alike : Twice gcf-respond-image.ended (λ M. gcf-respond-image.clauses)
+    (λ x o y p. saying x o (λ _ image command response numbers r _ _ response′ numbers′. saying y p (λ _ image₂ command₂ response₂ numbers₂ r₂ _ _ response₂′ numbers₂′.
+    now numbers ≡ now numbers₂ → Alike (now image) (now image₂) (now command) (now command₂) (now response) (now response₂) (left r response′ numbers′) (left r₂ response₂′ numbers₂′))))
+gcf-respond-image-alike x κs args g o p = both (x .𝓤) (told-alike showPlaced imageAnswered (λ same. same-image same _ _))
+
+pub gcf-respond-image-accepted-alike : Twice gcf-respond-image-accepted.ended (λ M. gcf-respond-image-accepted.clauses)
+    (λ x o y p. saying x o (λ _ image command response numbers r _ _ response′ numbers′. saying y p (λ _ image₂ command₂ response₂ numbers₂ r₂ _ _ response₂′ numbers₂′.
+    now numbers ≡ now numbers₂ → Alike (now image) (now image₂) (now command) (now command₂) (now response) (now response₂) (left r response′ numbers′) (left r₂ response₂′ numbers₂′))))
+gcf-respond-image-accepted-alike x κs args g o p = both (x .𝓤) (told-alike showMade imageCommanded (λ same. same-image-accepted same _ _))
+
+pair : {φ ψ : Type 0} → φ → ψ → φ × ψ
+pair f g = (f, g)
+
+-- ---- the three functions of a command
+
+pub command-fault-tied : Promised command-fault.ended (λ M. command-fault.clauses) (λ M. command-fault.spec) (named (λ _ bytes r _. (r ≡ commandFault (now bytes)) × Commands (now bytes) r))
+command-fault-tied x = promises (x .𝓤) (λ o e. (e, by (Commands _) (commands _) e))
+
+pub command-read-tied : Promised command-read.ended (λ M. command-read.clauses) (λ M. command-read.spec) (named (λ _ bytes r _. (r ≡ commandOf (now bytes)) × Understood (now bytes) (r .rt) (r .sfn .0) (r .allocation)))
+unfolding commandOf
+command-read-tied x = promises (x .𝓤) (λ o e. (e, by (λ (c : Command). Understood (x .args .0 .now) (c .rt) (c .sfn .0) (c .allocation)) (understood (x .args .0 .now)) e))
+
+pub command-build-tied : Promised command-build.ended (λ M. command-build.clauses) (λ M. command-build.spec)
+    (named (λ _ length rt sfn allocation out r _ _ _ _ out′. Builds length rt (sfn .0) allocation (now out) (maker.outcome r out′)))
+command-build-tied x = promises (x .𝓤) (λ o. by (Builds _ _ _ _ _) (builds _ _ _ _ _))
+
+-- what was answered to a command that asks for these, read
+read-asked : {s : Sheet} {c d : List ℕ} {o : maker.Outcome} {rt sfn a : ℕ} {received : List ℕ} {r : Reading} → rtOf c ≡ rt → sfnOf c ≡ sfn → allocationOf c ≡ a → Answers s c d o
+    → o .made .refusal .number ≡ 0 → Reads 65534 rt sfn received r → Bytes (s .bytes) → 8 ≤ a → received ≡ take (o .made .count) (o .buffer) → ReadBack (meaning s) 65534 rt sfn a received r
+read-asked is-rt is-sfn is-a answers z reads b eight there = rw (is-rt, is-sfn, is-a) at (read-back answers z reads b (rw is-a eight) (sym is-rt) (sym is-sfn) there)
+
+-- ---- a command that was built: `build` is called, then another function with the bytes that it wrote
+
+-- the command c is what `build` wrote, which answered m and left the buffer d; the two numbers have 16 bits, as their types say
+pub record Handed (m : Made) (d : List ℕ) (sfn a : ℕ) (c : List ℕ) : Type 0 where
+  pub zero : m .refusal .number ≡ 0
+  pub there : c ≡ take (m .count) d
+  pub low : sfn < 65536
+  pub short : a < 65536
+
+module _ {n rt sfn a : ℕ} {was d c : List ℕ} {m : Made} (h : Handed m d sfn a c) (promised : Builds n rt sfn a was (maker.outcome m d)) where
+  is-wrote : c ≡ take n d
+  is-wrote = h .there ∙ ap (λ (k : ℕ). take k d) (promised .stands (h .zero) .0)
+
+  is-fine : commandFault c ≡ accept
+  is-fine = ap commandFault is-wrote ∙ promised .accepted (h .zero)
+
+  is-command : commandOf c ≡ record { rt = rt; sfn = record { 0 = sfn }; allocation = a }
+  is-command = ap commandOf is-wrote ∙ promised .understood (h .zero) (h .low) (h .short)
+
+  -- so whatever is made of the command's refusal and of what it asks for is made of these
+  is-asked : {A : Type 0} (f : Refusal → (rt sfn a : ℕ) → A) → f (commandFault c) (rtOf c) (sfnOf c) (allocationOf c) ≡ f accept rt sfn a
+  unfolding commandOf
+  is-asked f = ap (λ (r : Refusal). f r (rtOf c) (sfnOf c) (allocationOf c)) is-fine ∙ ap (λ (k : Command). f accept (k .rt) (k .sfn .0) (k .allocation)) is-command
+
+-- `fault` refuses nothing of it
+module _ (x : Call command-build.ended (λ M. command-build.clauses)) (κs : Lfts (command-fault.ended .signature .lifetimes)) (args : Args (command-fault.ended .signature) κs) where
+  abbrev looked : Call command-fault.ended (λ M. command-fault.clauses)
+  looked = beside x κs args tt
+
+  pub build-fault : (o : Outcome command-build.ended (λ M. command-build.clauses) x) (p : Outcome command-fault.ended (λ M. command-fault.clauses) looked)
+      → ent (x .𝓤) (conj (x .𝓤) (allowed command-build.ended (λ M. command-build.clauses) x o) (allowed command-fault.ended (λ M. command-fault.clauses) looked p)) (fact (x .𝓤) (
+      saying x o (λ _ length rt sfn allocation out r _ _ _ _ out′.
+      saying looked p (λ _ bytes₂ r₂ _.
+      Handed r out′ (sfn .0) allocation (now bytes₂) → r₂ ≡ accept))))
+  build-fault o p = both (x .𝓤) (λ e f h. f ∙ is-fine h (by (Builds _ _ _ _ _) (builds _ _ _ _ _) e))
+
+-- `read` understands it as exactly those three
+module _ (x : Call command-build.ended (λ M. command-build.clauses)) (κs : Lfts (command-read.ended .signature .lifetimes)) (args : Args (command-read.ended .signature) κs) where
+  abbrev spelled : Call command-read.ended (λ M. command-read.clauses)
+  spelled = beside x κs args tt
+
+  pub build-read : (o : Outcome command-build.ended (λ M. command-build.clauses) x) (p : Outcome command-read.ended (λ M. command-read.clauses) spelled)
+      → ent (x .𝓤) (conj (x .𝓤) (allowed command-build.ended (λ M. command-build.clauses) x o) (allowed command-read.ended (λ M. command-read.clauses) spelled p)) (fact (x .𝓤) (
+      saying x o (λ _ length rt sfn allocation out r _ _ _ _ out′.
+      saying spelled p (λ _ bytes₂ r₂ _.
+      Handed r out′ (sfn .0) allocation (now bytes₂) → (r₂ .rt ≡ rt) × (r₂ .sfn ≡ sfn) × (r₂ .allocation ≡ allocation)))))
+  build-read o p = both (x .𝓤) (λ e f h. let k = f ∙ is-command h (by (Builds _ _ _ _ _) (builds _ _ _ _ _) e) in (ap (λ (z : Command). z .rt) k, ap (λ (z : Command). z .sfn) k, ap (λ (z : Command). z .allocation) k))
+
+-- the image engine answers it with what is defined for those three
+module _ (x : Call command-build.ended (λ M. command-build.clauses)) (κs : Lfts (rom-respond.ended .signature .lifetimes)) (args : Args (rom-respond.ended .signature) κs) where
+  abbrev by-image : Call rom-respond.ended (λ M. rom-respond.clauses)
+  by-image = beside x κs args tt
+
+  pub build-rom-respond : (o : Outcome command-build.ended (λ M. command-build.clauses) x) (p : Outcome rom-respond.ended (λ M. rom-respond.clauses) by-image)
+      → ent (x .𝓤) (conj (x .𝓤) (allowed command-build.ended (λ M. command-build.clauses) x o) (allowed rom-respond.ended (λ M. rom-respond.clauses) by-image p)) (fact (x .𝓤) (
+      saying x o (λ _ length rt sfn allocation out r _ _ _ _ out′.
+      saying by-image p (λ _ image₂ command₂ out₂ r₂ _ _ out₂′.
+      Handed r out′ (sfn .0) allocation (now command₂)
+      → maker.outcome r₂ out₂′ ≡ maker.makes (captureFault (now image₂) orElse accept) 12 (sent rt (sfn .0) allocation (captured (descs (now image₂)))) (now out₂)))))
+  unfolding imageAnswered
+  build-rom-respond o p = both (x .𝓤) (λ e f h. f ∙ is-asked h (by (Builds _ _ _ _ _) (builds _ _ _ _ _) e) (λ r rt sfn a. maker.makes (captureFault (args .0 .now) orElse r) 12 (sent rt sfn a (captured (descs (args .0 .now)))) (args .1 .1 .0 .now)))
+
+-- and so does the sheet engine
+module _ (x : Call command-build.ended (λ M. command-build.clauses)) (κs : Lfts (respond.ended .signature .lifetimes)) (args : Args (respond.ended .signature) κs) where
+  abbrev answer : Call respond.ended (λ M. respond.clauses)
+  answer = beside x κs args tt
+
+  pub build-respond : (o : Outcome command-build.ended (λ M. command-build.clauses) x) (p : Outcome respond.ended (λ M. respond.clauses) answer)
+      → ent (x .𝓤) (conj (x .𝓤) (allowed command-build.ended (λ M. command-build.clauses) x o) (allowed respond.ended (λ M. respond.clauses) answer p)) (fact (x .𝓤) (
+      saying x o (λ _ length rt sfn allocation out r _ _ _ _ out′.
+      saying answer p (λ _ lay₂ s₂ command₂ out₂ r₂ _ _ _ out₂′.
+      Handed r out′ (sfn .0) allocation (now command₂)
+      → maker.outcome r₂ out₂′ ≡ maker.makes (verdict (stored lay₂ (now s₂)) orElse accept) 12 (sent rt (sfn .0) allocation (meaning (stored lay₂ (now s₂)))) (now out₂)))))
+  unfolding answered
+  build-respond o p = both (x .𝓤) (λ e f h.
+      let s : Sheet = stored (args .0) (args .1 .0 .now) in
+      f ∙ is-asked h (by (Builds _ _ _ _ _) (builds _ _ _ _ _) e) (λ r rt sfn a. maker.makes (verdict s orElse r) 12 (sent rt sfn a (meaning s)) (args .1 .1 .1 .0 .now)))
+
+  -- End to end: built, answered, read: the reading gives back what the sheet has for those three.
+  module _ (κs₂ : Lfts (read.ended .signature .lifetimes)) (args₂ : Args (read.ended .signature) κs₂) where
+    abbrev reading-of : Call read.ended (λ M. read.clauses)
+    reading-of = beside x κs₂ args₂ tt
+
+    pub build-end-to-end : (o : Outcome command-build.ended (λ M. command-build.clauses) x) (p : Outcome respond.ended (λ M. respond.clauses) answer) (q : Outcome read.ended (λ M. read.clauses) reading-of)
+        → ent (x .𝓤) (conj (x .𝓤) (allowed command-build.ended (λ M. command-build.clauses) x o)
+        (conj (x .𝓤) (allowed respond.ended (λ M. respond.clauses) answer p) (allowed read.ended (λ M. read.clauses) reading-of q))) (fact (x .𝓤) (
+        saying x o (λ _ length rt sfn allocation out r _ _ _ _ out′.
+        saying answer p (λ _ lay₂ s₂ command₂ out₂ r₂ _ _ _ out₂′.
+        saying reading-of q (λ _ rt₃ sfn₃ s₃ r₃ _ _ _.
+        Handed r out′ (sfn .0) allocation (now command₂) → r₂ .refusal .number ≡ 0 → Bytes (now s₂) → 8 ≤ allocation
+        → rt₃ ≡ rt → sfn₃ .0 ≡ sfn .0 → now s₃ ≡ take (r₂ .count) out₂′
+        → ReadBack (meaning (stored lay₂ (now s₂))) 65534 rt (sfn .0) allocation (now s₃) r₃)))))
+    build-end-to-end o p q =
+        via (x .𝓤) _ (conj-mono (x .𝓤) (id⊢ (x .𝓤) _) (both (x .𝓤) pair))
+        (both (x .𝓤) (λ e fg h z b eight is-rt is-sfn.
+        let k = by (Builds _ _ _ _ _) (builds _ _ _ _ _) e in
+        read-asked (is-asked h k (λ v rt sfn a. rt)) (is-asked h k (λ v rt sfn a. sfn)) (is-asked h k (λ v rt sfn a. a))
+        (by (Answers _ _ _) (demand2 _ _ _) (fg .0)) z (rw (is-rt, is-sfn) at (by (Reads _ _ _ _) (reads _ _ _ _) (fg .1))) b eight))
