@@ -25,7 +25,7 @@
 #include <stdint.h>
 
 /* The version, and its only place: all else that tells it takes it from here. docs/CHANGES.md says what each one brought. */
-#define GCF_VERSION "0.12.0"
+#define GCF_VERSION "0.13.0"
 
 #if SIZE_MAX != UINT64_MAX
 #error "gcf.h: size_t has not 64 bits here, and the functions of libgcf.a take every length and count as 64 bits. There is no libgcf.a for such a target."
@@ -126,6 +126,19 @@ enum gcf_number {
     /* sense data, beside 46 to 48 */
     GCF_NOT_GIVEN = 54,
     GCF_SENSE_BUFFER_SHORT = 55
+};
+
+/* What the archive subset is asked for as, a number that no drive may list. */
+#define GCF_ARCHIVE gcf_profile_of(0x0000)
+
+/* What is wrong with a feature that breaks a profile, the first of these. */
+enum gcf_wrong {
+    GCF_WRONG_NOTHING = 0,     /* no feature breaks it */
+    GCF_WRONG_ABSENT = 1,      /* no descriptor has its number */
+    GCF_WRONG_TOO_SHORT = 2,   /* its body is shorter than the profile asks */
+    GCF_WRONG_BIT_CLEAR = 3,   /* a bit that the profile asks for is not set */
+    GCF_WRONG_NOT_CURRENT = 4, /* it is not current, and the profile asks for that */
+    GCF_WRONG_TOO_LONG = 5     /* its descriptor is longer than the profile lets any be */
 };
 
 /* What sense data says of a command. None is 0, which stands where sense data is refused. */
@@ -384,12 +397,12 @@ uint8_t gcf_check_descriptors(const uint8_t *response, size_t response_bytes, ui
 
 /*
  * Whether a response to RT 0 from 0 has what a profile requires: the reading's numbers, 29, 40. 0 says only that it could be judged; whether it has
- * all is the first of the numbers, and gcf_conforms asks for both.
- * numbers: 1 if a feature is missing or 0, and the lowest that is. Refused: 0, 0.
+ * all is the first of the numbers, and gcf_conforms asks for both. The archive subset is asked for as profile GCF_ARCHIVE.
+ * numbers: what is wrong with the lowest feature that breaks the profile, one of enum gcf_wrong, 0 if none does, and that feature. Refused: 0, 0.
  */
 uint8_t gcf_check_profile(gcf_profile profile, const uint8_t *response, size_t response_bytes, uint64_t *numbers, size_t numbers_count);
 
-/* Whether the response could be judged, and has every feature that the profile requires. */
+/* Whether the response could be judged, and has all that the profile requires. */
 static inline bool gcf_conforms(gcf_profile profile, const uint8_t *response, size_t response_bytes)
 {
     uint64_t numbers[2];

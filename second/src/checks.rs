@@ -5,7 +5,6 @@ use crate::reading::{read, whole, Reading};
 use crate::wire::{be16, byte, part, Descriptor, Descriptors, Feature, Profile};
 
 const REMOVABLE_MEDIUM: Feature = Feature(0x0003);
-const RANDOM_READABLE: Feature = Feature(0x0010);
 const STREAMING_WRITABLE: Feature = Feature(0x0021);
 const CD_MASTERING: Feature = Feature(0x002E);
 
@@ -51,23 +50,87 @@ const RANDOM_WRITABLE: [u8; 12] = [0xFF, 0xFF, 0xFF, 0xFF, 0xFF, 0xFF, 0xFF, 0xF
 /// Features of the medium, which can't be Persistent where the medium can be removed.
 const OF_THE_MEDIUM: [u16; 7] = [0x001F, 0x0020, 0x0021, 0x0026, 0x002D, 0x002E, 0x002F];
 
-/// A profile and the features it needs, ascending.
-struct Required {
-    profile: Profile,
-    features: &'static [u16],
+/// A line of a profile's table: a feature, and what its name in the document adds.
+#[derive(Clone, Copy, Debug, PartialEq, Eq)]
+enum Line {
+    Named(u16),
+    /// "Random Readable, PP=1".
+    PagePresent(u16),
 }
 
-/// Required features of each profile that has a table.
-const REQUIRED: [Required; 2] = [
-    Required {
-        profile: Profile(0x0012),
-        features: &[
-            0x0000, 0x0001, 0x0002, 0x0003, 0x0010, 0x001F, 0x0020, 0x0023, 0x0024, 0x0100, 0x0101, 0x0105,
-            0x0107,
-        ],
-    },
-    Required { profile: Profile(0xFFFF), features: &[0x0000, 0x0001] },
+/// The tables of 98-116r0's profile clause, line by line.
+/// Table 58, Mandatory Features for Removable Disks: profile 2.
+const TABLE_58: [Line; 11] = [
+    Line::Named(0x0000),
+    Line::Named(0x0001),
+    Line::Named(0x0002),
+    Line::Named(0x0003),
+    Line::PagePresent(0x0010),
+    Line::Named(0x0020),
+    Line::Named(0x0023),
+    Line::Named(0x0024),
+    Line::Named(0x0100),
+    Line::Named(0x0101),
+    Line::Named(0x0105),
 ];
+
+/// Table 59, Mandatory Features for CD-ROM: profile 8.
+const TABLE_59: [Line; 8] = [
+    Line::Named(0x0000),
+    Line::Named(0x0001),
+    Line::Named(0x0002),
+    Line::Named(0x0003),
+    Line::PagePresent(0x0010),
+    Line::Named(0x001E),
+    Line::Named(0x0100),
+    Line::Named(0x0105),
+];
+
+/// Table 60, Mandatory Features for DVD-ROM: profile 10h.
+const TABLE_60: [Line; 9] = [
+    Line::Named(0x0000),
+    Line::Named(0x0001),
+    Line::Named(0x0002),
+    Line::Named(0x0003),
+    Line::PagePresent(0x0010),
+    Line::Named(0x001F),
+    Line::Named(0x0100),
+    Line::Named(0x0105),
+    Line::Named(0x0107),
+];
+
+/// Table 61, Mandatory Features for DVD-RAM: profile 12h.
+const TABLE_61: [Line; 13] = [
+    Line::Named(0x0000),
+    Line::Named(0x0001),
+    Line::Named(0x0002),
+    Line::Named(0x0003),
+    Line::PagePresent(0x0010),
+    Line::Named(0x001F),
+    Line::Named(0x0020),
+    Line::Named(0x0023),
+    Line::Named(0x0024),
+    Line::Named(0x0100),
+    Line::Named(0x0101),
+    Line::Named(0x0105),
+    Line::Named(0x0107),
+];
+
+/// Table 62, Mandatory Features for Logical Units Not Conforming to a Standard Profile: profile FFFFh.
+const TABLE_62: [Line; 2] = [Line::Named(0x0000), Line::Named(0x0001)];
+
+/// The number that asks for the archive subset.
+const ARCHIVE: Profile = Profile(0x0000);
+
+/// What is wrong with a feature that breaks a profile; of one feature the first counts.
+#[derive(Clone, Copy, Debug, PartialEq, Eq, PartialOrd, Ord)]
+pub enum Wrong {
+    Absent,
+    TooShort,
+    BitClear,
+    NotCurrent,
+    TooLong,
+}
 
 /// What the profile check answers.
 #[derive(Clone, Copy, Debug, PartialEq, Eq)]
@@ -76,20 +139,20 @@ pub enum ProfileAnswer {
     Refused(u8),
     /// 40: no table for the profile.
     NoTable,
-    /// The lowest required feature that is missing.
-    Missing(Feature),
-    /// All required features are there.
+    /// The lowest feature that breaks the profile, and what is wrong with it.
+    Broken(Feature, Wrong),
+    /// The response has all that the profile asks for.
     Conforms,
 }
 
 impl ProfileAnswer {
-    /// The answer as number, whether a feature is missing, and which one.
-    pub fn fields(self) -> (u8, bool, Feature) {
+    /// The answer as number, what is wrong (0 is nothing, then as the cases stand above), and with which feature.
+    pub fn fields(self) -> (u8, u8, Feature) {
         match self {
-            ProfileAnswer::Refused(number) => (number, false, Feature(0)),
-            ProfileAnswer::NoTable => (NO_TABLE, false, Feature(0)),
-            ProfileAnswer::Missing(feature) => (ACCEPTED, true, feature),
-            ProfileAnswer::Conforms => (ACCEPTED, false, Feature(0)),
+            ProfileAnswer::Refused(number) => (number, 0, Feature(0)),
+            ProfileAnswer::NoTable => (NO_TABLE, 0, Feature(0)),
+            ProfileAnswer::Broken(feature, wrong) => (ACCEPTED, wrong as u8 + 1, feature),
+            ProfileAnswer::Conforms => (ACCEPTED, 0, Feature(0)),
         }
     }
 }
@@ -215,30 +278,79 @@ fn lists_profile_zero(body: &[u8]) -> bool {
     body.chunks_exact(PROFILE_BYTES).any(|profile| be16(profile, 0) == 0)
 }
 
-/// Checks that a response reports all features a profile needs.
+/// The table of a profile; the archive subset has what DVD-RAM needs.
+fn table_of(profile: Profile) -> Option<&'static [Line]> {
+    match profile {
+        Profile(0x0002) => Some(&TABLE_58),
+        Profile(0x0008) => Some(&TABLE_59),
+        Profile(0x0010) => Some(&TABLE_60),
+        Profile(0x0012) | ARCHIVE => Some(&TABLE_61),
+        Profile(0xFFFF) => Some(&TABLE_62),
+        _ => None,
+    }
+}
+
+/// Checks that a response has what a profile asks for: of all that is wrong, what is wrong with the lowest feature is the answer.
 pub fn check_profile(profile: Profile, response: &[u8]) -> ProfileAnswer {
     let reading = match read_complete(response) {
         Ok(reading) => reading,
         Err(number) => return ProfileAnswer::Refused(number),
     };
-    let required = match REQUIRED.iter().find(|required| required.profile == profile) {
-        Some(required) => required,
+    let table = match table_of(profile) {
+        Some(table) => table,
         None => return ProfileAnswer::NoTable,
     };
     let walk = whole(response, &reading);
-    for &feature in required.features {
-        if !reported(walk.clone(), Feature(feature)).map_or(false, counts) {
-            return ProfileAnswer::Missing(Feature(feature));
-        }
+    let mut faults: Vec<(Feature, Wrong)> =
+        table.iter().filter_map(|&line| unmet(line, walk.clone())).collect();
+    if profile == ARCHIVE {
+        faults.extend(archive_faults(walk));
     }
-    ProfileAnswer::Conforms
+    match faults.into_iter().min() {
+        Some((feature, wrong)) => ProfileAnswer::Broken(feature, wrong),
+        None => ProfileAnswer::Conforms,
+    }
 }
 
-/// Whether a reported descriptor counts for a profile; Random Readable only with its page present.
-fn counts(descriptor: Descriptor) -> bool {
-    if descriptor.feature != RANDOM_READABLE {
-        return true;
+/// What is wrong by a line of a table.
+fn unmet(line: Line, walk: Descriptors) -> Option<(Feature, Wrong)> {
+    let (Line::Named(feature) | Line::PagePresent(feature)) = line;
+    let descriptor = match reported(walk, Feature(feature)) {
+        Some(descriptor) => descriptor,
+        None => return Some((Feature(feature), Wrong::Absent)),
+    };
+    match line {
+        Line::Named(_) => None,
+        // PP is bit 0 of byte 10, which is byte 6 of the body; the feature has a length of 8.
+        Line::PagePresent(_) => bit_set(descriptor, 8, 6, 0x01),
     }
-    // Byte 10 of the descriptor is byte 6 of its body.
-    descriptor.body.len() >= 8 && byte(descriptor.body, 6) & 0x01 != 0
+}
+
+/// What is wrong with a descriptor whose body has to have so many bytes and a bit of one of them set.
+fn bit_set(descriptor: Descriptor, least: usize, at: usize, bit: u8) -> Option<(Feature, Wrong)> {
+    if descriptor.body.len() < least {
+        return Some((descriptor.feature, Wrong::TooShort));
+    }
+    if byte(descriptor.body, at) & bit == 0 {
+        return Some((descriptor.feature, Wrong::BitClear));
+    }
+    None
+}
+
+/// What the archive subset asks for beside its table: 0020h and 0024h current, Lock (byte 4 bit 0) in a 0003h of length 4 or more, and no descriptor over 36 bytes.
+fn archive_faults(walk: Descriptors) -> Vec<(Feature, Wrong)> {
+    let mut faults = Vec::new();
+    for descriptor in walk {
+        let feature = descriptor.feature;
+        if feature == REMOVABLE_MEDIUM {
+            faults.extend(bit_set(descriptor, 4, 0, 0x01));
+        }
+        if [0x0020, 0x0024].contains(&feature.0) && descriptor.flags & CURRENT == 0 {
+            faults.push((feature, Wrong::NotCurrent));
+        }
+        if 4 + descriptor.body.len() > 36 {
+            faults.push((feature, Wrong::TooLong));
+        }
+    }
+    faults
 }

@@ -242,32 +242,55 @@ pub fn check_descriptors(response: &[u8]) -> Finding {
     }
 }
 
+/// What is wrong with a feature that breaks a profile, the first of these: `enum gcf_wrong`.
+#[derive(Clone, Copy, Debug, PartialEq, Eq, Hash)]
+pub enum Wrong {
+    /// No descriptor has its number.
+    Absent = 1,
+    /// Its body is shorter than the profile asks.
+    TooShort = 2,
+    /// A bit that the profile asks for is not set.
+    BitClear = 3,
+    /// It is not current, and the profile asks for that.
+    NotCurrent = 4,
+    /// Its descriptor is longer than the profile lets any be.
+    TooLong = 5,
+}
+
 /// Whether a response has what a profile requires.
 #[derive(Clone, Copy, Debug, PartialEq, Eq, Hash)]
 pub enum Judgement {
-    /// Every feature that the profile requires.
+    /// All that the profile requires.
     Conforms,
-    /// The lowest feature that is missing.
-    Missing(Feature),
+    /// The lowest feature that breaks the profile, and what is wrong with it.
+    Broken(Feature, Wrong),
     /// The response could not be read or is cut, or the profile has no table.
     Refused(Number),
 }
 
-/// Whether a complete response to RT 0 from 0 has what a profile requires: `gcf_check_profile`.
+/// Whether a complete response to RT 0 from 0 has what a profile requires: `gcf_check_profile`. The archive subset is asked for as [`ARCHIVE`](crate::ARCHIVE).
 ///
 /// ```
-/// use gcf::{Feature, Judgement, Number, Profile};
+/// use gcf::{Feature, Judgement, Number, Profile, Wrong};
 ///
 /// let response = [0, 0, 0, 16, 0, 0, 0, 0, 0, 0, 3, 0, 0, 1, 3, 4, 0, 0, 0, 2];
 /// assert_eq!(gcf::check_profile(Profile(0xFFFF), &response), Judgement::Conforms);
-/// assert_eq!(gcf::check_profile(Profile(0x0012), &response), Judgement::Missing(Feature(2)));
-/// assert_eq!(gcf::check_profile(Profile(0x0010), &response), Judgement::Refused(Number::NoTable));
+/// assert_eq!(gcf::check_profile(Profile(0x0012), &response), Judgement::Broken(Feature(2), Wrong::Absent));
+/// assert_eq!(gcf::check_profile(gcf::ARCHIVE, &response), Judgement::Broken(Feature(2), Wrong::Absent));
+/// assert_eq!(gcf::check_profile(Profile(0x0009), &response), Judgement::Refused(Number::NoTable));
 /// ```
 pub fn check_profile(profile: Profile, response: &[u8]) -> Judgement {
     let mut numbers = [0; 2];
-    match (accepted(raw::check_profile(profile, response, &mut numbers)), numbers[0]) {
-        (Err(number), _) => Judgement::Refused(number),
-        (Ok(()), 0) => Judgement::Conforms,
-        (Ok(()), _) => Judgement::Missing(Feature(numbers[1] as u16)),
+    if let Err(number) = accepted(raw::check_profile(profile, response, &mut numbers)) {
+        return Judgement::Refused(number);
     }
+    let wrong = match numbers[0] {
+        0 => return Judgement::Conforms,
+        1 => Wrong::Absent,
+        2 => Wrong::TooShort,
+        3 => Wrong::BitClear,
+        4 => Wrong::NotCurrent,
+        _ => Wrong::TooLong,
+    };
+    Judgement::Broken(Feature(numbers[1] as u16), wrong)
 }

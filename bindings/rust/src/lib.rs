@@ -60,7 +60,7 @@ pub use columns::{bench_columns, respond_columns, to_columns, to_rows, Columns};
 pub use drive::{bench, import, most, respond, Line, Refused, Sheet, Swept};
 pub use driver::{
     check_descriptors, check_profile, command, held, list, packet, read, Finding, Judgement, Reading, Rt,
-    Sweep,
+    Sweep, Wrong,
 };
 pub use image::{respond_image, Image};
 pub use medium::{load, load_columns};
@@ -80,6 +80,9 @@ pub struct Feature(pub u16);
 #[repr(C)]
 #[derive(Clone, Copy, Debug, PartialEq, Eq, PartialOrd, Ord, Hash)]
 pub struct Profile(pub u16);
+
+/// What the archive subset is asked for as, a number that no drive may list: `GCF_ARCHIVE`.
+pub const ARCHIVE: Profile = Profile(0x0000);
 
 /// A command.
 pub const COMMAND_BYTES: usize = 10;

@@ -558,7 +558,7 @@ pub fn check_descriptors(response: &[u8], numbers: &mut [u64]) -> u8 {
     unsafe { gcf_check_descriptors(response.as_ptr(), response.len(), numbers.as_mut_ptr(), numbers.len()) }
 }
 
-/// Checks a profile's features; the numbers are: whether one is missing, and which.
+/// Checks a profile's features; the numbers are: what is wrong with the lowest that breaks it, 0 if none does, and which it is.
 pub fn check_profile(profile: Profile, response: &[u8], numbers: &mut [u64]) -> u8 {
     unsafe {
         gcf_check_profile(profile, response.as_ptr(), response.len(), numbers.as_mut_ptr(), numbers.len())

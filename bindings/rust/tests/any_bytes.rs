@@ -148,7 +148,7 @@ fn the_driver() {
         };
         assert_eq!(found, raw::check_descriptors(&response, &mut []));
         let judged = match check_profile(Profile(0x0012), &response) {
-            Judgement::Conforms | Judgement::Missing(_) => 0,
+            Judgement::Conforms | Judgement::Broken(..) => 0,
             Judgement::Refused(number) => number.number(),
         };
         assert_eq!(judged, raw::check_profile(Profile(0x0012), &response, &mut []));

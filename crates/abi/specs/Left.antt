@@ -9,7 +9,7 @@ use Rattle.refusal.specs.declared.Refusal.{Refusal}
 use Rattle.lent.specs.Maker.{Outcome}
 use Rattle.bench.specs.Bench as bench
 use Rattle.checks.specs.declared.Finding.{Finding}
-use Rattle.checks.specs.Judge.{Said}
+use Rattle.needs.specs.Judge.{Said}
 use Rattle.sense.specs.declared.Kind.{Kind}
 use Rattle.sense.specs.declared.Kind.the-variants.{Nothing, Operation, Field, Trouble}
 use Rattle.sense.specs.Sense.{Heard}
@@ -54,9 +54,9 @@ showBenched x ns = told (x .reply .refusal .number) (x .buffers) ns (x .reply .c
 unfoldable pub showFinding : Finding → List ℕ → Left (Unit {0})
 showFinding x ns = told (x .refusal .number) tt ns (x .feature .0 ∷ [])
 
--- a check of a profile: 1 and the lowest missing feature, or 0 and 0
+-- a check of a profile: what is wrong with the lowest feature that breaks it, and that feature, or 0 and 0
 unfoldable pub showJudged : Said → List ℕ → Left (Unit {0})
-showJudged x ns = told (x .refusal .number) tt ns (length (x .missing) ∷ getD (x .missing) 0 0 ∷ [])
+showJudged x ns = told (x .refusal .number) tt ns (x .wrong ∷ getD (x .feature) 0 0 ∷ [])
 
 -- the number that tells a kind; none of them is 0
 unfoldable pub kindNumber : Kind → ℕ

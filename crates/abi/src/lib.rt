@@ -18,16 +18,16 @@ ghost use Rattle.listing.specs.Listing.{listing};
 ghost use Rattle.sweep.specs.Sweep.{started, turn, stepped};
 ghost use Rattle.bench.specs.Bench as bench;
 ghost use Rattle.checks.specs.Check.{checked};
-ghost use Rattle.checks.specs.Judge as checks;
+ghost use Rattle.needs.specs.Judge as needs;
 ghost use Rattle.capture.specs.Capture.{captureFault};
 ghost use Rattle.import.specs.Import.{imported};
 ghost use Rattle.rom.specs.Rom.{imageAnswered};
 ghost use Rattle.rom.specs.Image.{imageCommanded};
 ghost use Rattle.sense.specs.Sense.{made, sensed};
 ghost use Rattle.abi.specs.Left.{left, showVerdict, showMade, showPlaced, readingNumbers, showRead, showBenched, showFinding, showJudged, kindNumber, showSensed};
-use checks::Judgement;
 use command::Command;
 use layout::Layout;
+use needs::Judgement;
 use sense::Kind;
 use sense::Sense;
 use sweep::Step;
@@ -485,19 +485,20 @@ pub extern "C" fn gcf_check_descriptors(response: &[u8], numbers: &mut [u64]) ->
     fault.number
 }
 
-// Whether a response has what a profile requires. Numbers: 1 if a feature is missing, the lowest that is.
+// Whether a response has what a profile requires. Numbers: what is wrong with the lowest feature that breaks the profile, 0 if none does, and that feature.
 #[no_mangle]
 pub extern "C" fn gcf_check_profile(profile: Profile, response: &[u8], numbers: &mut [u64]) -> u8
-    ensures { λ r. ⌜ left r tt (now (numbers .exit)) ≡ showJudged (checks.judged (profile .0) (now (response .entry))) (now (numbers .entry)) ⌝ }
+    ensures { λ r. ⌜ left r tt (now (numbers .exit)) ≡ showJudged (needs.judged (profile .0) (now (response .entry))) (now (numbers .entry)) ⌝ }
 {
-    let judgement = checks::check_profile(profile, response);
+    let judgement = needs::check_profile(profile, response);
     match judgement {
         Judgement::Conforms => {
             tell2(numbers, 0, 0);
             0
         }
-        Judgement::Missing(f) => {
-            tell2(numbers, 1, f.0 as u64);
+        Judgement::Broken(f, wrong) => {
+            let number = wrong.number();
+            tell2(numbers, number as u64, f.0 as u64);
             0
         }
         Judgement::Refused(fault) => {

@@ -1,9 +1,10 @@
 // Reads a response from standard input and says in words what is wrong with its descriptors, and whether it has what a profile requires: the
-// one that is asked for, else each listed one that has a table. Of a response that is refused it says only why. Arguments: RT, starting feature number, allocation
-// length (`asked`), profile, and whether hexadecimal text is read.
+// one that is asked for, else each listed one that has a table. The archive subset, 0000h, is judged only where it is asked for. Of a response that is refused it says
+// only why. Arguments: RT, starting feature number, allocation length (`asked`), profile, and whether hexadecimal text is read.
 use checks::Finding;
-use checks::Judgement;
 use libc::STDOUT_FILENO;
+use needs::Judgement;
+use needs::Wrong;
 use refusal::Refusal;
 use streams::say;
 use text::Feature;
@@ -26,6 +27,9 @@ fn say_feature(feature: Feature) {
 fn say_profile(profile: Profile) {
     say(b"profile ");
     words::say_hex4(STDOUT_FILENO, profile.0);
+    if profile.0 == 0 {
+        say(b", the archive subset");
+    }
 }
 
 // ---- the descriptors
@@ -52,10 +56,21 @@ fn say_descriptors(finding: Finding) {
 
 // ---- the profiles
 
-fn say_missing(feature: Feature) {
+// What is wrong with a feature.
+fn say_wrong(wrong: Wrong) {
+    match wrong {
+        Wrong::Absent => say(b" is missing\n"),
+        Wrong::TooShort => say(b" is shorter than the profile asks\n"),
+        Wrong::BitClear => say(b" has a bit not set that the profile asks for\n"),
+        Wrong::NotCurrent => say(b" is not current\n"),
+        Wrong::TooLong => say(b" is longer than the profile lets any be\n"),
+    }
+}
+
+fn say_broken(feature: Feature, wrong: Wrong) {
     streams::mark_fault();
     say_feature(feature);
-    say(b" is missing\n");
+    say_wrong(wrong);
 }
 
 fn say_refused(refusal: Refusal) {
@@ -69,26 +84,29 @@ fn say_refused(refusal: Refusal) {
 fn say_judged(profile: Profile, s: &[u8]) {
     say_profile(profile);
     say(b": ");
-    let judgement = checks::check_profile(profile, s);
+    let judgement = needs::check_profile(profile, s);
     match judgement {
         Judgement::Conforms => say(b"conforms\n"),
-        Judgement::Missing(feature) => say_missing(feature),
+        Judgement::Broken(feature, wrong) => say_broken(feature, wrong),
         Judgement::Refused(refusal) => say_refused(refusal),
     }
 }
 
 // Whether a profile has a table: then a header alone, which is a complete response, is judged.
 fn has_table(profile: Profile) -> bool {
-    let judgement = checks::check_profile(profile, b"\0\0\0\x04\0\0\0\0");
+    let judgement = needs::check_profile(profile, b"\0\0\0\x04\0\0\0\0");
     match judgement {
         Judgement::Conforms => true,
-        Judgement::Missing(_) => true,
+        Judgement::Broken(_, _) => true,
         Judgement::Refused(_) => false,
     }
 }
 
-// A line for the profile if it has a table, and whether there is a line by now.
+// A line for a listed profile if it has a table, and whether there is a line by now. No drive may list 0000h (finding 39), so it asks for no archive subset.
 fn say_if_table(profile: Profile, s: &[u8], said: bool) -> bool {
+    if profile.0 == 0 {
+        return said;
+    }
     if !has_table(profile) {
         return said;
     }

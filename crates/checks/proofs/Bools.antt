@@ -8,12 +8,6 @@ not-yes b h = rw h
 pub not-no : (b : Bool) → b ≡ true → not b ≡ false
 not-no b h = rw h
 
-pub and-no : (a b : Bool) → a ≡ false → (a && b) ≡ false
-and-no a b h = rw h
-
-pub and-yes : (a b : Bool) → a ≡ true → (a && b) ≡ b
-and-yes a b h = rw h
-
 pub and-false : (a b : Bool) → (a && b) ≡ false → a ≡ true → b ≡ false
 and-false a b e h = rw h at e
 

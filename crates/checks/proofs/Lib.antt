@@ -4,13 +4,8 @@ pub mod Bools
 pub mod Calls
 pub mod Complete
 pub mod Findings
-pub mod Judgements
 pub mod Faultless
 pub mod Other
 pub mod Words
 pub mod Reserved
-pub mod Lowest
-pub mod Resumed
-pub mod Lines
 pub mod Found
-pub mod Promised

@@ -2,6 +2,4 @@ pub mod Legal
 pub mod Rules
 pub mod Check
 pub mod Faultless
-pub mod Required
-pub mod Judge
 pub mod inner

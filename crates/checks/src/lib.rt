@@ -1,30 +1,20 @@
-// The driver's checks of a response to RT 0 from 0: its descriptors, and what a profile requires of it.
+// The driver's check of the descriptors of a response to RT 0 from 0.
 ghost use mathlib.Core.Path.{_≡_};
 ghost use Rattle.reading.specs.Places.{descs};
 ghost use Rattle.reading.specs.Completed.{completeFault};
 ghost use Rattle.checks.specs.Check.{checkedAll, checked};
-ghost use Rattle.checks.specs.Judge.{said, judged};
 
 mod legal;
-mod required;
 mod rules;
 mod walk;
 
 use refusal::Refusal;
 use text::Feature;
-use text::Profile;
 
 // What a check finds: the number, 0 where there is no fault, and the feature at fault.
 pub struct Finding {
     pub refusal: Refusal,
     pub feature: Feature,
-}
-
-// Whether a response has what a profile requires: it does, or this feature is the lowest that is missing, or this is why it was not judged.
-pub enum Judgement {
-    Conforms,
-    Missing(Feature),
-    Refused(Refusal),
 }
 
 // The check of the descriptors of a complete response.
@@ -61,19 +51,4 @@ pub fn check_descriptors(s: &[u8]) -> Finding
         };
     }
     check_all(s)
-}
-
-// Whether a response has what a profile requires.
-pub fn check_profile(profile: Profile, s: &[u8]) -> Judgement
-    ensures { λ r. ⌜ said r ≡ judged (profile .0) (now (s .entry)) ⌝ }
-{
-    let reading = reading::complete(s);
-    let fault = reading.refusal;
-    if fault.number != 0 {
-        return Judgement::Refused(fault);
-    }
-    if !required::has_table(profile) {
-        return Judgement::Refused(refusal::NO_TABLE);
-    }
-    required::lowest_missing(profile, s)
 }

@@ -74,8 +74,9 @@ use Rattle.sweep.specs.Sweep.{Turn}
 use Rattle.bench.specs.Bench as bench-specs
 use Rattle.bench.proofs.bench as bench
 use Rattle.checks.proofs.check_descriptors as check-descriptors
-use Rattle.checks.proofs.check_profile as check-profile
-use Rattle.checks.proofs.Judgements.{said-injective}
+use Rattle.needs.proofs.Wrong.number as wrong-number
+use Rattle.needs.proofs.check_profile as check-profile
+use Rattle.needs.proofs.Judgements.{said-injective}
 use Rattle.sweep.proofs.Sweep.start as sweep-start
 use Rattle.sweep.proofs.Sweep.take as sweep-take
 use Rattle.sweep.proofs.take_response as take-response
@@ -359,6 +360,9 @@ bench-decided x = decides (x .𝓤) (λ o o′ p q. (
 
 pub check-descriptors-decided : Decided check-descriptors.ended (λ M. check-descriptors.clauses) (λ M. check-descriptors.spec)
 check-descriptors-decided x = decides (x .𝓤) (λ o o′ p q. (joined p q, refl))
+
+pub wrong-number-decided : Decided wrong-number.ended (λ M. wrong-number.clauses) (λ M. wrong-number.spec)
+wrong-number-decided x = decides (x .𝓤) (λ o o′ p q. (joined p q, refl))
 
 pub check-profile-decided : Decided check-profile.ended (λ M. check-profile.clauses) (λ M. check-profile.spec)
 check-profile-decided x = decides (x .𝓤) (λ o o′ p q. (said-injective (o .0) (o′ .0) (joined p q), refl))

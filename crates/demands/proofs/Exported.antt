@@ -52,7 +52,7 @@ use Rattle.demands.proofs.Listings.{Lists, lists}
 use Rattle.demands.proofs.Steps.{Starts, starts, Takes, takes}
 use Rattle.demands.proofs.Sweeping.{Benches, benches}
 use Rattle.demands.proofs.Checking.{Finds, finds}
-use Rattle.checks.proofs.Promised.{Judges, judges}
+use Rattle.needs.proofs.Promised.{Judges, judges}
 use Rattle.demands.proofs.Importing.{Imports, imports}
 use Rattle.demands.proofs.Converting.{Converts, converts}
 use Rattle.demands.proofs.Senses.{Makes, makes-sense, Senses, senses}

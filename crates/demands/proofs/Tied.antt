@@ -31,9 +31,10 @@ use Rattle.listing.proofs.list as list
 use Rattle.sweep.specs.Sweep.{step, turn}
 use Rattle.bench.specs.Bench as bench-specs
 use Rattle.bench.proofs.bench as bench
-use Rattle.checks.specs.Judge.{said}
+use Rattle.needs.specs.Judge.{said}
 use Rattle.checks.proofs.check_descriptors as check-descriptors
-use Rattle.checks.proofs.check_profile as check-profile
+use Rattle.needs.proofs.Wrong.number as wrong-number
+use Rattle.needs.proofs.check_profile as check-profile
 use Rattle.capture.proofs.check as capture-check
 use Rattle.import.proofs.import as import
 use Rattle.sense.specs.Sense.{heard}
@@ -50,7 +51,7 @@ use Rattle.demands.proofs.Listings.{Lists, lists}
 use Rattle.demands.proofs.Steps.{Starts, starts, Takes, takes}
 use Rattle.demands.proofs.Sweeping.{Benches, benches}
 use Rattle.demands.proofs.Checking.{Finds, finds}
-use Rattle.checks.proofs.Promised.{Judges, judges}
+use Rattle.needs.proofs.Promised.{Judges, judges, Tells, tells}
 use Rattle.demands.proofs.Capturing.{Captures, captures}
 use Rattle.demands.proofs.Importing.{Imports, imports}
 use Rattle.demands.proofs.Converting.{Converts, converts}
@@ -140,6 +141,9 @@ bench-tied x = promises (x .𝓤) (λ o. by (Benches _ _ _ _) (benches _ _ _ _))
 
 pub check-descriptors-tied : Promised check-descriptors.ended (λ M. check-descriptors.clauses) (λ M. check-descriptors.spec) (named (λ _ s r _. Finds (now s) r))
 check-descriptors-tied x = promises (x .𝓤) (λ o. by (Finds _) (finds _))
+
+pub wrong-number-tied : Promised wrong-number.ended (λ M. wrong-number.clauses) (λ M. wrong-number.spec) (named (λ _ self r _. Tells self r))
+wrong-number-tied x = promises (x .𝓤) (λ o. by (Tells _) (tells _))
 
 pub check-profile-tied : Promised check-profile.ended (λ M. check-profile.clauses) (λ M. check-profile.spec) (named (λ _ profile s r _ _. Judges (profile .0) (now s) (said r)))
 check-profile-tied x = promises (x .𝓤) (λ o. by (Judges _ _) (judges _ _))

@@ -10,7 +10,7 @@ use Rattle.lent.specs.Maker.{Outcome}
 use Rattle.responder.specs.Answer.{answered}
 use Rattle.bench.specs.Bench as Swept
 use Rattle.bench.specs.Bench.{buffers, benched}
-use Rattle.checks.specs.Judge.{Said, judged}
+use Rattle.needs.specs.Judge.{Said, judged}
 use Rattle.demands.specs.Recorder.{sheetE, sheetE′, command}
 
 -- what a definition gives, and what the paper's line says, as numbers
@@ -34,9 +34,9 @@ sweptNumbers o = o .reply .refusal .number ∷ take (o .reply .commands) (o .buf
 unfoldable pub swept : (s : Sheet) (a : ℕ) → List ℕ
 swept s a = sweptNumbers (benched s 0 a (buffers (replicate 64 0xEE) (replicate 64 0xEE) (replicate 8 0xEE)))
 
--- a judgement in numbers: the number, whether it conforms, and the missing feature if one is named
+-- a judgement in numbers: the number, whether it conforms, what is wrong, and the feature if one is named
 unfoldable pub judgedNumbers : Said → List ℕ
-judgedNumbers j = j .refusal .number ∷ bit (j .conforms) ∷ j .missing
+judgedNumbers j = j .refusal .number ∷ bit (j .conforms) ∷ j .wrong ∷ j .feature
 
 unfoldable pub stars : List Star
 stars =
@@ -67,6 +67,6 @@ stars =
     ∷ record { gives = swept sheetE 20; paper = 0 ∷ 0 ∷ 1 ∷ 2 ∷ 0x0020 ∷ [] }
     ∷ record { gives = swept sheetE 43; paper = 0 ∷ 0 ∷ 0x0020 ∷ [] }
     ∷ record { gives = swept sheetE 19; paper = 23 ∷ [] }
-    -- profile 0012h: lowest missing 0002h
-    ∷ record { gives = judgedNumbers (judged 0x0012 (sent 0 0 44 (meaning sheetE))); paper = 0 ∷ 0 ∷ 0x0002 ∷ [] }
+    -- profile 0012h: lowest missing 0002h, and it is absent
+    ∷ record { gives = judgedNumbers (judged 0x0012 (sent 0 0 44 (meaning sheetE))); paper = 0 ∷ 0 ∷ 1 ∷ 0x0002 ∷ [] }
     ∷ []

@@ -2,13 +2,84 @@
 
 use super::reading::read_complete;
 use super::wire::{first32, Header};
-use crate::checks::ProfileAnswer;
+use crate::checks::{ProfileAnswer, Wrong};
 use crate::numbers::*;
 use crate::wire::{Feature, Profile};
 
-/// The features that profile 0012h needs, ascending; the two first are those of profile FFFFh.
-const NEEDED: [u16; 13] =
-    [0x0000, 0x0001, 0x0002, 0x0003, 0x0010, 0x001F, 0x0020, 0x0023, 0x0024, 0x0100, 0x0101, 0x0105, 0x0107];
+/// What a profile asks of a feature that it needs.
+#[derive(Clone, Copy)]
+enum Ask {
+    There,
+    Page,
+    Lock,
+    Current,
+}
+
+use Ask::{Current, Lock, Page, There};
+
+/// The features that each profile needs, ascending.
+const DISK: [(u16, Ask); 11] = [
+    (0x0000, There),
+    (0x0001, There),
+    (0x0002, There),
+    (0x0003, There),
+    (0x0010, Page),
+    (0x0020, There),
+    (0x0023, There),
+    (0x0024, There),
+    (0x0100, There),
+    (0x0101, There),
+    (0x0105, There),
+];
+
+const CD: [(u16, Ask); 8] = [
+    (0x0000, There),
+    (0x0001, There),
+    (0x0002, There),
+    (0x0003, There),
+    (0x0010, Page),
+    (0x001E, There),
+    (0x0100, There),
+    (0x0105, There),
+];
+
+const DVD: [(u16, Ask); 9] = [
+    (0x0000, There),
+    (0x0001, There),
+    (0x0002, There),
+    (0x0003, There),
+    (0x0010, Page),
+    (0x001F, There),
+    (0x0100, There),
+    (0x0105, There),
+    (0x0107, There),
+];
+
+/// Those of DVD-RAM and of the archive subset, which asks more of three of them.
+const fn ram(medium: Ask, writable: Ask, defects: Ask) -> [(u16, Ask); 13] {
+    [
+        (0x0000, There),
+        (0x0001, There),
+        (0x0002, There),
+        (0x0003, medium),
+        (0x0010, Page),
+        (0x001F, There),
+        (0x0020, writable),
+        (0x0023, There),
+        (0x0024, defects),
+        (0x0100, There),
+        (0x0101, There),
+        (0x0105, There),
+        (0x0107, There),
+    ]
+}
+
+const RAM: [(u16, Ask); 13] = ram(There, There, There);
+
+const ARCHIVE: [(u16, Ask); 13] = ram(Lock, Current, Current);
+
+/// No body is longer: Additional Length is a byte.
+const ANY_LENGTH: usize = 255;
 
 /// The last feature that there is a rule for.
 const LAST_RULED: u16 = 0x002F;
@@ -134,29 +205,64 @@ fn word_finding(feature: u16, body: u32) -> u8 {
     ACCEPTED
 }
 
-/// Checks that a response reports all features a profile needs.
-pub fn check_profile(profile: Profile, response: &[u8]) -> ProfileAnswer {
-    let table = match profile.0 {
-        0x0012 => Some(&NEEDED[..]),
-        0xFFFF => Some(&NEEDED[..2]),
+/// The features that a profile needs, and how long a body may be; none without a table.
+fn needs(profile: Profile) -> Option<(&'static [(u16, Ask)], usize)> {
+    match profile.0 {
+        0x0000 => Some((&ARCHIVE, 32)),
+        0x0002 => Some((&DISK, ANY_LENGTH)),
+        0x0008 => Some((&CD, ANY_LENGTH)),
+        0x0010 => Some((&DVD, ANY_LENGTH)),
+        0x0012 => Some((&RAM, ANY_LENGTH)),
+        0xFFFF => Some((&RAM[..2], ANY_LENGTH)),
         _ => None,
-    };
-    // Numbers ascend on both sides, so what was passed without counting stays the first that is left.
-    let mut left = table.unwrap_or(&[]);
+    }
+}
+
+/// Checks that a response has what a profile needs.
+pub fn check_profile(profile: Profile, response: &[u8]) -> ProfileAnswer {
+    let table = needs(profile);
+    // Numbers ascend on both sides, so the first that breaks the profile is the lowest.
+    let (mut left, longest) = table.unwrap_or((&[], ANY_LENGTH));
+    let mut broken = None;
     let reading = read_complete(response, |header, body| {
-        if left.first() == Some(&header.feature()) && counts(header, body) {
-            left = &left[1..];
+        if broken.is_none() {
+            broken = step(&mut left, longest, header, body);
         }
     });
-    match (reading, table, left.first()) {
+    let broken = broken.or(left.first().map(|&(feature, _)| (feature, Wrong::Absent)));
+    match (reading, table, broken) {
         (Err(number), _, _) => ProfileAnswer::Refused(number),
         (_, None, _) => ProfileAnswer::NoTable,
-        (_, _, Some(&missing)) => ProfileAnswer::Missing(Feature(missing)),
+        (_, _, Some((feature, wrong))) => ProfileAnswer::Broken(Feature(feature), wrong),
         _ => ProfileAnswer::Conforms,
     }
 }
 
-/// Whether a descriptor counts for a profile; Random Readable only with its page present.
-fn counts(header: Header, body: &[u8]) -> bool {
-    header.feature() != 0x0010 || (body.len() >= 8 && body[6] & 1 != 0)
+/// A feature that breaks the profile at a descriptor, if there is one; the need that it meets is taken from those that are left.
+fn step(left: &mut &[(u16, Ask)], longest: usize, header: Header, body: &[u8]) -> Option<(u16, Wrong)> {
+    let feature = header.feature();
+    if let Some(&(needed, ask)) = left.first() {
+        if needed < feature {
+            return Some((needed, Wrong::Absent));
+        }
+        if needed == feature {
+            *left = &left[1..];
+            if let Some(wrong) = lacks(ask, header, body) {
+                return Some((feature, wrong));
+            }
+        }
+    }
+    (body.len() > longest).then_some((feature, Wrong::TooLong))
+}
+
+/// What a descriptor lacks of what is asked.
+fn lacks(ask: Ask, header: Header, body: &[u8]) -> Option<Wrong> {
+    match ask {
+        There => None,
+        Page if body.len() < 8 => Some(Wrong::TooShort),
+        Page => (body[6] & 1 == 0).then_some(Wrong::BitClear),
+        Lock if body.len() < 4 => Some(Wrong::TooShort),
+        Lock => (body[0] & 1 == 0).then_some(Wrong::BitClear),
+        Current => (header.flags() & CURRENT == 0).then_some(Wrong::NotCurrent),
+    }
 }

@@ -96,9 +96,9 @@ fn same_descriptors(seen: &mut Seen, received: &[u8]) {
     seen.same(answer.0, answer, fast::checks::check_descriptors(received));
 }
 
-/// Both checks of a response for three profiles, of which one has no table.
+/// Both checks of a response for every profile that has a table, and for one that has none.
 fn same_profiles(seen: &mut Seen, received: &[u8]) {
-    for profile in [0x0012, 0xFFFF, 0x0010].map(Profile) {
+    for profile in [0x0000, 0x0002, 0x0008, 0x0009, 0x0010, 0x0012, 0xFFFF].map(Profile) {
         let answer = checks::check_profile(profile, received);
         seen.same(answer.fields().0, answer, fast::checks::check_profile(profile, received));
     }

@@ -2,7 +2,7 @@
 
 use super::{command, response, told, E, E_FULL, FILL};
 use crate::bench::{bench, Outcome};
-use crate::checks::{check_descriptors, check_profile, ProfileAnswer};
+use crate::checks::{check_descriptors, check_profile, ProfileAnswer, Wrong};
 use crate::command::{respond, Request};
 use crate::find::find;
 use crate::numbers::*;
@@ -299,9 +299,10 @@ fn checks_of_a_refused_or_cut_response() {
     assert_eq!(check_descriptors(&E_FULL[..7]), (RECEIVED_LENGTH, Feature(0)));
     assert_eq!(check_descriptors(&E_FULL[..43]), (CHECK_CUT, Feature(0)));
     let nothing = ProfileAnswer::Refused(RECEIVED_LENGTH);
-    assert_eq!(check_profile(Profile(0x0010), &E_FULL[..7]), nothing);
+    assert_eq!(check_profile(Profile(0x0009), &E_FULL[..7]), nothing);
     let cut = ProfileAnswer::Refused(CHECK_CUT);
-    assert_eq!(check_profile(Profile(0x0010), &E_FULL[..43]), cut);
+    assert_eq!(check_profile(Profile(0x0009), &E_FULL[..43]), cut);
+    assert_eq!(check_profile(Profile(0x0000), &E_FULL[..43]), cut);
 }
 
 #[test]
@@ -511,40 +512,95 @@ fn findings_in_cue_sheets_and_profiles() {
     assert_eq!(check_descriptors(&response(0, &list)), (FINDING_RESERVED, Feature(0)));
 }
 
-#[test]
-fn profiles() {
-    assert_eq!(check_profile(Profile(0x0010), &E_FULL), ProfileAnswer::NoTable);
-    assert_eq!(check_profile(Profile(0x0010), &E_FULL).fields(), (40, false, Feature(0)));
-    assert_eq!(check_profile(Profile(0), &E_FULL), ProfileAnswer::NoTable);
-    let only_list = response(0, &GOOD[..8]);
-    let missing = ProfileAnswer::Missing(Feature(1));
-    assert_eq!(check_profile(Profile(0xFFFF), &only_list), missing);
-    let needed: [u16; 13] = [
-        0x0000, 0x0001, 0x0002, 0x0003, 0x0010, 0x001F, 0x0020, 0x0023, 0x0024, 0x0100, 0x0101, 0x0105,
-        0x0107,
-    ];
-    let with = |left_out: Option<u16>, readable: &[u8]| {
-        let mut bytes = Vec::new();
-        for feature in needed.into_iter().filter(|&feature| Some(feature) != left_out) {
-            bytes.extend_from_slice(&feature.to_be_bytes());
-            if feature == 0x0010 {
-                bytes.extend_from_slice(&[0, readable.len() as u8]);
-                bytes.extend_from_slice(readable);
-            } else {
-                bytes.extend_from_slice(&[0, 0]);
-            }
-        }
-        check_profile(Profile(0x0012), &response(0, &bytes))
+/// What each profile needs, as the tables' feature numbers; 0000h asks for the archive subset.
+const NEEDED: [(u16, &[u16]); 6] = [
+    (0xFFFF, &[0x0000, 0x0001]),
+    (0x0002, &[0x0000, 0x0001, 0x0002, 0x0003, 0x0010, 0x0020, 0x0023, 0x0024, 0x0100, 0x0101, 0x0105]),
+    (0x0008, &[0x0000, 0x0001, 0x0002, 0x0003, 0x0010, 0x001E, 0x0100, 0x0105]),
+    (0x0010, &[0x0000, 0x0001, 0x0002, 0x0003, 0x0010, 0x001F, 0x0100, 0x0105, 0x0107]),
+    (0x0012, &DVD_RAM),
+    (0x0000, &DVD_RAM),
+];
+
+const DVD_RAM: [u16; 13] =
+    [0x0000, 0x0001, 0x0002, 0x0003, 0x0010, 0x001F, 0x0020, 0x0023, 0x0024, 0x0100, 0x0101, 0x0105, 0x0107];
+
+/// A descriptor of these features: number, flags, body.
+type Part = (u16, u8, Vec<u8>);
+
+/// Descriptors of these features that have what any profile asks.
+fn parts(needed: &[u16]) -> Vec<Part> {
+    let body = |feature| match feature {
+        0x0003 => vec![1, 0, 0, 0],
+        0x0010 => vec![0, 0, 8, 0, 0, 16, 1, 0],
+        _ => vec![],
     };
-    let page = [0, 0, 8, 0, 0, 16, 1, 0];
-    assert_eq!(with(None, &page), ProfileAnswer::Conforms);
-    for feature in needed {
-        assert_eq!(with(Some(feature), &page), ProfileAnswer::Missing(Feature(feature)));
+    needed.iter().map(|&feature| (feature, 1, body(feature))).collect()
+}
+
+/// What is said of a profile and these descriptors.
+fn judged(profile: u16, parts: &[Part]) -> ProfileAnswer {
+    let mut bytes = Vec::new();
+    for (feature, flags, body) in parts {
+        bytes.extend_from_slice(&feature.to_be_bytes());
+        bytes.extend_from_slice(&[*flags, body.len() as u8]);
+        bytes.extend_from_slice(body);
     }
-    let readable = ProfileAnswer::Missing(Feature(0x0010));
-    assert_eq!(with(None, &[0, 0, 8, 0, 0, 16, 0xFE, 0]), readable);
-    assert_eq!(with(None, &[0xFF; 4]), readable);
-    assert_eq!(with(None, &[0xFF; 12]), ProfileAnswer::Conforms);
+    check_profile(Profile(profile), &response(0, &bytes))
+}
+
+/// The same with another descriptor of a feature, or with one more.
+fn judged_with(profile: u16, needed: &[u16], part: Part) -> ProfileAnswer {
+    let mut parts = parts(needed);
+    parts.retain(|other| other.0 != part.0);
+    parts.push(part);
+    parts.sort();
+    judged(profile, &parts)
+}
+
+#[test]
+fn profiles_without_a_table() {
+    for profile in (0..=0xFFFF).filter(|profile| NEEDED.iter().all(|needed| needed.0 != *profile)) {
+        assert_eq!(check_profile(Profile(profile), &E_FULL), ProfileAnswer::NoTable);
+    }
+    assert_eq!(check_profile(Profile(0x0009), &E_FULL).fields(), (40, 0, Feature(0)));
+}
+
+#[test]
+fn profiles_need_their_features() {
+    for (profile, needed) in NEEDED {
+        assert_eq!(judged(profile, &parts(needed)), ProfileAnswer::Conforms);
+        for &feature in needed {
+            let left: Vec<_> = parts(needed).into_iter().filter(|part| part.0 != feature).collect();
+            assert_eq!(judged(profile, &left), ProfileAnswer::Broken(Feature(feature), Wrong::Absent));
+        }
+        if needed.contains(&0x0010) {
+            let readable = |wrong| ProfileAnswer::Broken(Feature(0x0010), wrong);
+            let with = |body: &[u8]| judged_with(profile, needed, (0x0010, 0, body.to_vec()));
+            assert_eq!(with(&[0, 0, 8, 0, 0, 16, 0xFE, 0]), readable(Wrong::BitClear));
+            assert_eq!(with(&[0xFF; 4]), readable(Wrong::TooShort));
+            assert_eq!(with(&[0xFF; 12]), ProfileAnswer::Conforms);
+        }
+    }
+}
+
+#[test]
+fn the_archive_subset() {
+    let broken = |feature, wrong| ProfileAnswer::Broken(Feature(feature), wrong);
+    let with =
+        |part: Part| (judged_with(0x0000, &DVD_RAM, part.clone()), judged_with(0x0012, &DVD_RAM, part));
+    let right = ProfileAnswer::Conforms;
+    assert_eq!(with((0x0003, 3, vec![0xFE, 0xFF, 0xFF, 0xFF])), (broken(0x0003, Wrong::BitClear), right));
+    assert_eq!(with((0x0003, 3, vec![])), (broken(0x0003, Wrong::TooShort), right));
+    assert_eq!(with((0x0020, 2, vec![])), (broken(0x0020, Wrong::NotCurrent), right));
+    assert_eq!(with((0x0024, 0, vec![])), (broken(0x0024, Wrong::NotCurrent), right));
+    assert_eq!(with((0x0024, 0, vec![0; 36])), (broken(0x0024, Wrong::NotCurrent), right));
+    assert_eq!(with((0x0023, 0, vec![])), (right, right));
+    assert_eq!(with((0x0100, 3, vec![0; 32])), (right, right));
+    assert_eq!(with((0x0100, 3, vec![0; 36])), (broken(0x0100, Wrong::TooLong), right));
+    assert_eq!(with((0x0055, 3, vec![0; 32])), (right, right));
+    assert_eq!(with((0x0055, 3, vec![0; 36])), (broken(0x0055, Wrong::TooLong), right));
+    assert_eq!(with((0x0000, 3, vec![0; 36])), (broken(0x0000, Wrong::TooLong), right));
 }
 
 #[test]

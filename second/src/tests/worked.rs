@@ -2,7 +2,7 @@
 
 use super::{ask, command, E, E_FULL};
 use crate::bench::{bench, Outcome};
-use crate::checks::{check_profile, ProfileAnswer};
+use crate::checks::{check_profile, ProfileAnswer, Wrong};
 use crate::command::respond;
 use crate::lister::list;
 use crate::numbers::*;
@@ -92,7 +92,7 @@ fn sweeps() {
 #[test]
 fn profile_0012_lacks_0002() {
     let answer = check_profile(Profile(0x0012), &E_FULL);
-    assert_eq!(answer, ProfileAnswer::Missing(Feature(0x0002)));
+    assert_eq!(answer, ProfileAnswer::Broken(Feature(0x0002), Wrong::Absent));
     assert_eq!(check_profile(Profile(0xFFFF), &E_FULL), ProfileAnswer::Conforms);
 }
 

@@ -1,7 +1,7 @@
 -- `abi::gcf_check_profile` meets its contract: each case of the judgement, told. Assumes nothing.
 use Rattle.abi.proofs.Laws.{leaves}
 use Rattle.abi.specs.Left.{showJudged}
-use Rattle.checks.specs.Judge.{said}
+use Rattle.needs.specs.Judge.{said}
 use denote.Ref.{now}
 use mathlib.Core.Path.{ap, sym, _∙_}
 use borrow.Author.Needs.{needs}
@@ -14,7 +14,11 @@ returns c = leaves (c .before .before .tell2 .ensures) (ap (λ x. showJudged x (
 
 returns-2 : tie.Need-returns-2
 unfolding showJudged
-returns-2 c = leaves (c .before .before .tell22 .ensures) (ap (λ x. showJudged x (now (c .before .before .before .before .before .before .before .before .before .before .before .args .numbers))) (ap said (sym (c .before .before .before .before .before .before .judgement .given .1)) ∙ c .before .before .before .before .before .before .before .before .check-profile .ensures))
+returns-2 c =
+    let ns = now (c .before .before .before .before .before .before .before .before .before .before .before .before .args .numbers) in
+    leaves (c .before .before .tell22 .ensures)
+    (rw (c .before .before .before .before .before .number .ensures)
+    (ap (λ x. showJudged x ns) (ap said (sym (c .before .before .before .before .before .before .before .judgement .given .1)) ∙ c .before .before .before .before .before .before .before .before .before .check-profile .ensures)))
 
 returns-3 : tie.Need-returns-3
 unfolding showJudged
@@ -23,4 +27,4 @@ returns-3 c = leaves (c .before .before .tell23 .ensures) (ap (λ x. showJudged 
 pub gcf-check-profile-spec : {M : Type 1} → statement M
 gcf-check-profile-spec =
     tie.close
-    (tie.spec (λ c κs. search needs) (λ c. search needs) (λ c κs. search needs) (λ c. search needs) (λ c. search needs) (λ c κs. search needs) (λ c. search needs) (λ c κs. search needs) (λ c. search needs) returns (λ c. search needs) returns-2 (λ c. search needs) returns-3)
+    (tie.spec (λ c κs. search needs) (λ c. search needs) (λ c κs. search needs) (λ c. search needs) (λ c κs. search needs) (λ c. search needs) (λ c. search needs) (λ c κs. search needs) (λ c. search needs) (λ c κs. search needs) (λ c. search needs) returns (λ c. search needs) returns-2 (λ c. search needs) returns-3)

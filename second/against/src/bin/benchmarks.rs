@@ -527,22 +527,24 @@ fn checks_of_responses(run: &Run) {
                 usize::from(number) + usize::from(feature.0)
             }),
         });
-        run.time(Case {
-            name: format!("check of profile 0012h, {name}"),
-            input: response,
-            room: 0,
-            bytes: response.len(),
-            pieces: None,
-            proved: Box::new(|response, _| {
-                let mut numbers = [0; 2];
-                usize::from(raw::check_profile(gcf::Profile(0x0012), response, &mut numbers))
-                    + numbers[1] as usize
-            }),
-            plain: Box::new(|response, _| {
-                let (number, _, feature) = check_profile(Profile(0x0012), response).fields();
-                usize::from(number) + usize::from(feature.0)
-            }),
-        });
+        for (profile, said) in [(0x0012, "profile 0012h"), (0x0000, "the archive subset")] {
+            run.time(Case {
+                name: format!("check of {said}, {name}"),
+                input: response,
+                room: 0,
+                bytes: response.len(),
+                pieces: None,
+                proved: Box::new(move |response, _| {
+                    let mut numbers = [0; 2];
+                    usize::from(raw::check_profile(gcf::Profile(profile), response, &mut numbers))
+                        + numbers[1] as usize
+                }),
+                plain: Box::new(move |response, _| {
+                    let (number, _, feature) = check_profile(Profile(profile), response).fields();
+                    usize::from(number) + usize::from(feature.0)
+                }),
+            });
+        }
     }
 }
 

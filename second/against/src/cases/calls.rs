@@ -114,8 +114,10 @@ fn proved(case: &Case, out: &mut [u8]) -> Option<Numbers> {
         ("read", _) => raw::read(given[0] as u8, gcf::Feature(given[1] as u16), first, told),
         ("descriptors", _) => raw::check_descriptors(first, told),
         ("profile", _) => {
-            let number = raw::check_profile(gcf::Profile(given[0] as u16), first, told);
-            told[0] = u64::from(number == 0 && told[0] == 0);
+            let mut said = [0; 2];
+            let number = raw::check_profile(gcf::Profile(given[0] as u16), first, &mut said);
+            let [wrong, feature] = said;
+            told[..3].copy_from_slice(&[u64::from(number == 0 && wrong == 0), feature, wrong]);
             number
         }
         ("held", _) => return Some(one(raw::held(gcf::Feature(given[0] as u16), first, second, out))),
@@ -202,8 +204,8 @@ fn plain(case: &Case, out: &mut [u8]) -> Option<Numbers> {
         }
         "profile" => {
             let answer = second::checks::check_profile(Profile(given[0] as u16), first);
-            let (number, missing, feature) = answer.fields();
-            with(number, &[u64::from(number == 0 && !missing), u64::from(feature.0)])
+            let (number, wrong, feature) = answer.fields();
+            with(number, &[u64::from(number == 0 && wrong == 0), u64::from(feature.0), u64::from(wrong)])
         }
         "held" => one(copied(second::find::find(Feature(given[0] as u16), first, second), out)),
         "list" => one(copied(&second::lister::list(first), out)),

@@ -37,7 +37,7 @@
 //! held FEATURE | FRESH | KEPT = count; the descriptor is copied to the buffer
 //! list | RESPONSE = count
 //! descriptors | RESPONSE = number, feature
-//! profile PROFILE | RESPONSE = number, 1 if it conforms, the missing feature
+//! profile PROFILE | RESPONSE = number, 1 if it conforms, the feature that breaks it, what is wrong with it
 //! most A = C
 //! start RT A = refusal, RT, A, next start, commands, bytes collected, 1 if ended, profile
 //! take RT A NEXT COMMANDS COLLECTED ENDED PROFILE | RESPONSE = the same eight

@@ -1,0 +1,12 @@
+-- `needs::walk::is_marked` meets its contract: the marks are compared.
+use borrow.Author.Needs.{needs}
+use Rattle.needs.specs.Required.{marked}
+use Rattle.needs.proofs.walk.is_marked.Statement.{statement}
+use Rattle.needs.proofs.walk.is_marked.Tie as tie
+
+returns : tie.Need-returns
+unfolding marked
+returns c = search needs
+
+pub is-marked-spec : {M : Type 1} → statement M
+is-marked-spec = tie.close (tie.spec returns)
