@@ -25,7 +25,7 @@
 #include <stdint.h>
 
 /* The version, and its only place: all else that tells it takes it from here. docs/CHANGES.md says what each one brought. */
-#define GCF_VERSION "0.13.0"
+#define GCF_VERSION "0.14.0"
 
 #if SIZE_MAX != UINT64_MAX
 #error "gcf.h: size_t has not 64 bits here, and the functions of libgcf.a take every length and count as 64 bits. There is no libgcf.a for such a target."
@@ -119,6 +119,9 @@ enum gcf_number {
     GCF_SENSE_LENGTH = 46,
     GCF_SENSE_CODE = 47,
     GCF_SENSE_OTHER = 48,
+    /* mending a response */
+    GCF_COPY_SHORT = 49,
+    GCF_CHANGES_SHORT = 50,
     /* loading a medium */
     GCF_LIST_ORDER = 51,
     GCF_SHEET_LACKS = 52,
@@ -408,6 +411,27 @@ static inline bool gcf_conforms(gcf_profile profile, const uint8_t *response, si
     uint64_t numbers[2];
     return gcf_check_profile(profile, response, response_bytes, numbers, 2) == GCF_ACCEPTED && numbers[0] == 0;
 }
+
+/* ---- mending a captured response */
+
+/*
+ * Mends a complete response to RT 0 from 0 in a copy: reserved flags and reserved body bits and pads are cleared, 0000h to 0003h get both flags, Persistent is
+ * cleared where 34 or 35 forbids it, and the cue sheet length where SAO is 0. The header, the Versions, a body with a Version above 0 and a body of wrong length
+ * stay. The reading's numbers, 29, then 49 for a copy buffer shorter than the response, 50 for a list shorter than the changes. Accepted: the mended response, as
+ * long as it was, stands at the front of the copy buffer, and the changes at the front of the list, in rising order, one for each byte that differs:
+ * place * 65536 + old byte * 256 + new byte, where a place counts from 0 (gcf_change_place, gcf_change_old, gcf_change_new). Nothing else changed. Refused: nothing
+ * changed. What gcf_check_descriptors finds in the mended response is 0, 30, 31 or 39. A list as long as the response is never too short.
+ * numbers: bytes of the copy, changes. Refused: 0, 0.
+ */
+uint8_t gcf_mend(const uint8_t *response, size_t response_bytes,
+                 uint8_t *copy, size_t copy_bytes,
+                 uint32_t *changes, size_t changes_count,
+                 uint64_t *numbers, size_t numbers_count);
+
+/* What a change says. */
+static inline size_t gcf_change_place(uint32_t change) { return change >> 16; }
+static inline uint8_t gcf_change_old(uint32_t change) { return (uint8_t)(change >> 8); }
+static inline uint8_t gcf_change_new(uint32_t change) { return (uint8_t)change; }
 
 /* ---- import */
 

@@ -278,6 +278,35 @@ fn lists_profile_zero(body: &[u8]) -> bool {
     body.chunks_exact(PROFILE_BYTES).any(|profile| be16(profile, 0) == 0)
 }
 
+/// Whether a feature is one of the medium, which can't be Persistent where the medium can be removed.
+pub(crate) fn is_of_the_medium(feature: Feature) -> bool {
+    OF_THE_MEDIUM.contains(&feature.0)
+}
+
+/// A descriptor's body with every bit cleared that may not be 1, every pad and the cue sheet length where SAO is 0. A body of
+/// wrong length, or of a newer version, stays as it is.
+pub(crate) fn mended_body(descriptor: Descriptor) -> Vec<u8> {
+    let mut body = descriptor.body.to_vec();
+    let newer = descriptor.flags & VERSION != 0;
+    let legal = match LEGAL.iter().find(|legal| legal.feature == descriptor.feature) {
+        Some(legal) if !newer && length_is_legal(legal, newer, &body) => legal,
+        _ => return body,
+    };
+    // Behind the first 4 bytes 0021h has its link sizes, any bits, and then the pad.
+    let masked = if legal.length == Length::LinkSizes { 4 } else { body.len() };
+    for (byte, mask) in body.iter_mut().take(masked).zip(legal.mask.iter().cycle()) {
+        *byte &= mask;
+    }
+    if legal.length == Length::LinkSizes {
+        let pad = 4 + link_sizes(&body);
+        body[pad..].fill(0);
+    }
+    if descriptor.feature == CD_MASTERING && cue_sheet_without_sao(&body) {
+        body[1..4].fill(0);
+    }
+    body
+}
+
 /// The table of a profile; the archive subset has what DVD-RAM needs.
 fn table_of(profile: Profile) -> Option<&'static [Line]> {
     match profile {

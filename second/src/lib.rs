@@ -11,6 +11,7 @@ pub mod find;
 pub mod import;
 pub mod lister;
 pub mod load;
+pub mod mend;
 pub mod numbers;
 pub mod reading;
 pub mod refusal;

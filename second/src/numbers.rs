@@ -113,6 +113,12 @@ pub const SENSE_RESPONSE_CODE: u8 = 47;
 /// Any other content that the box can't write.
 pub const SENSE_OTHER: u8 = 48;
 
+// The mender.
+/// Buffer for the mended copy too short.
+pub const COPY_SHORT: u8 = 49;
+/// List of changes too short.
+pub const CHANGES_SHORT: u8 = 50;
+
 // Loading a medium.
 /// A list out of order or with a repeat.
 pub const LIST_ORDER: u8 = 51;

@@ -51,6 +51,7 @@ mod drive;
 mod driver;
 mod image;
 mod medium;
+mod mend;
 mod numbers;
 #[allow(unsafe_code, missing_docs)]
 pub mod raw;
@@ -64,6 +65,7 @@ pub use driver::{
 };
 pub use image::{respond_image, Image};
 pub use medium::{load, load_columns};
+pub use mend::{mend, undo, Change, Mended};
 pub use numbers::Number;
 pub use sense::{make_sense, read_sense, Kind};
 

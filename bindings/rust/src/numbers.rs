@@ -125,6 +125,10 @@ numbers! {
     SenseCode = 47,
     /// Sense data that the box does not write.
     SenseOther = 48,
+    /// The buffer for a mended copy is shorter than the response.
+    CopyShort = 49,
+    /// The list of changes is too short.
+    ChangesShort = 50,
     /// A list of a medium's features or profiles does not ascend, or has a repeat.
     ListOrder = 51,
     /// A listed feature or profile is not in the sheet.

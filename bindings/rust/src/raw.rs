@@ -123,6 +123,16 @@ extern "C" {
         numbers: *mut u64,
         numbers_len: usize,
     ) -> u8;
+    fn gcf_mend(
+        response: *const u8,
+        response_len: usize,
+        copy: *mut u8,
+        copy_len: usize,
+        changes: *mut u32,
+        changes_len: usize,
+        numbers: *mut u64,
+        numbers_len: usize,
+    ) -> u8;
     fn gcf_check_image(image: *const u8, image_len: usize, numbers: *mut u64, numbers_len: usize) -> u8;
     fn gcf_respond_image(
         image: *const u8,
@@ -389,6 +399,22 @@ pub fn load_columns(
             profiles.len(),
             loaded.as_mut_ptr(),
             loaded.len(),
+            numbers.as_mut_ptr(),
+            numbers.len(),
+        )
+    }
+}
+
+/// Mends a response in a copy and lists the changes; the numbers are: bytes of the copy, changes.
+pub fn mend(response: &[u8], copy: &mut [u8], changes: &mut [u32], numbers: &mut [u64]) -> u8 {
+    unsafe {
+        gcf_mend(
+            response.as_ptr(),
+            response.len(),
+            copy.as_mut_ptr(),
+            copy.len(),
+            changes.as_mut_ptr(),
+            changes.len(),
             numbers.as_mut_ptr(),
             numbers.len(),
         )

@@ -106,6 +106,31 @@ fn media() {
 }
 
 #[test]
+fn a_mended_response() {
+    let made = &mut Made(7);
+    let mut full = [0; 44];
+    let sheet = Sheet::check(&SHEET_E).unwrap();
+    sheet.respond(&[0x46, 0, 0, 0, 0, 0, 0, 0, 44, 0], &mut full).unwrap();
+    for _ in 0..20_000 {
+        let response = made.spoilt(&full);
+        let (room, lines) = (made.below(50), made.below(8));
+        let (mut copy, mut other) = ([0xA5; 50], [0xA5; 50]);
+        let (mut list, mut second) = ([0; 8], [0; 8]);
+        let number_of = raw::mend(&response, &mut copy[..room], &mut list[..lines], &mut []);
+        let mended = mend(&response, &mut other[..room], &mut second[..lines]);
+        assert_eq!(number(mended), number_of);
+        if let Ok(mended) = mended {
+            // Undone it is what it was, and mended again nothing changes.
+            let (mut back, mut again) = (mended.copy.to_vec(), [0; 50]);
+            undo(mended.changes(), &mut back);
+            assert_eq!(back, response);
+            assert_eq!(mend(mended.copy, &mut again, &mut []), Ok(Mended { copy: mended.copy, lines: &[] }));
+        }
+        assert!(copy == other && list == second);
+    }
+}
+
+#[test]
 fn the_box_with_an_image() {
     let made = &mut Made(4);
     for _ in 0..20_000 {

@@ -8,6 +8,7 @@ use Rattle.text.specs.declared.Reading.{Reading}
 use Rattle.refusal.specs.declared.Refusal.{Refusal}
 use Rattle.lent.specs.Maker.{Outcome}
 use Rattle.bench.specs.Bench as bench
+use Rattle.mend.specs.Mend as mend
 use Rattle.checks.specs.declared.Finding.{Finding}
 use Rattle.needs.specs.Judge.{Said}
 use Rattle.sense.specs.declared.Kind.{Kind}
@@ -49,6 +50,10 @@ showRead r ns = told (r .refusal .number) tt ns (readingNumbers r)
 -- a bench sweep: commands, bytes collected, the place of its refusal
 unfoldable pub showBenched : bench.Ending → List ℕ → Left bench.Buffers
 showBenched x ns = told (x .reply .refusal .number) (x .buffers) ns (x .reply .commands ∷ x .reply .collected ∷ x .reply .refusal .place ∷ [])
+
+-- a mending: bytes of the copy, changes; the buffers are the copy and the list of changes
+unfoldable pub showMended : mend.Outcome → List ℕ → Left (List ℕ × List ℕ)
+showMended x ns = told (x .answer .refusal .number) (x .copy, x .list) ns (x .answer .length ∷ x .answer .changes ∷ [])
 
 -- a check of descriptors: the feature at fault
 unfoldable pub showFinding : Finding → List ℕ → Left (Unit {0})

@@ -19,12 +19,13 @@ ghost use Rattle.sweep.specs.Sweep.{started, turn, stepped};
 ghost use Rattle.bench.specs.Bench as bench;
 ghost use Rattle.checks.specs.Check.{checked};
 ghost use Rattle.needs.specs.Judge as needs;
+ghost use Rattle.mend.specs.Mend as mend;
 ghost use Rattle.capture.specs.Capture.{captureFault};
 ghost use Rattle.import.specs.Import.{imported};
 ghost use Rattle.rom.specs.Rom.{imageAnswered};
 ghost use Rattle.rom.specs.Image.{imageCommanded};
 ghost use Rattle.sense.specs.Sense.{made, sensed};
-ghost use Rattle.abi.specs.Left.{left, showVerdict, showMade, showPlaced, readingNumbers, showRead, showBenched, showFinding, showJudged, kindNumber, showSensed};
+ghost use Rattle.abi.specs.Left.{left, showVerdict, showMade, showPlaced, readingNumbers, showRead, showBenched, showMended, showFinding, showJudged, kindNumber, showSensed};
 use command::Command;
 use layout::Layout;
 use needs::Judgement;
@@ -482,6 +483,23 @@ pub extern "C" fn gcf_check_descriptors(response: &[u8], numbers: &mut [u64]) ->
     let fault = finding.refusal;
     let feature = finding.feature;
     tell(numbers, 0, feature.0 as u64);
+    fault.number
+}
+
+// Mends a complete response in a copy, and lists the changes, each as place * 65536 + old byte * 256 + new byte. Numbers: bytes of the copy, changes.
+#[no_mangle]
+pub extern "C" fn gcf_mend(
+    response: &[u8],
+    copy: &mut [u8],
+    changes: &mut [u32],
+    numbers: &mut [u64],
+) -> u8
+    ensures { λ r. ⌜ left r (now (copy .exit), now (changes .exit)) (now (numbers .exit))
+        ≡ showMended (mend.mends (now (response .entry)) (now (copy .entry)) (now (changes .entry))) (now (numbers .entry)) ⌝ }
+{
+    let mended = mend::mend(response, copy, changes);
+    let fault = mended.refusal;
+    tell2(numbers, mended.length as u64, mended.changes as u64);
     fault.number
 }
 

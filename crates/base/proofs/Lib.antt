@@ -4,3 +4,4 @@ pub mod Pick
 pub mod Decided
 pub mod Promise
 pub mod Compare
+pub mod Bits

@@ -7,8 +7,9 @@ use Prim.Native.Nat.{ℕ, zero, suc, _+_, _≤_, _<_}
 use native.Mathlib.Omega.{arith}
 use lib.ListN.{length}
 use Rattle.refusal.specs.declared.Refusal.{Refusal}
-use Rattle.refusal.specs.First.{refuse, _if_else_, pickZero, _orElse_, firstOf}
+use Rattle.refusal.specs.First.{refuse, _if_else_}
 use Rattle.refusal.proofs.First.{placed-number}
+use Rattle.refusal.proofs.Numbers.{if-holds, orElse-holds, first-holds}
 use Rattle.text.specs.Flags as text
 use Rattle.text.specs.Drive.{Desc}
 use Rattle.text.specs.Reading.{statedEnd, headerRule, headRule, numberAt, lengthAt, headFault, walk, walked, readFault}
@@ -21,35 +22,16 @@ use Rattle.reading.specs.Places.{descs}
 use Rattle.reading.specs.Completed.{completeFault}
 
 module _ (P : ℕ → Type 0) where
-  pub if-is : (k : ℕ) (b : Bool) (y : Refusal) → P k → P (y .number) → P ((refuse k if b else y) .number)
-  unfolding _if_else_
-  if-is k true y h l = h
-  if-is k false y h l = l
-
   if-not : (k : ℕ) (b : Bool) (y : Refusal) → b ≡ false → P (y .number) → P ((refuse k if b else y) .number)
   unfolding _if_else_
   if-not k b y e l = rw (e, _if_else_) l
-
-  pick-is : (k : ℕ) (a b : Refusal) → P (a .number) → P (b .number) → P (pickZero k a b .number)
-  unfolding pickZero
-  pick-is zero a b h l = l
-  pick-is (suc k) a b h l = h
-
-  pub orElse-is : (a b : Refusal) → P (a .number) → P (b .number) → P ((a orElse b) .number)
-  unfolding _orElse_
-  orElse-is a b h l = pick-is (a .number) a b h l
-
-  pub first-is : (f : ℕ → Refusal) (i k : ℕ) → P 0 → ((j : ℕ) → P (f j .number)) → P (firstOf f i k .number)
-  unfolding firstOf
-  first-is f i zero z h = z
-  first-is f i (suc k) z h = orElse-is (f i) (firstOf f (suc i) k) (h i) (first-is f (suc i) k z h)
 
 -- ---- a reading with RT 0: neither 13 nor 19
 
 module _ (P : ℕ → Type 0) (p0 : P 0) (p17 : P 17) (p18 : P 18) (p20 : P 20) (sfn end : ℕ) (s : List ℕ) where
   head-is : (lo at : ℕ) → P (headFault 0 sfn end s lo at .number)
   unfolding headFault headRule
-  head-is lo at = if-is P 17 _ _ p17 (if-is P 18 _ _ p18 (if-is P 18 _ _ p18 (if-not P 19 _ _ refl (if-is P 20 _ _ p20 p0))))
+  head-is lo at = if-holds P (refuse 17) _ _ p17 (if-holds P (refuse 18) _ _ p18 (if-holds P (refuse 18) _ _ p18 (if-not P 19 _ _ refl (if-holds P (refuse 20) _ _ p20 p0))))
 
   walk-is : (k lo at : ℕ) → P (walk k 0 sfn end s lo at .fault .number)
   unfolding walk
@@ -70,38 +52,43 @@ module _ (P : ℕ → Type 0) (p0 : P 0) (p17 : P 17) (p18 : P 18) (p20 : P 20) 
 read-is : (P : ℕ → Type 0) → P 0 → P 14 → P 15 → P 16 → P 17 → P 18 → P 20 → (limit sfn : ℕ) (s : List ℕ) → P (readFault limit 0 sfn s .number)
 unfolding readFault headerRule walked
 read-is P p0 p14 p15 p16 p17 p18 p20 limit sfn s =
-    orElse-is P _ _
-    (if-not P 13 _ _ refl (if-is P 14 _ _ p14 (if-is P 14 _ _ p14 (if-is P 15 _ _ p15 (if-is P 15 _ _ p15 (if-is P 16 _ _ p16 (if-is P 16 _ _ p16 p0)))))))
+    orElse-holds P _ _
+    (if-not P 13 _ _ refl (if-holds P (refuse 14) _ _ p14 (if-holds P (refuse 14) _ _ p14 (if-holds P (refuse 15) _ _ p15 (if-holds P (refuse 15) _ _ p15 (if-holds P (refuse 16) _ _ p16 (if-holds P (refuse 16) _ _ p16 p0)))))))
     (walk-is P p0 p17 p18 p20 sfn (statedEnd s) s (length s) sfn 8)
+
+-- and whether it is complete
+pub complete-is : (P : ℕ → Type 0) → P 0 → P 14 → P 15 → P 16 → P 17 → P 18 → P 20 → P 29 → (r : List ℕ) → P (completeFault r .number)
+unfolding completeFault
+complete-is P p0 p14 p15 p16 p17 p18 p20 p29 r = orElse-holds P _ _ (read-is P p0 p14 p15 p16 p17 p18 p20 65534 0 r) (if-holds P (refuse 29) _ _ p29 p0)
 
 -- ---- a capture
 
 module _ (P : ℕ → Type 0) (p0 : P 0) where
-  own-is : P 41 → (r : List ℕ) (ds : List Desc) → P (ownRule r ds .number)
+  pub own-is : P 41 → (r : List ℕ) (ds : List Desc) → P (ownRule r ds .number)
   unfolding ownRule
   own-is p41 r [] = p41
-  own-is p41 r (z ∷ ds) = if-is P 41 _ _ p41 (if-is P 41 _ _ p41 (if-is P 41 _ _ p41 (if-is P 41 _ _ p41 p0)))
+  own-is p41 r (z ∷ ds) = if-holds P (refuse 41) _ _ p41 (if-holds P (refuse 41) _ _ p41 (if-holds P (refuse 41) _ _ p41 (if-holds P (refuse 41) _ _ p41 p0)))
 
   pub rule-is : P 5 → P 44 → (f : ℕ) → P (flagsRule f .number)
   unfolding flagsRule text.flagsGiving
-  rule-is p5 p44 f = orElse-is P _ _ (if-is P 5 _ _ p5 p0) (if-is P 44 _ _ p44 p0)
+  rule-is p5 p44 f = orElse-holds P _ _ (if-holds P (refuse 5) _ _ p5 p0) (if-holds P (refuse 44) _ _ p44 p0)
 
   flags-is : P 5 → P 44 → (k : ℕ) (ds : List Desc) → P (flagsFaults k ds .number)
   unfolding flagsFaults
   flags-is p5 p44 k [] = p0
-  flags-is p5 p44 k (d ∷ ds) = orElse-is P _ _ (subst P (sym (placed-number _ k)) (rule-is p5 p44 (d .flags))) (flags-is p5 p44 (k + 1) ds)
+  flags-is p5 p44 k (d ∷ ds) = orElse-holds P _ _ (subst P (sym (placed-number _ k)) (rule-is p5 p44 (d .flags))) (flags-is p5 p44 (k + 1) ds)
 
   pub record-is : P 3 → (b : List ℕ) (i : ℕ) → P (recordFault b i .number)
   unfolding recordFault recordRule
-  record-is p3 b i = subst P (sym (placed-number _ (suc i))) (if-is P 3 _ _ p3 (if-is P 3 _ _ p3 (if-is P 3 _ _ p3 (if-is P 3 _ _ p3 p0))))
+  record-is p3 b i = subst P (sym (placed-number _ (suc i))) (if-holds P (refuse 3) _ _ p3 (if-holds P (refuse 3) _ _ p3 (if-holds P (refuse 3) _ _ p3 (if-holds P (refuse 3) _ _ p3 p0))))
 
   sheet-is : P 3 → P 5 → P 44 → (ds : List Desc) → P (sheetRule ds .number)
   unfolding sheetRule recordsFault
   sheet-is p3 p5 p44 [] = p0
-  sheet-is p3 p5 p44 (z ∷ ds) = orElse-is P _ _ (first-is P _ 0 _ p0 (record-is p3 (z .body))) (flags-is p5 p44 1 ds)
+  sheet-is p3 p5 p44 (z ∷ ds) = orElse-holds P _ _ (first-holds P _ p0 (record-is p3 (z .body)) 0 _) (flags-is p5 p44 1 ds)
 
 pub capture-is : (P : ℕ → Type 0) → P 0 → P 14 → P 15 → P 16 → P 17 → P 18 → P 20 → P 29 → P 41 → P 3 → P 5 → P 44 → (r : List ℕ) → P (captureFault r .number)
-unfolding captureFault completeFault
+unfolding captureFault
 capture-is P p0 p14 p15 p16 p17 p18 p20 p29 p41 p3 p5 p44 r =
-    orElse-is P (completeFault r) _ (orElse-is P _ _ (read-is P p0 p14 p15 p16 p17 p18 p20 65534 0 r) (if-is P 29 _ _ p29 p0))
-    (orElse-is P _ _ (own-is P p0 p41 r (descs r)) (sheet-is P p0 p3 p5 p44 (descs r)))
+    orElse-holds P (completeFault r) _ (complete-is P p0 p14 p15 p16 p17 p18 p20 p29 r)
+    (orElse-holds P _ _ (own-is P p0 p41 r (descs r)) (sheet-is P p0 p3 p5 p44 (descs r)))

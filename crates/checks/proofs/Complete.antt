@@ -69,6 +69,10 @@ module _ (s : List ℕ) where
             asc = rw q here-above;
           }
 
+      -- it is whole
+      pub here-whole : at + 4 + lengthAt s at ≤ length s
+      here-whole = one .1
+
     -- a descriptor has its four header bytes, so where there are none it is the end
     pub here-end : length s < at + 4 → length s ≤ at
     here-end k = ⊎-elim (λ l. l) (λ l. absurd (omega (arith, one l .1))) (le-or-lt (length s) at)

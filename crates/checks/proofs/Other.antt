@@ -48,7 +48,7 @@ module _ (f : ℕ) where
       go false k more =
           pick-past is same other r rs k ∙ more (ap (λ (x : Row). x .0 .0) (sym (pick-past is same other r rs k)) ∙ e)
 
-  row-other : rowOf f .0 .0 ≡ 0xFFFF → rowOf f ≡ other
+  pub row-other : rowOf f .0 .0 ≡ 0xFFFF → rowOf f ≡ other
   unfolding rowOf legal
   row-other = found-other legal (refl, (refl, (refl, (refl, (refl, (refl, (refl, (refl, (refl, (refl, (refl, tt)))))))))))
 
@@ -61,12 +61,12 @@ above (suc (suc zero)) e = absurd (omega (arith, e))
 above (suc (suc (suc zero))) e = absurd (omega (arith, e))
 above (suc (suc (suc (suc f)))) e = omega arith
 
-no-cue : (f : ℕ) → rowOf f .0 .0 ≡ 0xFFFF → f ≡ 0x002E → ⊥
+pub no-cue : (f : ℕ) → rowOf f .0 .0 ≡ 0xFFFF → f ≡ 0x002E → ⊥
 unfolding rowOf legal pick
 no-cue f e h = omega (arith, subst (λ (n : ℕ). rowOf n .0 .0 ≡ 0xFFFF) h e)
 
 -- any bits may be 1
-any-bits : (b k n : ℕ) → b < 256 → bitAnd b (maskAt (other .1) (other .2) n k) ≡ b
+pub any-bits : (b k n : ℕ) → b < 256 → bitAnd b (maskAt (other .1) (other .2) n k) ≡ b
 unfolding maskAt other maskBytes spell
 any-bits b k n l =
     ap (bitAnd b)

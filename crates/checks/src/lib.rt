@@ -4,9 +4,9 @@ ghost use Rattle.reading.specs.Places.{descs};
 ghost use Rattle.reading.specs.Completed.{completeFault};
 ghost use Rattle.checks.specs.Check.{checkedAll, checked};
 
-mod legal;
-mod rules;
-mod walk;
+pub mod legal;
+pub mod rules;
+pub mod walk;
 
 use refusal::Refusal;
 use text::Feature;

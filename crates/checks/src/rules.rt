@@ -64,7 +64,7 @@ fn other_length(wanted: Length, n: u8, len: usize) -> bool
 }
 
 // Whether a body may not have len bytes: with a Version above 0 it may be longer than its row says; n is byte 7.
-fn wrong_length(wanted: Length, flags: Flags, n: u8, len: usize) -> bool
+pub fn wrong_length(wanted: Length, flags: Flags, n: u8, len: usize) -> bool
     ensures { λ r. ⌜ r ≡ wrongLength wanted (flags .0) n len ⌝ }
 {
     if flags.version() == 0 {
@@ -227,7 +227,7 @@ fn counted_fault(mask: u32, body: &[u8]) -> Refusal
 }
 
 // 36 anywhere in a body.
-fn reserved_fault(row: Row, body: &[u8]) -> Refusal
+pub fn reserved_fault(row: Row, body: &[u8]) -> Refusal
     ensures { λ r. ⌜ r ≡ firstOf (reservedAt row (now (body .entry))) 0 (length (now (body .entry))) ⌝ }
 {
     let length = row.1;
@@ -272,7 +272,7 @@ fn profiles_fault(f: Feature, body: &[u8]) -> Refusal
 }
 
 // 37 of a body: a cue sheet length without SAO.
-fn cue_fault(f: Feature, body: &[u8]) -> Refusal
+pub fn cue_fault(f: Feature, body: &[u8]) -> Refusal
     ensures { λ r. ⌜ r ≡ cueRule (f .0) (getD (now (body .entry)) 0 0) (field 3 (now (body .entry)) 1) ⌝ }
 {
     if f.0 != 0x002E {

@@ -34,6 +34,11 @@ use Rattle.layout.proofs.put_head as put-head
 use Rattle.layout.proofs.place_row as place-row
 use Rattle.layout.proofs.put_contents as put-contents
 use Rattle.layout.proofs.set_flags as set-flags
+use Rattle.reading.specs.Places.{descs}
+use Rattle.reading.specs.Completed.{completeFault}
+use Rattle.checks.specs.Check.{reported, firstFinding}
+use Rattle.checks.proofs.walk.reports as walk-reports
+use Rattle.checks.proofs.rules.first_fault as rules-first-fault
 use Rattle.demands.proofs.Named.{named, met}
 
 -- The contract s of the function's theorem is made of the clauses c, no more than q is asked of the caller, and two outcomes that are allowed are the same
@@ -164,3 +169,19 @@ put-contents-decided x = decides-asking (x .𝓤) (λ o o′ p q. (same p q .0, 
 pub put-contents-tied : PromisedAsking put-contents.ended (λ M. put-contents.clauses) (λ M. put-contents.spec) (met (λ _ out at to lay s n. Room (now s) n))
     (named (λ _ out at to lay s n r out′ _ _ _ _ _. Wrote (now out) at (contents to (each (entryOf (stored lay (now s))) 0 n)) r out′))
 put-contents-tied x = promises-asking (x .𝓤) (λ o e. e)
+
+-- ---- checks
+
+pub walk-reports-decided : DecidedAsking walk-reports.ended (λ M. walk-reports.clauses) (λ M. walk-reports.spec) (met (λ _ f s. completeFault (now s) .number ≡ 0)) (λ κs r. r)
+walk-reports-decided x = decides-asking (x .𝓤) (λ o o′ p q. (joined p q, refl))
+
+pub walk-reports-tied : PromisedAsking walk-reports.ended (λ M. walk-reports.clauses) (λ M. walk-reports.spec) (met (λ _ f s. completeFault (now s) .number ≡ 0))
+    (named (λ _ f s r _ _. r ≡ reported (f .0) (descs (now s))))
+walk-reports-tied x = promises-asking (x .𝓤) (λ o e. e)
+
+pub rules-first-fault-decided : DecidedAsking rules-first-fault.ended (λ M. rules-first-fault.clauses) (λ M. rules-first-fault.spec) (met (λ _ removable s. completeFault (now s) .number ≡ 0)) (λ κs r. r)
+rules-first-fault-decided x = decides-asking (x .𝓤) (λ o o′ p q. (joined p q, refl))
+
+pub rules-first-fault-tied : PromisedAsking rules-first-fault.ended (λ M. rules-first-fault.clauses) (λ M. rules-first-fault.spec) (met (λ _ removable s. completeFault (now s) .number ≡ 0))
+    (named (λ _ removable s r _ _. r ≡ firstFinding removable (descs (now s))))
+rules-first-fault-tied x = promises-asking (x .𝓤) (λ o e. e)

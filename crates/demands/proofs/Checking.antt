@@ -46,7 +46,7 @@ use Rattle.checks.proofs.Calls.{if-yes, if-no}
 use Rattle.checks.proofs.Findings.{next-none, next-fault}
 use Rattle.base.proofs.Pick.{pick-here, pick-past}
 use Rattle.checks.proofs.Faultless.{passes-of, of-passes}
-use Rattle.capture.proofs.Numbers.{if-is, orElse-is}
+use Rattle.refusal.proofs.Numbers.{if-holds, orElse-holds}
 use Rattle.demands.proofs.Sheets.{oneOf}
 use Rattle.checks.proofs.Found.{Found, found}
 
@@ -238,8 +238,8 @@ AsNewer n = oneOf newerNumbers n ≡ true
 pub newer-findings : (removable : Bool) (d : Desc) → newer (d .flags) ≡ true → oneOf newerNumbers (descFault removable d .number) ≡ true
 unfolding descFault flagsFault flagsGiving rowRule bodyFault oneOf
 newer-findings removable d e =
-    orElse-is AsNewer _ _ (orElse-is AsNewer _ _ (if-is AsNewer 33 _ _ refl refl) (if-is AsNewer 34 _ _ refl refl))
-    (orElse-is AsNewer _ _ (if-is AsNewer 31 _ _ refl (if-is AsNewer 32 _ _ refl (if-is AsNewer 35 _ _ refl refl)))
+    orElse-holds AsNewer _ _ (orElse-holds AsNewer _ _ (if-holds AsNewer (refuse 33) _ _ refl refl) (if-holds AsNewer (refuse 34) _ _ refl refl))
+    (orElse-holds AsNewer _ _ (if-holds AsNewer (refuse 31) _ _ refl (if-holds AsNewer (refuse 32) _ _ refl (if-holds AsNewer (refuse 35) _ _ refl refl)))
     (subst AsNewer (sym (ap (λ (r : Refusal). r .number) (if-yes accept _ (newer (d .flags)) e))) refl))
 
 -- ---- of an answer

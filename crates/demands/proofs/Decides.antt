@@ -1,6 +1,8 @@
 -- Each public function's own contract, as the toolchain generates it, asks nothing and decides the whole outcome: every returned field, where a returned part lies, and
 -- every byte of lent memory. One line a function; five of the theorems stand in the function's own crate, where an edit that weakens the contract is refused by them. Assumes nothing.
 use mathlib.Core.Path.{_≡_, refl, ap}
+use mathlib.Core.List.{List}
+use Prim.Native.Nat.{ℕ}
 use Rattle.base.proofs.Decided.{Decided, DecidedAs, seen, decides, joined, _&_}
 use Rattle.fields.proofs.Parts.{same-part}
 use Rattle.lent.proofs.Laws.{same}
@@ -73,10 +75,16 @@ use Rattle.listing.proofs.list as list
 use Rattle.sweep.specs.Sweep.{Turn}
 use Rattle.bench.specs.Bench as bench-specs
 use Rattle.bench.proofs.bench as bench
+use Rattle.checks.proofs.legal.row_of as legal-row-of
+use Rattle.checks.proofs.rules.wrong_length as rules-wrong-length
+use Rattle.checks.proofs.rules.reserved_fault as rules-reserved-fault
+use Rattle.checks.proofs.rules.cue_fault as rules-cue-fault
 use Rattle.checks.proofs.check_descriptors as check-descriptors
 use Rattle.needs.proofs.Wrong.number as wrong-number
 use Rattle.needs.proofs.check_profile as check-profile
 use Rattle.needs.proofs.Judgements.{said-injective}
+use Rattle.mend.specs.Mend as mend-specs
+use Rattle.mend.proofs.mend as mend
 use Rattle.sweep.proofs.Sweep.start as sweep-start
 use Rattle.sweep.proofs.Sweep.take as sweep-take
 use Rattle.sweep.proofs.take_response as take-response
@@ -109,6 +117,7 @@ use Rattle.abi.proofs.gcf_bench as gcf-bench
 use Rattle.abi.proofs.gcf_bench_columns as gcf-bench-columns
 use Rattle.abi.proofs.gcf_check_descriptors as gcf-check-descriptors
 use Rattle.abi.proofs.gcf_check_profile as gcf-check-profile
+use Rattle.abi.proofs.gcf_mend as gcf-mend
 use Rattle.abi.proofs.gcf_import as gcf-import
 use Rattle.abi.proofs.gcf_to_rows as gcf-to-rows
 use Rattle.abi.proofs.gcf_to_columns as gcf-to-columns
@@ -367,6 +376,28 @@ wrong-number-decided x = decides (x .𝓤) (λ o o′ p q. (joined p q, refl))
 pub check-profile-decided : Decided check-profile.ended (λ M. check-profile.clauses) (λ M. check-profile.spec)
 check-profile-decided x = decides (x .𝓤) (λ o o′ p q. (said-injective (o .0) (o′ .0) (joined p q), refl))
 
+-- what the mender shares with it
+
+pub legal-row-of-decided : Decided legal-row-of.ended (λ M. legal-row-of.clauses) (λ M. legal-row-of.spec)
+legal-row-of-decided x = decides (x .𝓤) (λ o o′ p q. (joined p q, refl))
+
+pub rules-wrong-length-decided : Decided rules-wrong-length.ended (λ M. rules-wrong-length.clauses) (λ M. rules-wrong-length.spec)
+rules-wrong-length-decided x = decides (x .𝓤) (λ o o′ p q. (joined p q, refl))
+
+pub rules-reserved-fault-decided : Decided rules-reserved-fault.ended (λ M. rules-reserved-fault.clauses) (λ M. rules-reserved-fault.spec)
+rules-reserved-fault-decided x = decides (x .𝓤) (λ o o′ p q. (joined p q, refl))
+
+pub rules-cue-fault-decided : Decided rules-cue-fault.ended (λ M. rules-cue-fault.clauses) (λ M. rules-cue-fault.spec)
+rules-cue-fault-decided x = decides (x .𝓤) (λ o o′ p q. (joined p q, refl))
+
+-- ---- mend
+
+pub mend-decided : Decided mend.ended (λ M. mend.clauses) (λ M. mend.spec)
+mend-decided x = decides (x .𝓤) (λ o o′ p q. (
+  ap (λ (z : mend-specs.Outcome). z .answer) (joined p q),
+  refl & ap (λ (z : mend-specs.Outcome). z .copy) (joined p q) & ap (λ (z : mend-specs.Outcome). z .list) (joined p q) & refl,
+))
+
 -- ---- capture and import
 
 pub capture-check-decided : Decided capture-check.ended (λ M. capture-check.clauses) (λ M. capture-check.spec)
@@ -469,6 +500,12 @@ gcf-check-descriptors-decided x = decides (x .𝓤) (λ o o′ p q. (number (joi
 
 pub gcf-check-profile-decided : Decided gcf-check-profile.ended (λ M. gcf-check-profile.clauses) (λ M. gcf-check-profile.spec)
 gcf-check-profile-decided x = decides (x .𝓤) (λ o o′ p q. (number (joined p q), refl & refl & numbers (joined p q) & refl))
+
+pub gcf-mend-decided : Decided gcf-mend.ended (λ M. gcf-mend.clauses) (λ M. gcf-mend.spec)
+gcf-mend-decided x = decides (x .𝓤) (λ o o′ p q. (
+  number (joined p q),
+  refl & ap (λ (z : List ℕ × List ℕ). z .0) (buffers (joined p q)) & ap (λ (z : List ℕ × List ℕ). z .1) (buffers (joined p q)) & numbers (joined p q) & refl,
+))
 
 pub gcf-import-decided : Decided gcf-import.ended (λ M. gcf-import.clauses) (λ M. gcf-import.spec)
 gcf-import-decided x = decides (x .𝓤) (λ o o′ p q. (number (joined p q), refl & buffers (joined p q) & numbers (joined p q) & refl))

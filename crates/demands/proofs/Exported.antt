@@ -32,6 +32,8 @@ use Rattle.abi.proofs.gcf_bench as gcf-bench
 use Rattle.abi.proofs.gcf_bench_columns as gcf-bench-columns
 use Rattle.abi.proofs.gcf_check_descriptors as gcf-check-descriptors
 use Rattle.abi.proofs.gcf_check_profile as gcf-check-profile
+use Rattle.abi.proofs.gcf_mend as gcf-mend
+use Rattle.mend.proofs.Promised.{Mends, mends-so}
 use Rattle.abi.proofs.gcf_import as gcf-import
 use Rattle.abi.proofs.gcf_to_columns as gcf-to-columns
 use Rattle.abi.proofs.gcf_to_rows as gcf-to-rows
@@ -161,6 +163,10 @@ gcf-check-descriptors-tied x = promises (x .𝓤) (λ o. shows _ (finds _))
 pub gcf-check-profile-tied : Promised gcf-check-profile.ended (λ M. gcf-check-profile.clauses) (λ M. gcf-check-profile.spec)
     (named (λ _ profile response numbers r _ _ numbers′. Shows (Judges (profile .0) (now response)) (λ z. abi.showJudged z (now numbers)) (left r tt numbers′)))
 gcf-check-profile-tied x = promises (x .𝓤) (λ o. shows _ (judges _ _))
+
+pub gcf-mend-tied : Promised gcf-mend.ended (λ M. gcf-mend.clauses) (λ M. gcf-mend.spec)
+    (named (λ _ response copy changes numbers r _ copy′ changes′ numbers′. Shows (Mends (now response) (now copy) (now changes)) (λ z. abi.showMended z (now numbers)) (left r (copy′, changes′) numbers′)))
+gcf-mend-tied x = promises (x .𝓤) (λ o. shows _ (mends-so _ _ _))
 
 pub gcf-import-tied : Promised gcf-import.ended (λ M. gcf-import.clauses) (λ M. gcf-import.spec)
     (named (λ _ response sheet numbers r _ sheet′ numbers′. Shows (Imports (now response) (now sheet)) (λ z. abi.showPlaced z (now numbers)) (left r sheet′ numbers′)))

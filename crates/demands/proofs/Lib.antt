@@ -13,6 +13,7 @@ pub mod Capturing
 pub mod Converting
 pub mod Packets
 pub mod Loading
+pub mod Mending
 pub mod Importing
 pub mod Images
 pub mod Senses

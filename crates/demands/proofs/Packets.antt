@@ -79,7 +79,7 @@ module _ {c e : List ℕ} (same : SameAsked c e) where
   same-image-accepted i d = same-asked same (λ r rt sfn a. unless r (maker.refusing d) (imageRequested i rt sfn a d))
 
 -- Of two calls of a function φ holds, whatever outcomes its contract allows.
-abbrev Twice : (T : Ended) (c : Contract T) → ((x : Call T c) → Outcome T c x → (y : Call T c) → Outcome T c y → Type 0) → Type 2
+abbrev pub Twice : (T : Ended) (c : Contract T) → ((x : Call T c) → Outcome T c x → (y : Call T c) → Outcome T c y → Type 0) → Type 2
 Twice T c φ =
     (x : Call T c) (κs : Lfts (T .signature .lifetimes)) (args : Args (T .signature) κs) (g : c (x .M) (x .𝓤) (x .H) (x .A) (x .mem) (x .run) κs args .ghost)
     (o : Outcome T c x) (p : Outcome T c (beside x κs args g))

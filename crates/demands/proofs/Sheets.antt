@@ -6,7 +6,7 @@ use Prim.Native.Nat.{ℕ, suc, _≤_}
 use lib.Dec.{eqb}
 use Rattle.base.specs.Lists.{Bytes}
 use Rattle.refusal.specs.declared.Refusal.{Refusal}
-use Rattle.refusal.specs.First.{accept}
+use Rattle.refusal.specs.First.{refuse, accept}
 use Rattle.refusal.specs.Lines.{old}
 use Rattle.refusal.proofs.First.{placed-number}
 use Rattle.profiles.specs.Profiles.{recordsFault}
@@ -21,7 +21,8 @@ use Rattle.sheet.proofs.Accepted.{facts, accept-of}
 use Rattle.sheet.proofs.Build.{sheet-accepted, sheet-bytes}
 use Rattle.sheet.proofs.Lines.{verdict-located, verdict-old}
 use Rattle.sheet.proofs.Promised.{Grounds, grounds}
-use Rattle.capture.proofs.Numbers.{if-is, orElse-is, first-is, rule-is, record-is}
+use Rattle.refusal.proofs.Numbers.{if-holds, orElse-holds, first-holds}
+use Rattle.capture.proofs.Numbers.{rule-is, record-is}
 use Rattle.sheet.proofs.Longest.{longest, longestDrive, longest-fine, longest-reached}
 
 -- n is one of the numbers
@@ -39,15 +40,15 @@ module _ (P : ℕ → Type 0) (p0 : P 0) (p1 : P 1) (p2 : P 2) (p3 : P 3) (p4 : 
   unfolding entryFault entryRule
   entry-is i =
       subst P (sym (placed-number _ (suc i)))
-      (if-is P 4 _ _ p4 (if-is P 4 _ _ p4 (orElse-is P _ _ (rule-is P p0 p5 p44 (flags s i)) (if-is P 6 _ _ p6 (if-is P 7 _ _ p7 p0)))))
+      (if-holds P (refuse 4) _ _ p4 (if-holds P (refuse 4) _ _ p4 (orElse-holds P _ _ (rule-is P p0 p5 p44 (flags s i)) (if-holds P (refuse 6) _ _ p6 (if-holds P (refuse 7) _ _ p7 p0)))))
 
   verdict-is : P (verdict s .number)
   unfolding verdict counted recordsFault
   verdict-is =
-      if-is P 1 _ _ p1 (if-is P 1 _ _ p1 (if-is P 2 _ _ p2
-      (orElse-is P _ _ (first-is P _ 0 _ p0 (record-is P p0 p3 (profilesPart s)))
-      (orElse-is P _ _ (first-is P _ 0 _ p0 entry-is)
-      (if-is P 8 _ _ p8 p0)))))
+      if-holds P (refuse 1) _ _ p1 (if-holds P (refuse 1) _ _ p1 (if-holds P (refuse 2) _ _ p2
+      (orElse-holds P _ _ (first-holds P _ p0 (record-is P p0 p3 (profilesPart s)) 0 _)
+      (orElse-holds P _ _ (first-holds P _ p0 entry-is 0 _)
+      (if-holds P (refuse 8) _ _ p8 p0)))))
 
 verdict-numbers : (s : Sheet) → oneOf sheetNumbers (verdict s .number) ≡ true
 unfolding oneOf

@@ -269,6 +269,17 @@ pub const SENSE_OTHER: Refusal = Refusal {
     place: 0,
 };
 
+// The mender's refusals.
+pub const COPY_SHORT: Refusal = Refusal {
+    number: 49,
+    place: 0,
+};
+
+pub const CHANGES_SHORT: Refusal = Refusal {
+    number: 50,
+    place: 0,
+};
+
 // The refusals of loading a medium.
 pub const LIST_ORDER: Refusal = Refusal {
     number: 51,

@@ -55,6 +55,8 @@ pub fn say_meaning(fd: i32, refusal: Refusal) {
         46 the sense data has not 18 bytes\n\
         47 the response code is not 70h\n\
         48 the box does not write such sense data\n\
+        49 the buffer for the mended copy is too short\n\
+        50 the list of changes is too short\n\
         51 a list does not ascend, or has a repeat\n\
         52 the sheet lacks a listed feature or profile\n\
         53 the buffer for the loaded sheet is too short\n\

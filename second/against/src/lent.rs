@@ -17,6 +17,10 @@ impl Cell for u16 {
     const BEFORE: u16 = 0xA5A5;
 }
 
+impl Cell for u32 {
+    const BEFORE: u32 = 0xA5A5_A5A5;
+}
+
 impl Cell for u64 {
     const BEFORE: u64 = 0xA5A5_A5A5_A5A5_A5A5;
 }
@@ -58,13 +62,20 @@ pub struct Memory {
     pub first: Lent<u8>,
     pub second: Lent<u8>,
     pub starts: Lent<u16>,
+    pub changes: Lent<u32>,
     pub numbers: Lent<u64>,
 }
 
 impl Memory {
     /// None at all.
     pub fn none() -> Memory {
-        Memory { first: Lent::none(), second: Lent::none(), starts: Lent::none(), numbers: Lent::none() }
+        Memory {
+            first: Lent::none(),
+            second: Lent::none(),
+            starts: Lent::none(),
+            changes: Lent::none(),
+            numbers: Lent::none(),
+        }
     }
 
     /// An array for the numbers.
@@ -87,6 +98,11 @@ impl Memory {
         Memory { starts: Lent::new(length), ..self }
     }
 
+    /// With a list of changes too.
+    pub fn with_changes(self, length: usize) -> Memory {
+        Memory { changes: Lent::new(length), ..self }
+    }
+
     /// Writes as many of the results as the array of numbers has room for.
     pub fn give(&mut self, results: &[u64]) {
         for (cell, result) in self.numbers.part().iter_mut().zip(results) {
@@ -99,6 +115,7 @@ impl Memory {
         self.first.part().fill(u8::BEFORE);
         self.second.part().fill(u8::BEFORE);
         self.starts.part().fill(u16::BEFORE);
+        self.changes.part().fill(u32::BEFORE);
         self.give(&vec![u64::BEFORE; results]);
     }
 }

@@ -192,6 +192,7 @@ fn differences(left: &Memory, right: &Memory, inputs: &[Input]) -> String {
     text += &difference("first buffer", &left.first, &right.first);
     text += &difference("second buffer", &left.second, &right.second);
     text += &difference("starts", &left.starts, &right.starts);
+    text += &difference("changes", &left.changes, &right.changes);
     text += &difference("numbers", &left.numbers, &right.numbers);
     if !unchanged(inputs) {
         text += "an input was changed\n";

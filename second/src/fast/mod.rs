@@ -10,6 +10,7 @@ pub mod columns;
 pub mod command;
 pub mod import;
 pub mod load;
+pub mod mend;
 pub mod reading;
 pub mod rom;
 pub mod sheet;

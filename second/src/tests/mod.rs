@@ -6,6 +6,7 @@ mod fast;
 mod fewest;
 mod import;
 mod load;
+mod mend;
 mod places;
 mod refusals;
 mod rom;

@@ -16,6 +16,7 @@ use second::fast::columns;
 use second::fast::command::{respond, respond_checked};
 use second::fast::import::import;
 use second::fast::load::{load, load_columns};
+use second::fast::mend::mend;
 use second::fast::reading::read;
 use second::fast::rom;
 use second::fast::sheet::check;
@@ -61,6 +62,7 @@ fn main() {
     sheets_in_columns(&run);
     media(&run);
     checks_of_responses(&run);
+    mendings(&run);
     imports(&run);
 }
 
@@ -492,6 +494,39 @@ fn time_load(run: &Run, name: &str, rows: &[u8], features: &[u16], profiles: &[u
                 usize::from(answer) + numbers[0] as usize
             }),
             plain: Box::new(|sheet, out| plain(sheet, &plain_features, &plain_profiles, out).unwrap_or(0)),
+        });
+    }
+}
+
+/// Responses mended: clean ones, and ones with a stray bit in each descriptor's flags and in each body that has a rule.
+fn mendings(run: &Run) {
+    let mut stray = ruled_parts();
+    for part in &mut stray {
+        part.1 |= 0x40;
+        part.2.iter_mut().take(3).for_each(|byte| *byte |= 0x10);
+    }
+    let mut flags = long_faultless();
+    flags.iter_mut().skip(10).step_by(4).for_each(|byte| *byte |= 0x40);
+    let responses = [
+        ("sheet E's response", example()),
+        ("all rules", response_of(0x12, &ruled_parts())),
+        ("all rules, stray bits", response_of(0x12, &stray)),
+        ("65,532 bytes without bodies", long_faultless()),
+        ("65,532 bytes without bodies, stray flags", flags),
+    ];
+    for (name, response) in &responses {
+        let (mut list, mut other) = (vec![0; response.len()], vec![0; response.len()]);
+        run.time(Case {
+            name: format!("mending, {name}"),
+            input: response,
+            room: response.len(),
+            bytes: response.len(),
+            pieces: None,
+            proved: Box::new(move |response, out| {
+                let mut numbers = [0; 2];
+                usize::from(raw::mend(response, out, &mut list, &mut numbers)) + numbers[1] as usize
+            }),
+            plain: Box::new(move |response, out| mend(response, out, &mut other).map_or(0, |made| made.1)),
         });
     }
 }

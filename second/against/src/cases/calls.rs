@@ -85,6 +85,24 @@ fn benched(out: &mut [u8], run: impl FnOnce(&mut [u8], &mut [u8], &mut [u16]) ->
     Some(numbers)
 }
 
+/// The buffers of a mending: so many bytes for the copy, then the list of changes, four bytes each.
+fn mended(
+    out: &mut [u8],
+    room: usize,
+    run: impl FnOnce(&mut [u8], &mut [u32]) -> Numbers,
+) -> Option<Numbers> {
+    if room > out.len() {
+        return None;
+    }
+    let (copy, list) = out.split_at_mut(room);
+    let mut changes = vec![u32::from_be_bytes([BEFORE; 4]); list.len() / 4];
+    let numbers = run(copy, &mut changes);
+    for (bytes, change) in list.chunks_exact_mut(4).zip(changes) {
+        bytes.copy_from_slice(&change.to_be_bytes());
+    }
+    Some(numbers)
+}
+
 /// The archive's side.
 fn proved(case: &Case, out: &mut [u8]) -> Option<Numbers> {
     let (given, first, second) = (case.given, &case.first[..], &case.second[..]);
@@ -109,6 +127,12 @@ fn proved(case: &Case, out: &mut [u8]) -> Option<Numbers> {
         ("build", _) => {
             let (rt, sfn) = (given[1] as u8, gcf::Feature(given[2] as u16));
             raw::build_command(given[0] as usize, rt, sfn, given[3] as u16, out, told)
+        }
+        ("mend", _) => {
+            return mended(out, given[0] as usize, |copy, list| {
+                let mut told = [0; 2];
+                with(raw::mend(first, copy, list, &mut told), &told)
+            });
         }
         ("import", _) => raw::import(first, out, told),
         ("read", _) => raw::read(given[0] as u8, gcf::Feature(given[1] as u16), first, told),
@@ -190,6 +214,13 @@ fn plain(case: &Case, out: &mut [u8]) -> Option<Numbers> {
             let (rt, sfn, allocation) = (given[1] as u8, Feature(given[2] as u16), given[3] as u16);
             let built = Request { rt, sfn, allocation }.build(given[0] as usize, out);
             with(built.err().unwrap_or(0), &[built.unwrap_or(0) as u64])
+        }
+        "mend" => {
+            return mended(out, given[0] as usize, |copy, list| {
+                let made = second::mend::mend(first, copy, list);
+                let (length, changes) = made.unwrap_or((0, 0));
+                with(made.err().unwrap_or(0), &[length as u64, changes as u64])
+            });
         }
         "import" => counted(second::import::import(first, out)),
         "read" => {

@@ -32,6 +32,7 @@
 //! build LENGTH RT SFN A = refusal, count
 //! convert C | SHEET = refusal, count, place: to the other layout
 //! load C N | SHEET | NUMBERS = refusal, count, place: N features of a medium, two bytes each, then its profiles
+//! mend N | RESPONSE = refusal, count, changes; the buffer is N bytes for the copy, then the list of changes, four bytes each
 //! import | RESPONSE = refusal, count, place
 //! read RT SFN | RESPONSE = refusal, profile, Data Length, whole descriptors, the place behind the last, 1 if complete
 //! held FEATURE | FRESH | KEPT = count; the descriptor is copied to the buffer

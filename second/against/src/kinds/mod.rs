@@ -15,6 +15,7 @@ mod import;
 mod list;
 mod load;
 mod make_sense;
+mod mend;
 mod most;
 mod read;
 mod read_sense;
@@ -61,6 +62,7 @@ pub const KINDS: &[Kind] = &[
     bench::COLUMNS,
     check_descriptors::KIND,
     check_profile::KIND,
+    mend::KIND,
     import::KIND,
     make_sense::KIND,
     read_sense::KIND,

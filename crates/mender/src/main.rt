@@ -1,0 +1,195 @@
+// Reads a captured response to RT 0 from 0 from standard input, writes it mended to descriptor 5, and says each change in words, or as a line that a program reads: the place,
+// the feature, the byte of its descriptor, the old byte and the new one. A refusal is a line on standard error, and nothing is written then. Arguments: whether hexadecimal
+// text is read, and whether such lines are printed.
+use libc::STDERR_FILENO;
+use libc::STDOUT_FILENO;
+use refusal::Refusal;
+use streams::say;
+use streams::say_decimal;
+use text::Feature;
+use text::Header;
+
+// One byte more than a response may have: an input that fills it is refused, not shortened. The copy has as much room, so 49 is never given.
+const ROOM: usize = Header::RETURN_LIMIT + 1;
+
+// A response has no more bytes that can change: 50 is never given.
+const MOST: usize = Header::RETURN_LIMIT;
+
+// The descriptor that the copy goes to: the front-end has opened a file there.
+const COPY: i32 = 5;
+
+// The arguments.
+const HEX: usize = 1;
+
+const LIST: usize = 2;
+
+// A change: the descriptor it is in begins at this place of the response and has this number, and byte k of it, counted from its start, was old and is new.
+struct Change {
+    feature: Feature,
+    place: usize,
+    byte: usize,
+    old: u8,
+    new: u8,
+}
+
+// ---- a change
+
+// The place of the descriptor that a place of a response lies in. There are fewer descriptors than bytes.
+fn descriptor_at(s: &[u8], place: usize) -> usize {
+    let mut at = Header::LENGTH;
+    let mut i = 0;
+    while i < s.len() {
+        let next = reading::next_at(s, at);
+        if place < next {
+            return at;
+        }
+        at = next;
+        i += 1;
+    }
+    at
+}
+
+// The distance of two places; the first is not behind the second.
+fn between(from: usize, to: usize) -> usize {
+    if to < from {
+        return 0;
+    }
+    to - from
+}
+
+// What a number of the list says of a response.
+fn change_in(s: &[u8], noted: u32) -> Change {
+    let place = (noted / 65536) as usize;
+    let at = descriptor_at(s, place);
+    Change {
+        feature: reading::number_at(s, at),
+        place: place,
+        byte: between(at, place),
+        old: (noted / 256 % 256) as u8,
+        new: (noted % 256) as u8,
+    }
+}
+
+// ---- in words
+
+fn digit(d: u8) -> u8 {
+    let digits = *b"0123456789ABCDEF";
+    digits[(d % 16) as usize]
+}
+
+fn say_byte(b: u8) {
+    say(&[digit(b / 16), digit(b)]);
+}
+
+fn is_cue_length(change: Change) -> bool {
+    if change.feature.0 != 0x002E {
+        return false;
+    }
+    if change.byte < 5 {
+        return false;
+    }
+    change.byte <= 7
+}
+
+// The field that a change is in: the flags, the cue sheet length, or another byte of the body, of which only reserved bits and pads change.
+fn say_field(change: Change) {
+    if change.byte == 2 {
+        say(b"flags");
+        return;
+    }
+    say(b"byte ");
+    say_decimal(change.byte as u64);
+    if is_cue_length(change) {
+        say(b", cue sheet length");
+        return;
+    }
+    say(b", reserved bits");
+}
+
+fn say_words(change: Change) {
+    say(b"feature ");
+    words::say_hex4(STDOUT_FILENO, change.feature.0);
+    say(b", ");
+    say_field(change);
+    say(b": ");
+    say_byte(change.old);
+    say(b"h becomes ");
+    say_byte(change.new);
+    say(b"h\n");
+}
+
+// ---- as lines that a program reads
+
+fn say_line(change: Change) {
+    say_decimal(change.place as u64);
+    say(b" ");
+    words::say_hex4(STDOUT_FILENO, change.feature.0);
+    say(b" ");
+    say_decimal(change.byte as u64);
+    say(b" ");
+    say_byte(change.old);
+    say(b" ");
+    say_byte(change.new);
+    say(b"\n");
+}
+
+// ---- the program
+
+fn say_change(change: Change) {
+    if streams::given(LIST) {
+        say_line(change);
+        return;
+    }
+    say_words(change);
+}
+
+fn say_changes(s: &[u8], list: &[u32], count: usize) {
+    let mut i = 0;
+    while i < list.len() {
+        if i == count {
+            return;
+        }
+        say_change(change_in(s, list[i]));
+        i += 1;
+    }
+}
+
+// How many changes there are, in words.
+fn say_count(count: usize) {
+    if streams::given(LIST) {
+        return;
+    }
+    say(b"changes ");
+    say_decimal(count as u64);
+    say(b"\n");
+}
+
+fn say_refused(refusal: Refusal, s: &[u8]) {
+    streams::mark_fault();
+    words::say_refused(STDERR_FILENO, refusal, 0, 0);
+    dumps::hint(HEX, s);
+}
+
+fn mend(s: &[u8]) {
+    let mut copy = [0u8; ROOM];
+    let mut list = [0u32; MOST];
+    let mended = mend::mend(s, &mut copy, &mut list);
+    let refusal = mended.refusal;
+    if refusal.number != 0 {
+        say_refused(refusal, s);
+        return;
+    }
+    streams::say_to(COPY, fields::part(&copy, 0, mended.length));
+    say_changes(s, &list, mended.changes);
+    say_count(mended.changes);
+}
+
+fn main() {
+    let mut input = [0u8; ROOM];
+    let got = dumps::read(HEX, &mut input);
+    let count = got.count;
+    if !got.failed {
+        mend(&input[..count]);
+    }
+    streams::mark_end();
+}
