@@ -10,6 +10,9 @@ archive_machine=$(uname -m)
 archive_kit=${RATTLE_HOME:-$(dirname "$(dirname "$(readlink -f "$(command -v rt)")")")}
 archive_tools=$archive_kit/on/$archive_machine/toolchain
 
+# what is told of its building as it happens: who wants to tell it names a command that reads what rt says
+archive_tell=(cat)
+
 # Debian's packages for `cross`; nothing is asked of the network where they are there
 archive_cross_tools() {
     if command -v x86_64-linux-gnu-gcc >/dev/null && [ -f /usr/x86_64-linux-gnu/include/stdio.h ] && [ -d /usr/lib/rustlib/x86_64-unknown-linux-gnu ]; then
@@ -60,6 +63,10 @@ END
     chmod +x "$kit/on/$archive_machine/toolchain/bin/clang"
 }
 
+archive_built() { # FOLDER
+    (set -o pipefail && RATTLE_HOME=$1/kit rt staticlib abi 2>&1 | tee "$1/log" | { [ "${archive_tell[0]}" != cat ] || exec >/dev/null; "${archive_tell[@]}"; })
+}
+
 # The archive and its code, once for each stamp, whoever asks first: rt over that kit leaves target/staticlib/libabi.a, target/own/abi.bc and target/own/words.
 # One at a time, and not beside a gcf or an ./install that builds: two of rt in one folder are not safe.
 archive_made() {
@@ -70,23 +77,23 @@ archive_made() {
         stamp=$(archive_stamp)
         [ ! -f target/staticlib/libabi.a ] || [ "$stamp" != "$(cat "$here/stamp" 2>/dev/null)" ] || exit 0
         rm -f "$here/stamp" "$here/abi.bc" "$here/abi.ll"
-        archive_keeping_kit "$here" && RATTLE_HOME=$here/kit rt staticlib abi >"$here/log" 2>&1 && [ -f "$here/abi.bc" ] && printf '%s\n' "$stamp" >"$here/stamp"
+        archive_keeping_kit "$here" && archive_built "$here" && [ -f "$here/abi.bc" ] && printf '%s\n' "$stamp" >"$here/stamp"
     ) 7>target/gcf.lock
 }
 
 # The same code without the processor that it names: target/own/abi.ll.
 archive_ll() {
-    local here=$PWD/target/own
+    local here=$PWD/target/own part
     archive_made || return 1
     [ ! -f "$here/abi.ll" ] || return 0
-    archive_unnamed "$here/abi.bc" "$here/abi.ll.$$" >>"$here/log" 2>&1 && mv "$here/abi.ll.$$" "$here/abi.ll"
+    part=$(mktemp "$here/abi.ll.XXXXXXXX") && archive_unnamed "$here/abi.bc" "$part" >>"$here/log" 2>&1 && mv "$part" "$here/abi.ll"
 }
 
 # It compiled for a processor, as FOLDER/libgcf.a. The archive that rt makes is taken as it is for x86-64 Linux. It is put in its place whole, since tests that link
 # it run side by side.
 archive_target() { # TRIPLE FOLDER
-    local log=$PWD/target/archive.log part=$2/part.$$
-    mkdir -p "$part" || return 1
+    local log=$PWD/target/archive.log part
+    mkdir -p "$2" && part=$(mktemp -d "$2/part.XXXXXXXX") || return 1
     if [ "$1" = x86_64-unknown-linux-gnu ]; then
         archive_made && cp target/staticlib/libabi.a "$part/libgcf.a" || return 1
     else
@@ -116,7 +123,7 @@ archive_text() {
 
 archive_for() { # cross | own
     mkdir -p target
-    local machine=$archive_machine
+    local machine=$archive_machine part
     [ "$1" != cross ] || machine=x86_64
     ARCHIVE=$PWD/target/link/$machine/libgcf.a
     archive_target "$machine-unknown-linux-gnu" "${ARCHIVE%/*}" || return 1
@@ -128,7 +135,7 @@ archive_for() { # cross | own
         CC=(x86_64-linux-gnu-gcc)
         archive_run=("$archive_tools/bin/qemu-x86_64" "$archive_tools/lib/ld-linux-x86-64.so.2" --library-path "$archive_tools/lib")
         # a Rust program asks for its stack's bounds when it starts, which the emulator cannot tell; it does without where the call fails
-        echo 'int pthread_getattr_np(void) { return 38; }' | x86_64-linux-gnu-gcc -O2 -c -x c - -o "target/start.$$.o" && mv "target/start.$$.o" target/start.o || return 1
+        part=$(mktemp target/start.XXXXXXXX) && echo 'int pthread_getattr_np(void) { return 38; }' | x86_64-linux-gnu-gcc -O2 -c -x c - -o "$part" && mv "$part" target/start.o || return 1
         archive_rust=(/usr/bin/rustc --target x86_64-unknown-linux-gnu -C linker=x86_64-linux-gnu-gcc -C "link-arg=$PWD/target/start.o")
     fi
 }

@@ -2,6 +2,7 @@
 // given. They are a program's first three arguments, as `streams` takes them.
 use refusal::Refusal;
 use text::Feature;
+use text::Header;
 
 // RT, 0 where there is no argument.
 pub fn rt() -> u8 {
@@ -22,6 +23,14 @@ pub fn plain() -> bool {
         return false;
     }
     streams::arg(2) == 0
+}
+
+// The most bytes that the command lets through: C where an allocation length is given, else those that any response may have.
+pub fn most() -> usize {
+    if streams::given(3) {
+        return text::most(streams::arg(3));
+    }
+    Header::RETURN_LIMIT
 }
 
 // What is refused of a response to a command with an allocation length: as in a sweep, too many bytes, or too few for one that is cut.

@@ -1,6 +1,6 @@
 // Reads a response from standard input and says in words what is wrong with its descriptors, and whether it has what a profile requires: the
 // one that is asked for, else each listed one that has a table. The archive subset, 0000h, is judged only where it is asked for. Of a response that is refused it says
-// only why. Arguments: RT, starting feature number, allocation length (`asked`), profile, and whether hexadecimal text is read.
+// only why. Arguments: RT, starting feature number, allocation length (`asked`), profile, whether hexadecimal text is read, and whether padding is trimmed.
 use checks::Finding;
 use libc::STDOUT_FILENO;
 use needs::Judgement;
@@ -172,7 +172,14 @@ fn check(s: &[u8]) {
     let fault = whole_fault(finding, s);
     if fault.number != 0 {
         streams::mark_fault();
-        words::say_refused(STDOUT_FILENO, fault, 0, 0);
+        grounds::say_refused(
+            STDOUT_FILENO,
+            asked::rt(),
+            asked::from(),
+            asked::most(),
+            fault,
+            s,
+        );
         dumps::hint(HEX, s);
         return;
     }

@@ -6,6 +6,7 @@ pub mod Readings
 pub mod Listings
 pub mod Steps
 pub mod Sweeping
+pub mod Following
 pub mod Fewest
 pub mod Checking
 pub mod Bodies

@@ -6,7 +6,7 @@ use Prim.Native.Nat.{ℕ, zero, suc, _≤_, _<_}
 use native.Mathlib.Omega.{arith}
 use lib.ListN.{length, drop}
 use Rattle.hex.specs.Chars.{choose, at, value, blank, parts, isA, pastOf, past, ends, lineAt}
-use Rattle.hex.specs.Front.{isOffset, isEnd, isSaid, isWords, width, openedAt, opened}
+use Rattle.hex.specs.Front.{isOffset, isSix, isEnd, isSaid, isWords, width, openedAt, opened}
 use Rattle.hex.specs.Steps.{digit, prefix, space, bar, between, newline, other, char, step}
 use Rattle.hex.specs.Text.{some, ended, taken, spelling, Outcome, spelled, given}
 use Rattle.hex.proofs.Cases.{choose-yes, choose-no}
@@ -46,11 +46,13 @@ spells s d = go (spelled s .line) refl
         }
 
 -- Texts, character by character: "46 0a" and "FF" on two lines are three bytes, the first digit of each the higher one; in "46" and "4z" on two lines the second
--- spells none, in "465" half a byte is left.
+-- spells none, in "465" half a byte is left. In "000000 46 0a" and "000002", as `od` prints them, the offsets are no bytes, and in "000001 46" the first word is.
 pub spelledE :
     (spelled (52 ∷ 54 ∷ 32 ∷ 48 ∷ 97 ∷ 10 ∷ 70 ∷ 70 ∷ []) .bytes ≡ 0x46 ∷ 0x0A ∷ 0xFF ∷ [])
     × (spelled (52 ∷ 54 ∷ 32 ∷ 48 ∷ 97 ∷ 10 ∷ 70 ∷ 70 ∷ []) .line ≡ 0)
     × (spelled (52 ∷ 54 ∷ 10 ∷ 52 ∷ 122 ∷ []) .line ≡ 2)
     × (spelled (52 ∷ 54 ∷ 53 ∷ []) .line ≡ 1)
-unfolding some ended taken spelling spelled digit prefix space bar between newline other char step isOffset isEnd isSaid isWords width openedAt opened choose at value blank parts isA pastOf past ends lineAt
-spelledE = (refl, refl, refl, refl)
+    × (spelled (48 ∷ 48 ∷ 48 ∷ 48 ∷ 48 ∷ 48 ∷ 32 ∷ 52 ∷ 54 ∷ 32 ∷ 48 ∷ 97 ∷ 10 ∷ 48 ∷ 48 ∷ 48 ∷ 48 ∷ 48 ∷ 50 ∷ []) .bytes ≡ 0x46 ∷ 0x0A ∷ [])
+    × (spelled (48 ∷ 48 ∷ 48 ∷ 48 ∷ 48 ∷ 49 ∷ 32 ∷ 52 ∷ 54 ∷ []) .bytes ≡ 0 ∷ 0 ∷ 1 ∷ 0x46 ∷ [])
+unfolding some ended taken spelling spelled digit prefix space bar between newline other char step isOffset isSix isEnd isSaid isWords width openedAt opened choose at value blank parts isA pastOf past ends lineAt
+spelledE = (refl, refl, refl, refl, refl, refl)

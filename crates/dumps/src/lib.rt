@@ -1,4 +1,5 @@
-// Hexadecimal text at the ends of a program: an input that is given as such text, an output that is printed so, and a hint where text was given for bytes.
+// What is read and written at the ends of a program: an input that is given as hexadecimal text or is padded behind its end, an output that is printed as such text,
+// and a hint where text, or padding, was given for a response.
 ghost use Rattle.io.specs.Counts.{Counts};
 use libc::STDERR_FILENO;
 use libc::STDIN_FILENO;
@@ -10,6 +11,9 @@ const MOST: usize = 524288;
 // One byte more: a text that fills it is too long, and is not shortened.
 const ROOM: usize = MOST + 1;
 
+// The longest response; a program reads one byte more.
+const LONGEST: usize = 65534;
+
 // ---- input
 
 fn failed() -> Input {
@@ -19,7 +23,7 @@ fn failed() -> Input {
     }
 }
 
-// The file that an argument names, if one is read.
+// The file that is read, by the argument that has its name for printing; 0: none.
 fn say_name(named: usize) {
     if named > 0 {
         streams::say_arg_to(STDERR_FILENO, named);
@@ -55,6 +59,12 @@ fn say_too_long(named: usize) {
     );
 }
 
+fn say_none(named: usize) {
+    streams::mark_fault();
+    say_name(named);
+    streams::say_to(STDERR_FILENO, b"the text spells no byte at all\n");
+}
+
 // The bytes that a text spells.
 fn spelt(named: usize, text: &[u8], buf: &mut [u8]) -> Input {
     let spelt = hex::spell(text, buf);
@@ -63,6 +73,10 @@ fn spelt(named: usize, text: &[u8], buf: &mut [u8]) -> Input {
         return failed();
     }
     let count = spelt.count;
+    if count == 0 {
+        say_none(named);
+        return failed();
+    }
     if buf.len() < count {
         say_too_many(named, count);
         return failed();
@@ -73,24 +87,64 @@ fn spelt(named: usize, text: &[u8], buf: &mut [u8]) -> Input {
     }
 }
 
+// A text of at most so many characters, and the bytes that it spells.
+fn spelt_within(named: usize, text: &[u8], buf: &mut [u8]) -> Input {
+    if text.len() > MOST {
+        say_too_long(named);
+        return failed();
+    }
+    spelt(named, text, buf)
+}
+
 // Reads a text from a descriptor into lent memory, and gives the bytes that it spells.
 fn read_into(named: usize, fd: i32, text: &mut [u8; ROOM], buf: &mut [u8]) -> Input {
     let got = streams::read_from(fd, text);
     if got.failed {
         return failed();
     }
-    let count = got.count;
-    if count > MOST {
-        say_too_long(named);
-        return failed();
-    }
-    spelt(named, fields::part(text, 0, count), buf)
+    spelt_within(named, fields::part(text, 0, got.count), buf)
 }
 
 // Only a function that reads a text has the memory for one.
 fn read_text(named: usize, fd: i32, buf: &mut [u8]) -> Input {
     let mut text = [0u8; ROOM];
     read_into(named, fd, &mut text, buf)
+}
+
+// Bytes that stand for themselves, as many as there is room for.
+fn taken(bytes: &[u8], buf: &mut [u8]) -> Input {
+    Input {
+        failed: false,
+        count: lent::copy(buf, 0, bytes),
+    }
+}
+
+// Whether these are bytes of a response and no text: a response begins with a byte 0, and no text has one.
+fn is_bytes(s: &[u8]) -> bool {
+    if s.len() == 0 {
+        return false;
+    }
+    fields::byte(s, 0) == 0
+}
+
+fn either(s: &[u8], buf: &mut [u8]) -> Input {
+    if is_bytes(s) {
+        return taken(s, buf);
+    }
+    spelt_within(0, s, buf)
+}
+
+fn read_either_into(text: &mut [u8; ROOM], buf: &mut [u8]) -> Input {
+    let got = streams::read(text);
+    if got.failed {
+        return failed();
+    }
+    either(fields::part(text, 0, got.count), buf)
+}
+
+fn read_either_text(buf: &mut [u8]) -> Input {
+    let mut text = [0u8; ROOM];
+    read_either_into(&mut text, buf)
 }
 
 // What was read, which the buffer has.
@@ -104,35 +158,138 @@ fn within(got: Input, buf: &[u8]) -> Input
     }
 }
 
-// Reads standard input: bytes, or where argument i is given the bytes that a text spells.
-pub fn read(i: usize, buf: &mut [u8]) -> Input
-    ensures { λ r. ⌜ Counts (r .count) (now (buf .exit)) ⌝ }
-{
+// Standard input: bytes, or where argument i is given the bytes that a text spells.
+fn read_all(i: usize, buf: &mut [u8]) -> Input {
     if streams::given(i) {
-        let got = read_text(0, STDIN_FILENO, buf);
-        return within(got, buf);
+        return read_text(0, STDIN_FILENO, buf);
     }
     streams::read(buf)
 }
 
-fn read_named_text(named: usize, buf: &mut [u8]) -> Input {
+// Reads standard input: bytes, or where argument i is given the bytes that a text spells. Where the argument behind it is given, no more of these than a response has by
+// its own Data Length.
+pub fn read(i: usize, buf: &mut [u8]) -> Input
+    ensures { λ r. ⌜ Counts (r .count) (now (buf .exit)) ⌝ }
+{
+    let got = read_all(i, buf);
+    let kept = trimmed(i, 0, got, buf);
+    within(kept, buf)
+}
+
+fn read_all_either(i: usize, buf: &mut [u8]) -> Input {
+    if streams::given(i) {
+        return read_either_text(buf);
+    }
+    streams::read(buf)
+}
+
+// As read, but where argument i is given the input may be bytes all the same: that argument then speaks of what is written.
+pub fn read_either(i: usize, buf: &mut [u8]) -> Input
+    ensures { λ r. ⌜ Counts (r .count) (now (buf .exit)) ⌝ }
+{
+    let got = read_all_either(i, buf);
+    let kept = trimmed(i, 0, got, buf);
+    within(kept, buf)
+}
+
+fn read_named_text(file: usize, named: usize, buf: &mut [u8]) -> Input {
     let mut name = io::buffer();
-    let length = os::arg(named, &mut name);
+    let length = os::arg(file, &mut name);
     let fd = os::open_read(&name[..length]);
     let got = read_text(named, fd, buf);
     libc::close(fd);
     got
 }
 
-// Reads the file that an argument names, as read does.
-pub fn read_named(i: usize, named: usize, buf: &mut [u8]) -> Input
+fn read_all_named(i: usize, file: usize, named: usize, buf: &mut [u8]) -> Input {
+    if streams::given(i) {
+        return read_named_text(file, named, buf);
+    }
+    streams::read_named(file, buf)
+}
+
+// Reads the file that an argument names, as read does; another argument has its name for printing.
+pub fn read_named(i: usize, file: usize, named: usize, buf: &mut [u8]) -> Input
     ensures { λ r. ⌜ Counts (r .count) (now (buf .exit)) ⌝ }
 {
-    if streams::given(i) {
-        let got = read_named_text(named, buf);
-        return within(got, buf);
+    let got = read_all_named(i, file, named, buf);
+    let kept = trimmed(i, named, got, buf);
+    within(kept, buf)
+}
+
+// ---- padding: some adapters do not tell how many bytes came, and what is behind the response is then read with it
+
+// How many bytes a response has by its own Data Length, 0 where no response has such a one.
+fn own_length(s: &[u8]) -> usize {
+    if s.len() < 8 {
+        return 0;
     }
-    streams::read_named(named, buf)
+    let length = fields::get4(s, 0);
+    if length < 4 {
+        return 0;
+    }
+    if length % 4 != 0 {
+        return 0;
+    }
+    length as usize + 4
+}
+
+// What stands behind these: nothing where there is no Data Length.
+fn behind(s: &[u8]) -> &[u8] {
+    let own = own_length(s);
+    if own == 0 {
+        return fields::part(s, 0, 0);
+    }
+    fields::part(s, own, s.len())
+}
+
+fn is_zero(s: &[u8]) -> bool {
+    let mut i = 0;
+    while i < s.len() {
+        if s[i] != 0 {
+            return false;
+        }
+        i += 1;
+    }
+    true
+}
+
+// What trimming left out is told where it is no mere padding.
+fn say_left_out(named: usize, count: usize) {
+    say_name(named);
+    streams::say_to(STDERR_FILENO, b"--trim left out ");
+    streams::say_decimal_to(STDERR_FILENO, count as u64);
+    streams::say_to(
+        STDERR_FILENO,
+        b" bytes behind the response that are not all 0\n",
+    );
+}
+
+// So many bytes of a response that has padding.
+fn cut_off(named: usize, s: &[u8], rest: &[u8]) -> Input {
+    if !is_zero(rest) {
+        say_left_out(named, rest.len());
+    }
+    Input {
+        failed: false,
+        count: own_length(s),
+    }
+}
+
+fn trim(named: usize, got: Input, s: &[u8]) -> Input {
+    let rest = behind(s);
+    if rest.len() == 0 {
+        return got;
+    }
+    cut_off(named, s, rest)
+}
+
+// What was read without its padding, where the argument behind i says so.
+fn trimmed(i: usize, named: usize, got: Input, buf: &[u8]) -> Input {
+    if !streams::given(i % 256 + 1) {
+        return got;
+    }
+    trim(named, got, fields::part(buf, 0, got.count))
 }
 
 // ---- a hint
@@ -157,17 +314,51 @@ fn is_text(s: &[u8]) -> bool {
     s.len() > 0
 }
 
-// Of bytes that were refused: whether they look like a text, unless argument i says that one was read.
-pub fn hint(i: usize, s: &[u8]) {
-    if streams::given(i) {
-        return;
+// Of a response that is longer than its own Data Length says: how many bytes it has by that, and what the others are. Of an input that is too long for a response only the
+// front was read.
+fn say_padded(own: usize, rest: &[u8], all: bool) {
+    streams::say_to(STDERR_FILENO, b"by its own Data Length the response has ");
+    streams::say_decimal_to(STDERR_FILENO, own as u64);
+    streams::say_to(STDERR_FILENO, b" bytes; the ");
+    if !all {
+        streams::say_to(STDERR_FILENO, b"first ");
     }
+    streams::say_decimal_to(STDERR_FILENO, rest.len() as u64);
+    streams::say_to(STDERR_FILENO, b" bytes behind it are ");
+    if !is_zero(rest) {
+        streams::say_to(STDERR_FILENO, b"not ");
+    }
+    streams::say_to(
+        STDERR_FILENO,
+        b"all 0: --trim takes the response without them\n",
+    );
+}
+
+fn hint_padded(s: &[u8]) {
+    let rest = behind(s);
+    if rest.len() > 0 {
+        say_padded(own_length(s), rest, s.len() <= LONGEST);
+    }
+}
+
+fn hint_bytes(s: &[u8]) {
     if is_text(s) {
         streams::say_to(
             STDERR_FILENO,
             b"what was read looks like text: with --hex hexadecimal text is read\n",
         );
+        return;
     }
+    hint_padded(s);
+}
+
+// Of bytes that were refused: whether they look like a text, unless argument i says that one was read; else whether they are padded.
+pub fn hint(i: usize, s: &[u8]) {
+    if streams::given(i) {
+        hint_padded(s);
+        return;
+    }
+    hint_bytes(s);
 }
 
 // ---- output

@@ -5,7 +5,7 @@ use Prim.Native.Nat.{ℕ, zero, suc, _+_, _-_}
 use lib.Dec.{eqb, ltb}
 use lib.ListN.{length, getD}
 use Rattle.hex.specs.declared.Class.{Class}
-use Rattle.hex.specs.declared.Class.the-variants.{Blank, Digit, Solid, Inner}
+use Rattle.hex.specs.declared.Class.the-variants.{Blank, Digit, Zero, Solid, Inner}
 
 -- the first where the test holds, else the second
 unfoldable pub choose : {A : Type 0} → Bool → A → A → A
@@ -31,10 +31,11 @@ blank c = choose (eqb c 32) true (choose (eqb c 9) true (choose (eqb c 13) true 
 unfoldable pub parts : ℕ → Bool
 parts c = choose (blank c) true (choose (eqb c 10) true (eqb c 44))
 
--- a class of characters: blanks; hexadecimal digits; neither blank nor newline; no newline
+-- a class of characters: blanks; hexadecimal digits; the digit 0; neither blank nor newline; no newline
 unfoldable pub isA : Class → ℕ → Bool
 isA Blank c = blank c
 isA Digit c = ltb (value c) 16
+isA Zero c = eqb c 48
 isA Solid c = choose (blank c) false (not (eqb c 10))
 isA Inner c = not (eqb c 10)
 

@@ -3,7 +3,7 @@ use mathlib.Core.Bool.{Bool, true, false}
 use mathlib.Core.List.{List}
 use Prim.Native.Nat.{ℕ, _+_}
 use lib.Dec.{eqb, ltb, leb}
-use Rattle.hex.specs.declared.Class.the-variants.{Blank, Digit, Solid, Inner}
+use Rattle.hex.specs.declared.Class.the-variants.{Blank, Digit, Zero, Solid, Inner}
 use Rattle.hex.specs.declared.State.{State}
 use Rattle.hex.specs.Chars.{choose, at, value, blank, parts, past}
 
@@ -12,6 +12,11 @@ use Rattle.hex.specs.Chars.{choose, at, value, blank, parts, past}
 -- an offset: a word of digits, two blanks or more, a digit. `00000010: 0010 ..`, `00000010  00 10 ..`, ` 10     00 10 ..`
 unfoldable pub isOffset : List ℕ → (a b e : ℕ) → Bool
 isOffset s a b e = choose (leb b a) false (choose (leb e b) false (choose (leb e (b + 1)) false (ltb (value (at s e)) 16)))
+
+-- an offset as `od -A x -t x1` prints it: six digits, one blank, a word of two digits. `000010 00 10 ..`. Where no offset came before, its digits are 0, else such words are bytes
+unfoldable pub isSix : (dump : Bool) → List ℕ → (a b e : ℕ) → Bool
+isSix dump s a b e =
+    choose (eqb b (a + 6)) (choose (eqb e (b + 1)) (choose (eqb (past Digit s e) (e + 2)) (choose dump true (leb b (past Zero s a))) false) false) false
 
 -- the offset of the end, alone in its line, as `hexdump` prints it. Where no offset came before, such a word is bytes
 unfoldable pub isEnd : (dump : Bool) → List ℕ → (a b e : ℕ) → Bool
@@ -36,9 +41,10 @@ width c = choose (eqb c 58) 2 3
 unfoldable pub openedAt : (dump started : Bool) → List ℕ → (i a b e : ℕ) → State
 openedAt dump started s i a b e =
     choose (isOffset s a b e) (fresh e (width (at s b)) true started)
+    (choose (isSix dump s a b e) (fresh e 3 true started)
     (choose (isEnd dump s a b e) (fresh (past Inner s i) 0 dump started)
     (choose (isWords started s a b) (fresh (past Inner s i) 0 dump started)
-    (fresh i 0 dump started)))
+    (fresh i 0 dump started))))
 
 unfoldable pub opened : (dump started : Bool) → List ℕ → ℕ → State
 opened dump started s i =

@@ -1,6 +1,7 @@
-// Which bytes a text in hexadecimal spells, as `xxd`, `hexdump -C`, `sg_raw`, `sg_get_config --hex` and C have it.
+// Which bytes a text in hexadecimal spells, as `xxd`, `hexdump -C`, `od -A x -t x1`, `sg_raw`, `sg_get_config --hex` and C have it.
 ghost use mathlib.Core.Path.{_≡_};
 ghost use Prim.Native.Nat.{_+_, _≤_, _<_};
+ghost use lib.Dec.{eqb};
 ghost use lib.ListN.{length};
 ghost use lib.Seq.{sets};
 ghost use Rattle.hex.specs.Chars.{isA, lineAt};
@@ -10,7 +11,7 @@ ghost use Rattle.hex.specs.Chars.{blank as Chars·blank};
 ghost use Rattle.hex.specs.Chars.{parts as Chars·parts};
 ghost use Rattle.hex.specs.Chars.{past as Chars·past};
 ghost use Rattle.hex.specs.Chars.{ends as Chars·ends};
-ghost use Rattle.hex.specs.Front.{isOffset, isEnd, isSaid, isWords, openedAt};
+ghost use Rattle.hex.specs.Front.{isOffset, isSix, isEnd, isSaid, isWords, openedAt};
 ghost use Rattle.hex.specs.Front.{fresh as Front·fresh};
 ghost use Rattle.hex.specs.Front.{width as Front·width};
 ghost use Rattle.hex.specs.Front.{opened as Front·opened};
@@ -35,10 +36,11 @@ pub struct Spelt {
     pub count: usize,
 }
 
-// Classes of characters: blanks, hexadecimal digits, neither blank nor newline, no newline.
+// Classes of characters: blanks, hexadecimal digits, the digit 0, neither blank nor newline, no newline.
 enum Class {
     Blank,
     Digit,
+    Zero,
     Solid,
     Inner,
 }
@@ -143,6 +145,7 @@ fn is_a(class: Class, c: u8) -> bool
     match class {
         Class::Blank => blank(c),
         Class::Digit => value(c) < 16,
+        Class::Zero => c == b'0',
         Class::Solid => solid(c),
         Class::Inner => c != b'\n',
     }
@@ -206,6 +209,36 @@ fn is_offset(s: &[u8], a: usize, b: usize, e: usize) -> bool
     }
     let c = at(s, e);
     value(c) < 16
+}
+
+// A number that is another one and this much more, where there is such a number.
+fn is_sum(n: usize, m: usize, more: usize) -> bool
+    ensures { λ r. ⌜ r ≡ eqb n (m + more) ⌝ }
+{
+    if n < m {
+        return false;
+    }
+    n - m == more
+}
+
+// An offset as `od -A x -t x1` prints it: six digits, one blank, a word of two digits.
+fn is_six(dump: bool, s: &[u8], a: usize, b: usize, e: usize) -> bool
+    ensures { λ r. ⌜ r ≡ isSix dump (now (s .entry)) a b e ⌝ }
+{
+    if !is_sum(b, a, 6) {
+        return false;
+    }
+    if !is_sum(e, b, 1) {
+        return false;
+    }
+    let w = past(Class::Digit, s, e);
+    if !is_sum(w, e, 2) {
+        return false;
+    }
+    if dump {
+        return true;
+    }
+    b <= past(Class::Zero, s, a)
 }
 
 // The offset of the end, alone in its line.
@@ -282,6 +315,9 @@ fn opened_at(dump: bool, started: bool, s: &[u8], i: usize, a: usize, b: usize, 
     if is_offset(s, a, b, e) {
         let c = at(s, b);
         return fresh(e, width(c), true, started);
+    }
+    if is_six(dump, s, a, b, e) {
+        return fresh(e, 3, true, started);
     }
     if is_end(dump, s, a, b, e) {
         return fresh(past(Class::Inner, s, i), 0, dump, started);

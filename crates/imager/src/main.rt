@@ -1,6 +1,6 @@
 // Reads an image, a complete response to RT 0 from 0, from standard input and writes what a box that holds it answers to a command to standard output. A refusal is
 // a line on standard error, and nothing is written then. Arguments: what the command asks for, and how many bytes it has (`packets`), with none RT 0 from 0, allocation length 65,535; in their
-// place all its bytes, two hexadecimal digits each; whether hexadecimal text is read; and whether it is written.
+// place all its bytes, two hexadecimal digits each; whether hexadecimal text is read, unless the image is bytes; whether padding is trimmed; and whether text is written.
 use lent::Made;
 use text::Header;
 
@@ -14,7 +14,7 @@ const COMMAND: usize = 5;
 const HEX: usize = 6;
 
 // The argument that says whether hexadecimal text is written.
-const HEX_OUT: usize = 7;
+const HEX_OUT: usize = 8;
 
 fn answer_command(image: &[u8], command: &[u8]) {
     let mut response = [0u8; Header::RETURN_LIMIT];
@@ -45,7 +45,7 @@ fn answer(image: &[u8]) {
 
 fn main() {
     let mut input = [0u8; ROOM];
-    let got = dumps::read(HEX, &mut input);
+    let got = dumps::read_either(HEX, &mut input);
     let count = got.count;
     if !got.failed {
         answer(&input[..count]);

@@ -1,5 +1,5 @@
 // Reads a captured response to RT 0 from 0 from standard input and writes its drive sheet to standard output. A refusal is a line on standard
-// error, and nothing is written then. Argument: whether hexadecimal text is read.
+// error, and nothing is written then. Arguments: whether hexadecimal text is read, and whether padding is trimmed.
 ghost use mathlib.Core.Path.{_≡_};
 ghost use Rattle.io.specs.Counts.{Counts};
 ghost use Rattle.refusal.specs.First.{unless};

@@ -1,5 +1,5 @@
-// Reads a response from standard input and prints its listing. Arguments: RT, starting feature number, allocation length (`asked`), and
-// whether hexadecimal text is read.
+// Reads a response from standard input and prints its listing. Arguments: RT, starting feature number, allocation length (`asked`),
+// whether hexadecimal text is read, and whether padding is trimmed.
 ghost use mathlib.Core.Path.{_≡_};
 ghost use lib.ListN.{take};
 ghost use Rattle.io.specs.Counts.{Counts};

@@ -1,6 +1,6 @@
 // Reads a captured response to RT 0 from 0 from standard input, writes it mended to descriptor 5, and says each change in words, or as a line that a program reads: the place,
 // the feature, the byte of its descriptor, the old byte and the new one. A refusal is a line on standard error, and nothing is written then. Arguments: whether hexadecimal
-// text is read, and whether such lines are printed.
+// text is read, whether padding is trimmed, and whether such lines are printed.
 use libc::STDERR_FILENO;
 use libc::STDOUT_FILENO;
 use refusal::Refusal;
@@ -21,7 +21,7 @@ const COPY: i32 = 5;
 // The arguments.
 const HEX: usize = 1;
 
-const LIST: usize = 2;
+const LIST: usize = 3;
 
 // A change: the descriptor it is in begins at this place of the response and has this number, and byte k of it, counted from its start, was old and is new.
 struct Change {

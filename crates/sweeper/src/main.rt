@@ -30,14 +30,52 @@ fn say_command(command: &[u8]) {
     }
 }
 
-// A round of the bench sweep: the box is asked again, and gives the same bytes.
-fn say_round(lay: Layout, sheet: &[u8], rt: u8, start: Feature, a: u16, response: &mut [u8]) {
+// Where a sweep has got to: the first entry that is left, and how many bytes of descriptors are.
+struct Place {
+    from: u16,
+    left: usize,
+}
+
+// How many bytes are left behind a reading that ends there.
+fn left_behind(left: usize, end: usize) -> usize {
+    if end < Header::LENGTH {
+        return left;
+    }
+    let taken = end - Header::LENGTH;
+    if left < taken {
+        return 0;
+    }
+    left - taken
+}
+
+fn tell_command(rt: u8, start: Feature, a: u16) {
     let mut command = [0u8; Command::PACKET];
     let made = Command::build(packets::length(LENGTH), rt, start, a, &mut command);
-    let built = fields::part(&command, 0, made.count);
-    say_command(built);
-    let reply = responder::respond_accepted(lay, sheet, built, response);
-    told::say_round(rt, start, fields::part(response, 0, reply.count));
+    say_command(fields::part(&command, 0, made.count));
+}
+
+// A round of the bench sweep: the box is asked again, and gives the same bytes. It is told where the request starts and how much is left, so that it does not count that
+// anew for each round.
+fn say_round(
+    lay: Layout,
+    sheet: &[u8],
+    rt: u8,
+    start: Feature,
+    a: u16,
+    place: Place,
+    response: &mut [u8],
+) -> Place {
+    tell_command(rt, start, a);
+    let n = layout::feature_count(sheet);
+    let from = sheet::next_from(lay, sheet, n, start, place.from);
+    let reply = responder::send_sized(lay, sheet, rt, start, a, from, place.left, response);
+    let got = fields::part(response, 0, reply.count);
+    told::say_round(rt, start, got);
+    let reading = reading::read(rt, start, got);
+    Place {
+        from: from,
+        left: left_behind(place.left, reading.end),
+    }
 }
 
 // A line for each start that was noted.
@@ -50,12 +88,16 @@ fn say_rounds(
     commands: u32,
     response: &mut [u8],
 ) {
+    let mut place = Place {
+        from: 0,
+        left: responder::size(lay, sheet, rt, Feature(0)),
+    };
     let mut i = 0;
     while i < starts.len() {
         if commands as usize <= i {
             return;
         }
-        say_round(lay, sheet, rt, Feature(starts[i]), a, response);
+        place = say_round(lay, sheet, rt, Feature(starts[i]), a, place, response);
         i += 1;
     }
 }

@@ -1,6 +1,6 @@
 // Reads a response from standard input and shows it in words, or as one JSON value: current profile, each whole descriptor with its name and flags, the profiles, the
 // fields of the bodies that the check's table knows, every body in hexadecimal. Arguments: RT, starting feature number, allocation length (`asked`), whether JSON
-// is wanted, and whether hexadecimal text is read. Of its input only numbers get into JSON, so that it is valid whatever comes.
+// is wanted, whether hexadecimal text is read, and whether padding is trimmed. Of its input only numbers get into JSON, so that it is valid whatever comes.
 use libc::STDOUT_FILENO;
 use refusal::Refusal;
 use streams::say;
@@ -464,16 +464,31 @@ fn show_json(reading: Reading, s: &[u8]) {
     say(b"]}\n");
 }
 
-fn say_refused(json: bool, fault: Refusal) {
+fn say_meaning(fault: Refusal, s: &[u8]) {
+    grounds::say_meaning(
+        STDOUT_FILENO,
+        asked::rt(),
+        asked::from(),
+        asked::most(),
+        fault,
+        s,
+    );
+}
+
+fn say_refused(json: bool, fault: Refusal, s: &[u8]) {
     streams::mark_fault();
     if !json {
-        words::say_refused(STDOUT_FILENO, fault, 0, 0);
+        say(b"refused ");
+        say_decimal(fault.number as u64);
+        say(b": ");
+        say_meaning(fault, s);
+        say(b"\n");
         return;
     }
     say(b"{\"refused\":");
     say_decimal(fault.number as u64);
     say(b",\"meaning\":\"");
-    words::say_meaning(STDOUT_FILENO, fault);
+    say_meaning(fault, s);
     say(b"\"}\n");
 }
 
@@ -481,7 +496,7 @@ fn show(s: &[u8]) {
     let json = streams::given(4);
     let fault = asked::fault(s);
     if fault.number != 0 {
-        say_refused(json, fault);
+        say_refused(json, fault, s);
         dumps::hint(HEX, s);
         return;
     }

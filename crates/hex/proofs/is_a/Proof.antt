@@ -18,13 +18,17 @@ returns-2 c = ap (λ (v : ℕ). ltb v 16) (c .value .ensures) ∙ ap (λ (k : Cl
 
 returns-3 : tie.Need-returns-3
 unfolding isA
-returns-3 c = c .solid .ensures ∙ ap (λ (k : Class). isA k (c .before .before .before .args .c)) (sym (c .before .enum-told3 .given .1))
+returns-3 c = ap (λ (k : Class). isA k (c .before .before .args .c)) (sym (c .enum-told3 .given .1))
 
 returns-4 : tie.Need-returns-4
 unfolding isA
-returns-4 c = ap (λ (k : Class). isA k (c .before .before .args .c)) (sym (c .enum-told4 .given .1))
+returns-4 c = c .solid .ensures ∙ ap (λ (k : Class). isA k (c .before .before .before .args .c)) (sym (c .before .enum-told4 .given .1))
+
+returns-5 : tie.Need-returns-5
+unfolding isA
+returns-5 c = ap (λ (k : Class). isA k (c .before .before .args .c)) (sym (c .enum-told5 .given .1))
 
 pub is-a-spec : {M : Type 1} → statement M
 is-a-spec =
     tie.close
-    (tie.spec (λ c. search needs) (λ c κs. search needs) (λ c. search needs) (λ c κs. search needs) (λ c. search needs) (λ c κs. search needs) (λ c. search needs) returns returns-2 returns-3 returns-4)
+    (tie.spec (λ c. search needs) (λ c κs. search needs) (λ c. search needs) (λ c κs. search needs) (λ c. search needs) (λ c. search needs) (λ c κs. search needs) (λ c. search needs) returns returns-2 returns-3 returns-4 returns-5)

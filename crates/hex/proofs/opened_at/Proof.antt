@@ -15,17 +15,32 @@ returns c = Y _ _ _ (sym (c .before .before .before .before .is-offset .ensures)
 
 returns-2 : tie.Need-returns-2
 unfolding openedAt
-returns-2 c = N _ _ _ (sym (c .before .before .before .before .before .is-offset .ensures) ∙ c .before .before .before .before .if1 .left) (Y _ _ _ (sym (c .before .before .before .is-end .ensures) ∙ c .before .before .if2 .taken) (c .fresh2 .ensures ∙ ap (λ (w : ℕ). fresh w 0 (c .before .before .before .before .before .before .before .args .dump) (c .before .before .before .before .before .before .before .args .started)) (c .before .past .ensures)))
+returns-2 c = N _ _ _ (sym (c .before .before .before .before .is-offset .ensures) ∙ c .before .before .before .if1 .left) (Y _ _ _ (sym (c .before .before .is-six .ensures) ∙ c .before .if2 .taken) (c .fresh2 .ensures))
 
 returns-3 : tie.Need-returns-3
 unfolding openedAt
-returns-3 c = N _ _ _ (sym (c .before .before .before .before .before .before .before .is-offset .ensures) ∙ c .before .before .before .before .before .before .if1 .left) (N _ _ _ (sym (c .before .before .before .before .before .is-end .ensures) ∙ c .before .before .before .before .if2 .left) (Y _ _ _ (sym (c .before .before .before .is-words .ensures) ∙ c .before .before .if3 .taken) (c .fresh3 .ensures ∙ ap (λ (w : ℕ). fresh w 0 (c .before .before .before .before .before .before .before .before .before .args .dump) (c .before .before .before .before .before .before .before .before .before .args .started)) (c .before .past2 .ensures))))
+returns-3 c =
+    N _ _ _ (sym (c .before .before .before .before .before .before .before .is-offset .ensures) ∙ c .before .before .before .before .before .before .if1 .left)
+    (N _ _ _ (sym (c .before .before .before .before .before .is-six .ensures) ∙ c .before .before .before .before .if2 .left)
+    (Y _ _ _ (sym (c .before .before .before .is-end .ensures) ∙ c .before .before .if3 .taken) (c .fresh3 .ensures ∙ ap (λ (w : ℕ). fresh w 0 (c .before .before .before .before .before .before .before .before .before .args .dump) (c .before .before .before .before .before .before .before .before .before .args .started)) (c .before .past .ensures))))
 
 returns-4 : tie.Need-returns-4
 unfolding openedAt
-returns-4 c = N _ _ _ (sym (c .before .before .before .before .before .before .is-offset .ensures) ∙ c .before .before .before .before .before .if1 .left) (N _ _ _ (sym (c .before .before .before .before .is-end .ensures) ∙ c .before .before .before .if2 .left) (N _ _ _ (sym (c .before .before .is-words .ensures) ∙ c .before .if3 .left) (c .fresh4 .ensures)))
+returns-4 c =
+    N _ _ _ (sym (c .before .before .before .before .before .before .before .before .before .is-offset .ensures) ∙ c .before .before .before .before .before .before .before .before .if1 .left)
+    (N _ _ _ (sym (c .before .before .before .before .before .before .before .is-six .ensures) ∙ c .before .before .before .before .before .before .if2 .left)
+    (N _ _ _ (sym (c .before .before .before .before .before .is-end .ensures) ∙ c .before .before .before .before .if3 .left)
+    (Y _ _ _ (sym (c .before .before .before .is-words .ensures) ∙ c .before .before .if4 .taken) (c .fresh4 .ensures ∙ ap (λ (w : ℕ). fresh w 0 (c .before .before .before .before .before .before .before .before .before .before .before .args .dump) (c .before .before .before .before .before .before .before .before .before .before .before .args .started)) (c .before .past2 .ensures)))))
+
+returns-5 : tie.Need-returns-5
+unfolding openedAt
+returns-5 c =
+    N _ _ _ (sym (c .before .before .before .before .before .before .before .before .is-offset .ensures) ∙ c .before .before .before .before .before .before .before .if1 .left)
+    (N _ _ _ (sym (c .before .before .before .before .before .before .is-six .ensures) ∙ c .before .before .before .before .before .if2 .left)
+    (N _ _ _ (sym (c .before .before .before .before .is-end .ensures) ∙ c .before .before .before .if3 .left)
+    (N _ _ _ (sym (c .before .before .is-words .ensures) ∙ c .before .if4 .left) (c .fresh5 .ensures))))
 
 pub opened-at-spec : {M : Type 1} → statement M
 opened-at-spec =
     tie.close
-    (tie.spec (λ c κs. search needs) (λ c κs. search needs) (λ c κs. search needs) (λ c κs. search needs) returns (λ c κs. search needs) (λ c κs. search needs) (λ c κs. search needs) returns-2 (λ c κs. search needs) (λ c κs. search needs) (λ c κs. search needs) returns-3 (λ c κs. search needs) returns-4)
+    (tie.spec (λ c κs. search needs) (λ c κs. search needs) (λ c κs. search needs) (λ c κs. search needs) returns (λ c κs. search needs) (λ c κs. search needs) returns-2 (λ c κs. search needs) (λ c κs. search needs) (λ c κs. search needs) returns-3 (λ c κs. search needs) (λ c κs. search needs) (λ c κs. search needs) returns-4 (λ c κs. search needs) returns-5)

@@ -7,12 +7,12 @@ use Rattle.sweeper.proofs.say_rounds.Statement.{statement}
 use Rattle.sweeper.proofs.say_rounds.Tie as tie
 
 abbrev Inv-loop : tie.InvT-loop
-Inv-loop lay sheet rt a starts commands response₀ i₀ response i = length response ≡ length response₀
+Inv-loop lay sheet rt a starts commands response₀ place₀ i₀ response place i = length response ≡ length response₀
 
 abbrev μ-loop : tie.MeasureT-loop
-μ-loop lay sheet rt a starts commands response₀ i₀ response i = length starts - i
+μ-loop lay sheet rt a starts commands response₀ place₀ i₀ response place i = length starts - i
 
 pub say-rounds-spec : {M : Type 1} → statement M
 say-rounds-spec =
     tie.close
-    (tie.spec Inv-loop μ-loop (λ c. search needs) (λ c. search needs) (λ c. search needs) (λ c. search needs) (λ c. search needs) (λ c κs. search needs) (λ c. search needs) (λ c. search needs) (λ c. search needs) (λ c. search needs) (λ c. search needs))
+    (tie.spec Inv-loop μ-loop (λ c κs. search needs) (λ c. search needs) (λ c. search needs) (λ c. search needs) (λ c. search needs) (λ c. search needs) (λ c κs. search needs) (λ c. search needs) (λ c. search needs) (λ c. search needs) (λ c. search needs) (λ c. search needs))
