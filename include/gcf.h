@@ -294,6 +294,21 @@ uint8_t gcf_read(uint8_t rt, gcf_feature sfn,
                  uint64_t *numbers, size_t numbers_count);
 
 /*
+ * Where the reading of a response to Requested Type rt from feature sfn on stops, which may have at most `most` bytes (65,534, or C in a sweep): the place of the first
+ * descriptor that is at fault, with 17 to 20, or that was not received whole, or the end. 0 where the header is refused, 13 to 16.
+ * numbers: the feature that stands there, 0 where its four header bytes were not received.
+ */
+size_t gcf_stops(size_t most, uint8_t rt, gcf_feature sfn,
+                 const uint8_t *response, size_t response_bytes,
+                 uint64_t *numbers, size_t numbers_count);
+
+/*
+ * Where a feature's descriptor stands in a response to RT 0 from 0: behind the header and the whole descriptors of lower features, and so where it would stand if the
+ * response does not have it. 8 for one that is refused.
+ */
+size_t gcf_place(gcf_feature feature, const uint8_t *response, size_t response_bytes);
+
+/*
  * Copies a feature's descriptor out of the fresh response if it is whole there, else out of the kept one, both responses to RT 0 from 0. Gives the
  * count of bytes written: 0 where neither holds it (or the buffer has none). GCF_DESCRIPTOR_MOST bytes are always enough; a shorter buffer gets the
  * first bytes, and gcf_descriptor_whole tells such a cut copy from a whole one.

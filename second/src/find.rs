@@ -1,6 +1,6 @@
 //! Finds a descriptor in the fresh response or in the one kept from power-on.
 
-use crate::numbers::{ACCEPTED, DESCRIPTOR_BYTES};
+use crate::numbers::{ACCEPTED, DESCRIPTOR_BYTES, HEADER_BYTES};
 use crate::reading::{read, whole};
 use crate::wire::Feature;
 
@@ -26,4 +26,14 @@ fn find_in(feature: Feature, response: &[u8]) -> Option<&[u8]> {
             return here.get(..DESCRIPTOR_BYTES + descriptor.body.len());
         }
     }
+}
+
+/// Where a feature's descriptor stands in a response, or would stand: behind the header and the whole descriptors of lower features.
+pub fn place(feature: Feature, response: &[u8]) -> usize {
+    let reading = read(0, Feature(0), response, None);
+    if reading.number != ACCEPTED {
+        return HEADER_BYTES;
+    }
+    let lower = whole(response, &reading).filter(|descriptor| descriptor.feature < feature);
+    HEADER_BYTES + lower.map(|descriptor| DESCRIPTOR_BYTES + descriptor.body.len()).sum::<usize>()
 }

@@ -108,3 +108,28 @@ fn check_header(rt: u8, sfn: Feature, before: Option<Feature>, header: Descripto
 pub fn whole<'a>(received: &'a [u8], reading: &Reading) -> Descriptors<'a> {
     Descriptors::new(part(received, HEADER_BYTES, reading.end))
 }
+
+/// Where the reading of a response stops, and the feature there: behind what can be read whole. The response up to a descriptor's 4 header bytes is a
+/// response that was cut there, so that reading it tells whether the descriptor is at fault.
+pub fn stops(limit: usize, rt: u8, sfn: Feature, received: &[u8]) -> (usize, Feature) {
+    let header = received.get(..HEADER_BYTES).unwrap_or(received);
+    if received.len() > RETURN_LIMIT || refuses_header(limit, rt, sfn, header, received.len()) {
+        return (0, Feature(0));
+    }
+    let mut at = HEADER_BYTES;
+    while let Some(header) = DescriptorHeader::at(received, at) {
+        let end = at + DESCRIPTOR_BYTES + usize::from(header.length);
+        let cut = read(rt, sfn, &received[..at + DESCRIPTOR_BYTES], None);
+        if cut.number != ACCEPTED || end > received.len() {
+            return (at, header.feature);
+        }
+        at = end;
+    }
+    (at, Feature(0))
+}
+
+/// Whether the header alone, of a response of so many bytes, is refused.
+fn refuses_header(limit: usize, rt: u8, sfn: Feature, header: &[u8], length: usize) -> bool {
+    let alone = read(rt, sfn, header, None);
+    alone.number != ACCEPTED || length as u64 > u64::from(be32(header, 0)) + 4 || length > limit
+}

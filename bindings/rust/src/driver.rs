@@ -88,6 +88,42 @@ pub fn read(rt: Rt, sfn: Feature, response: &[u8]) -> Result<Reading<'_>, Number
     })
 }
 
+/// Where the reading of a response stops: at the first descriptor that is at fault or not whole, or at the end.
+#[derive(Clone, Copy, Debug, PartialEq, Eq)]
+pub struct Stop {
+    /// The place in the response, 0 where its header is refused.
+    pub place: usize,
+    /// The feature that stands there; none where its four header bytes were not received, or the header is refused.
+    pub feature: Option<Feature>,
+}
+
+/// Where the reading of a response to Requested Type `rt` from feature `sfn` on stops, which may have at most `most` bytes (65,534, or in a sweep
+/// what [`most`](crate::most) gives): `gcf_stops`. With a refusal of 17 to 20 that is the descriptor at fault.
+///
+/// ```
+/// use gcf::{Feature, Number, Rt, Stop};
+///
+/// let response = [0, 0, 0, 12, 0, 0, 0, 0, 0, 1, 3, 0, 0, 1, 3, 0];
+/// assert_eq!(gcf::read(Rt::All, Feature(0), &response), Err(Number::FeatureBad));
+/// assert_eq!(gcf::stops(65_534, Rt::All, Feature(0), &response), Stop { place: 12, feature: Some(Feature(1)) });
+/// ```
+pub fn stops(most: usize, rt: Rt, sfn: Feature, response: &[u8]) -> Stop {
+    let mut numbers = [0];
+    let place = raw::stops(most, rt as u8, sfn, response, &mut numbers);
+    let stands = place > 0 && place + 4 <= response.len();
+    Stop { place, feature: Some(Feature(numbers[0] as u16)).filter(|_| stands) }
+}
+
+/// Where a feature's descriptor stands in a response to RT 0 from 0, or would stand: `gcf_place`.
+///
+/// ```
+/// let response = [0, 0, 0, 12, 0, 0, 0, 0, 0, 1, 3, 0, 1, 5, 3, 0];
+/// assert_eq!(gcf::place(gcf::Feature(0x0105), &response), 12);
+/// ```
+pub fn place(feature: Feature, response: &[u8]) -> usize {
+    raw::place(feature, response)
+}
+
 /// A feature's descriptor out of the fresh response if it is whole there, else out of the kept one: `gcf_held`. Both are responses to RT 0
 /// from 0; one that is refused, and so an empty one, holds nothing.
 ///

@@ -60,8 +60,8 @@ mod sense;
 pub use columns::{bench_columns, respond_columns, to_columns, to_rows, Columns};
 pub use drive::{bench, import, most, respond, Line, Refused, Sheet, Swept};
 pub use driver::{
-    check_descriptors, check_profile, command, held, list, packet, read, Finding, Judgement, Reading, Rt,
-    Sweep, Wrong,
+    check_descriptors, check_profile, command, held, list, packet, place, read, stops, Finding, Judgement,
+    Reading, Rt, Stop, Sweep, Wrong,
 };
 pub use image::{respond_image, Image};
 pub use medium::{load, load_columns};

@@ -172,6 +172,16 @@ extern "C" {
         numbers: *mut u64,
         numbers_len: usize,
     ) -> u8;
+    fn gcf_stops(
+        most: usize,
+        rt: u8,
+        sfn: Feature,
+        response: *const u8,
+        response_len: usize,
+        numbers: *mut u64,
+        numbers_len: usize,
+    ) -> usize;
+    fn gcf_place(feature: Feature, response: *const u8, response_len: usize) -> usize;
     fn gcf_held(
         feature: Feature,
         fresh: *const u8,
@@ -484,6 +494,16 @@ pub fn build_command(
 /// Reads a response; the numbers are: profile, Data Length, whole descriptors, place behind the last, complete.
 pub fn read(rt: u8, sfn: Feature, response: &[u8], numbers: &mut [u64]) -> u8 {
     unsafe { gcf_read(rt, sfn, response.as_ptr(), response.len(), numbers.as_mut_ptr(), numbers.len()) }
+}
+
+/// Where the reading of a response stops; the number is the feature that stands there.
+pub fn stops(most: usize, rt: u8, sfn: Feature, response: &[u8], numbers: &mut [u64]) -> usize {
+    unsafe { gcf_stops(most, rt, sfn, response.as_ptr(), response.len(), numbers.as_mut_ptr(), numbers.len()) }
+}
+
+/// Where a feature's descriptor stands in a response.
+pub fn place(feature: Feature, response: &[u8]) -> usize {
+    unsafe { gcf_place(feature, response.as_ptr(), response.len()) }
 }
 
 /// Copies a feature's descriptor from the fresh response, else from the kept one; gives how many bytes it wrote.

@@ -6,6 +6,7 @@ use lib.Seq.{sets}
 use Rattle.text.specs.Drive.{bit}
 use Rattle.text.specs.declared.Reading.{Reading}
 use Rattle.refusal.specs.declared.Refusal.{Refusal}
+use Rattle.reading.specs.declared.Stop.{Stop}
 use Rattle.lent.specs.Maker.{Outcome}
 use Rattle.bench.specs.Bench as bench
 use Rattle.mend.specs.Mend as mend
@@ -46,6 +47,10 @@ readingNumbers r = r .profile .0 ∷ r .data_length ∷ r .count ∷ r .end ∷ 
 
 unfoldable pub showRead : Reading → List ℕ → Left (Unit {0})
 showRead r ns = told (r .refusal .number) tt ns (readingNumbers r)
+
+-- where a reading stops: the place, and the feature that stands there
+unfoldable pub showStop : Stop → List ℕ → Left (Unit {0})
+showStop x ns = told (x .at) tt ns (x .feature .0 ∷ [])
 
 -- a bench sweep: commands, bytes collected, the place of its refusal
 unfoldable pub showBenched : bench.Ending → List ℕ → Left bench.Buffers

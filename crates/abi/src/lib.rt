@@ -13,7 +13,8 @@ ghost use Rattle.load.specs.Load.{loading};
 ghost use Rattle.command.specs.Command.{built};
 ghost use Rattle.responder.specs.Answer.{answered};
 ghost use Rattle.responder.specs.Trusting.{trustingCommand};
-ghost use Rattle.reading.specs.Held.{heldOf};
+ghost use Rattle.reading.specs.Stop.{stopped};
+ghost use Rattle.reading.specs.Held.{placeIn, heldOf};
 ghost use Rattle.listing.specs.Listing.{listing};
 ghost use Rattle.sweep.specs.Sweep.{started, turn, stepped};
 ghost use Rattle.bench.specs.Bench as bench;
@@ -25,7 +26,7 @@ ghost use Rattle.import.specs.Import.{imported};
 ghost use Rattle.rom.specs.Rom.{imageAnswered};
 ghost use Rattle.rom.specs.Image.{imageCommanded};
 ghost use Rattle.sense.specs.Sense.{made, sensed};
-ghost use Rattle.abi.specs.Left.{left, showVerdict, showMade, showPlaced, readingNumbers, showRead, showBenched, showMended, showFinding, showJudged, kindNumber, showSensed};
+ghost use Rattle.abi.specs.Left.{left, showVerdict, showMade, showPlaced, readingNumbers, showRead, showBenched, showMended, showStop, showFinding, showJudged, kindNumber, showSensed};
 use command::Command;
 use layout::Layout;
 use needs::Judgement;
@@ -348,6 +349,32 @@ pub extern "C" fn gcf_read(rt: u8, sfn: Feature, response: &[u8], numbers: &mut 
     let fault = reading.refusal;
     tell_reading(numbers, reading);
     fault.number
+}
+
+// Where the reading of a response that may have at most so many bytes stops: the place of the first descriptor that is at fault or not whole. Numbers: the feature that
+// stands there.
+#[no_mangle]
+pub extern "C" fn gcf_stops(
+    most: usize,
+    rt: u8,
+    sfn: Feature,
+    response: &[u8],
+    numbers: &mut [u64],
+) -> usize
+    ensures { λ r. ⌜ left r tt (now (numbers .exit)) ≡ showStop (stopped most rt (sfn .0) (now (response .entry))) (now (numbers .entry)) ⌝ }
+{
+    let stop = reading::stops(most, rt, sfn, response);
+    let feature = stop.feature;
+    tell(numbers, 0, feature.0 as u64);
+    stop.at
+}
+
+// Where a feature's descriptor stands in a response to RT 0 from 0, or would stand.
+#[no_mangle]
+pub extern "C" fn gcf_place(feature: Feature, response: &[u8]) -> usize
+    ensures { λ r. ⌜ r ≡ placeIn (feature .0) (now (response .entry)) ⌝ }
+{
+    reading::place_of(feature, response)
 }
 
 // Copies a feature's descriptor out of the fresh response if whole there, else out of the kept one; none leaves the buffer as it is.

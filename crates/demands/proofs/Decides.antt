@@ -66,6 +66,8 @@ use Rattle.reading.proofs.length_at as reading-length-at
 use Rattle.reading.proofs.next_at as next-at
 use Rattle.reading.proofs.body_at as body-at
 use Rattle.reading.proofs.scan as scan
+use Rattle.reading.proofs.stops as stops
+use Rattle.reading.proofs.place_of as place-of
 use Rattle.reading.proofs.read as read
 use Rattle.reading.proofs.complete as complete
 use Rattle.reading.proofs.judge as judge
@@ -108,6 +110,8 @@ use Rattle.abi.proofs.gcf_check_image as gcf-check-image
 use Rattle.abi.proofs.gcf_respond_image as gcf-respond-image
 use Rattle.abi.proofs.gcf_respond_image_accepted as gcf-respond-image-accepted
 use Rattle.abi.proofs.gcf_read as gcf-read
+use Rattle.abi.proofs.gcf_stops as gcf-stops
+use Rattle.abi.proofs.gcf_place as gcf-place
 use Rattle.abi.proofs.gcf_held as gcf-held
 use Rattle.abi.proofs.gcf_list as gcf-list
 use Rattle.abi.proofs.gcf_most as gcf-most
@@ -314,6 +318,12 @@ body-at-decided x = decides (x .𝓤) (λ o o′ p q. (same-part p q, refl))
 pub scan-decided : Decided scan.ended (λ M. scan.clauses) (λ M. scan.spec)
 scan-decided x = decides (x .𝓤) (λ o o′ p q. (joined p q, refl))
 
+pub stops-decided : Decided stops.ended (λ M. stops.clauses) (λ M. stops.spec)
+stops-decided x = decides (x .𝓤) (λ o o′ p q. (joined p q, refl))
+
+pub place-of-decided : Decided place-of.ended (λ M. place-of.clauses) (λ M. place-of.spec)
+place-of-decided x = decides (x .𝓤) (λ o o′ p q. (joined p q, refl))
+
 pub read-decided : Decided read.ended (λ M. read.clauses) (λ M. read.spec)
 read-decided = reading-decides.read-decided
 
@@ -473,6 +483,12 @@ gcf-held-decided x = decides (x .𝓤) (λ o o′ p q. (same p q .0, refl & refl
 
 pub gcf-list-decided : Decided gcf-list.ended (λ M. gcf-list.clauses) (λ M. gcf-list.spec)
 gcf-list-decided x = decides (x .𝓤) (λ o o′ p q. (same p q .0, refl & same p q .1 & refl))
+
+pub gcf-stops-decided : Decided gcf-stops.ended (λ M. gcf-stops.clauses) (λ M. gcf-stops.spec)
+gcf-stops-decided x = decides (x .𝓤) (λ o o′ p q. (number (joined p q), refl & refl & refl & refl & numbers (joined p q) & refl))
+
+pub gcf-place-decided : Decided gcf-place.ended (λ M. gcf-place.clauses) (λ M. gcf-place.spec)
+gcf-place-decided x = decides (x .𝓤) (λ o o′ p q. (joined p q, refl))
 
 pub gcf-most-decided : Decided gcf-most.ended (λ M. gcf-most.clauses) (λ M. gcf-most.spec)
 gcf-most-decided x = decides (x .𝓤) (λ o o′ p q. (joined p q, refl))

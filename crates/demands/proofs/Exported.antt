@@ -22,7 +22,12 @@ use Rattle.abi.proofs.gcf_respond_columns_accepted as gcf-respond-columns-accep
 use Rattle.abi.proofs.gcf_check_image as gcf-check-image
 use Rattle.abi.proofs.gcf_respond_image as gcf-respond-image
 use Rattle.abi.proofs.gcf_respond_image_accepted as gcf-respond-image-accepted
+use Rattle.reading.specs.declared.Stop.{Stop}
+use Rattle.reading.proofs.Stopped.{Stops, stops-so}
+use Rattle.reading.proofs.Rest.{Stood, stood-so}
 use Rattle.abi.proofs.gcf_read as gcf-read
+use Rattle.abi.proofs.gcf_stops as gcf-stops
+use Rattle.abi.proofs.gcf_place as gcf-place
 use Rattle.abi.proofs.gcf_held as gcf-held
 use Rattle.abi.proofs.gcf_list as gcf-list
 use Rattle.abi.proofs.gcf_most as gcf-most
@@ -109,6 +114,13 @@ gcf-respond-image-accepted-tied x = promises (x .𝓤) (λ o. shows _ (images-on
 pub gcf-read-tied : Promised gcf-read.ended (λ M. gcf-read.clauses) (λ M. gcf-read.spec)
     (named (λ _ rt sfn response numbers r _ _ _ numbers′. Shows (Reads 65534 rt (sfn .0) (now response)) (λ z. abi.showRead z (now numbers)) (left r tt numbers′)))
 gcf-read-tied x = promises (x .𝓤) (λ o. shows _ (reads _ _ _ _))
+
+pub gcf-stops-tied : Promised gcf-stops.ended (λ M. gcf-stops.clauses) (λ M. gcf-stops.spec)
+    (named (λ _ most rt sfn response numbers r _ _ _ _ numbers′. Shows (λ (t : Stop). Stops most rt (sfn .0) (now response) (t .at) (t .feature .0)) (λ z. abi.showStop z (now numbers)) (left r tt numbers′)))
+gcf-stops-tied x = promises (x .𝓤) (λ o. shows _ (stops-so _ _ _ _))
+
+pub gcf-place-tied : Promised gcf-place.ended (λ M. gcf-place.clauses) (λ M. gcf-place.spec) (named (λ _ feature response r _ _. Stood (feature .0) (now response) r))
+gcf-place-tied x = promises (x .𝓤) (λ o. by (Stood _ _) (stood-so _ _))
 
 -- A part of which P holds stands in the buffer e, which was d, as far as there is room; where the count r is below the buffer's length, it is whole.
 pub record Copies (P : List ℕ → Type 0) (d : List ℕ) (r : ℕ) (e : List ℕ) : Type 0 where

@@ -21,6 +21,11 @@ use Rattle.responder.proofs.respond as respond
 use Rattle.rom.proofs.respond_accepted as rom-respond-accepted
 use Rattle.rom.proofs.respond as rom-respond
 use Rattle.reading.proofs.scan as scan
+use Rattle.reading.proofs.Stopped.{Stops, stops-so}
+use Rattle.reading.proofs.Rest.{Stood, stood-so}
+use Rattle.reading.specs.declared.Stop.{Stop}
+use Rattle.reading.proofs.stops as stops
+use Rattle.reading.proofs.place_of as place-of
 use Rattle.reading.proofs.read as read
 use Rattle.reading.proofs.held as held
 use Rattle.text.proofs.most as most
@@ -105,6 +110,13 @@ scan-tied x = promises (x .𝓤) (λ o. by (Scans _ _ _ _) (scans _ _ _ _))
 
 pub read-tied : Promised read.ended (λ M. read.clauses) (λ M. read.spec) (named (λ _ rt sfn s r _ _ _. Reads 65534 rt (sfn .0) (now s) r))
 read-tied x = promises (x .𝓤) (λ o. by (Reads _ _ _ _) (reads _ _ _ _))
+
+pub stops-tied : Promised stops.ended (λ M. stops.clauses) (λ M. stops.spec)
+    (named (λ _ limit rt sfn s r _ _ _ _. Stops limit rt (sfn .0) (now s) (r .at) (r .feature .0)))
+stops-tied x = promises (x .𝓤) (λ o. by (λ (t : Stop). Stops _ _ _ _ (t .at) (t .feature .0)) (stops-so _ _ _ _))
+
+pub place-of-tied : Promised place-of.ended (λ M. place-of.clauses) (λ M. place-of.spec) (named (λ _ feature s r _ _. Stood (feature .0) (now s) r))
+place-of-tied x = promises (x .𝓤) (λ o. by (Stood _ _) (stood-so _ _))
 
 pub held-tied : Promised held.ended (λ M. held.clauses) (λ M. held.spec) (named (λ _ feature fresh kept r _ _ _. Lies (feature .0) fresh kept r))
 held-tied = reading-promised.held-tied

@@ -6,6 +6,7 @@ pub mod Fresh
 pub mod Lies
 pub mod Places
 pub mod Rest
+pub mod Stopped
 pub mod Completed
 pub mod Decides
 pub mod Promised

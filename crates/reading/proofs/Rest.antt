@@ -1,5 +1,6 @@
 -- The search for a feature's descriptor: what is left of it at a place, and what each turn makes of it. Assumes nothing.
 use mathlib.Core.Path.{_≡_, refl, sym, ap, subst, _∙_}
+use mathlib.Core.Logic.{_⊎_, inl, inr}
 use mathlib.Core.Bool.{Bool, true, false}
 use mathlib.Core.List.{List, [], _∷_, _++_, append-nil}
 use Prim.Native.Nat.{ℕ, _+_, _≤_, _<_}
@@ -8,6 +9,7 @@ use lib.ListN.{length, take, drop, length-append}
 use denote.Ref.{RefT, now}
 use borrow.Author.Tests.{eqb-true, eq-eqb, ne-eqb, lt-ltb, le-ltb}
 use Rattle.base.specs.Lists.{flat, keep, Bytes}
+use Rattle.base.proofs.Compare.{le-or-lt}
 use Rattle.base.proofs.Lists.{keep-yes, keep-no}
 use Rattle.fields.specs.Part.{PartOf}
 use Rattle.fields.proofs.Parts.{part-is}
@@ -17,7 +19,7 @@ use Rattle.text.specs.Response.{bytes}
 use Rattle.text.specs.Reading.{numberAt, lengthAt, descAt, reading}
 use Rattle.text.proofs.Again.{bytes-descAt}
 use Rattle.text.proofs.Received.{Stand, length-descAt, wholes-stand, wholes-asc, reading-within}
-use Rattle.reading.specs.Places.{nextAt}
+use Rattle.reading.specs.Places.{descs, nextAt}
 use Rattle.reading.specs.inner.Between.{between}
 use Rattle.reading.proofs.At.{next-is}
 use Rattle.reading.proofs.Places.{left-more, left-none, wholes-between}
@@ -136,6 +138,9 @@ module _ (f : ℕ) (s : RefT (List ℕ)) (at end : ℕ) (q : Rest f (now s) at (
   pub rest-end : (r : RefT (List ℕ)) → end ≤ at → PartOf s at (take 0 (drop at (now s))) r → HeldIn f s r
   rest-end r h p = part-is p (done f (now s) at (left-none (now s) at end (Rest f (now s) at) q h))
 
+  pub rest-behind : end ≤ at → at ≡ placeIn f (now s)
+  rest-behind h = done f (now s) at (left-none (now s) at end (Rest f (now s) at) q h) .0
+
   module _ (h : at < end) (number : ℕ) (n : number ≡ numberAt (now s) at) where
     first : Rest f (now s) at (descAt (now s) at ∷ between (now s) (at + 4 + lengthAt (now s) at) end)
     first = left-more (now s) at end (Rest f (now s) at) q _ h refl
@@ -146,5 +151,60 @@ module _ (f : ℕ) (s : RefT (List ℕ)) (at end : ℕ) (q : Rest f (now s) at (
     pub rest-above : (r : RefT (List ℕ)) → f < number → PartOf s at (take 0 (drop at (now s))) r → HeldIn f s r
     rest-above r e p = part-is p (above f (now s) at _ first (omega arith))
 
+    pub rest-reached : f ≤ number → at ≡ placeIn f (now s)
+    rest-reached e = reached f (now s) at _ first (omega arith)
+
+    pub rest-passed : (next : ℕ) → number < f → end ≤ length (now s) → next ≡ nextAt (now s) at → Rest f (now s) next (between (now s) next end)
+    rest-passed next l k m = rw (next-is (now s) at next (omega arith) m) (passed f (now s) at _ first (omega arith))
+
     pub rest-next : (next : ℕ) → (number ≡ f → ⊥) → number ≤ f → end ≤ length (now s) → next ≡ nextAt (now s) at → Rest f (now s) next (between (now s) next end)
-    rest-next next e l k m = rw (next-is (now s) at next (omega arith) m) (passed f (now s) at _ first (omega arith))
+    rest-next next e l = rest-passed next (omega arith)
+
+-- ---- what stands at the place
+
+-- the descriptor of f, where there is one, stands behind those below it
+is-number : (s : List ℕ) (at : ℕ) (d : Desc) → d ≡ descAt s at → d .number ≡ numberAt s at
+unfolding descAt
+is-number s at d e = ap (λ (x : Desc). x .number) e
+
+stood : (f : ℕ) (s : List ℕ) (lo at : ℕ) (ds : List Desc) → Stand s at ds → Asc lo ds → (keep (isOf f) ds ≡ [] → ⊥) → numberAt s (at + length (flat bytes (keep (isBelow f) ds))) ≡ f
+unfolding flat keep
+stood f s lo at [] h a n = absurd (n refl)
+stood f s lo at (d ∷ ds) h a n =
+    go (le-or-lt f (d .number)) (le-or-lt (d .number) f) (λ k. stood f s (1 + d .number) (at + 4 + lengthAt s at) ds (h .2) (a .1) k)
+  where
+    go : (f ≤ d .number) ⊎ (d .number < f) → (d .number ≤ f) ⊎ (f < d .number)
+        → ((keep (isOf f) ds ≡ [] → ⊥) → numberAt s (at + 4 + lengthAt s at + length (flat bytes (keep (isBelow f) ds))) ≡ f)
+        → numberAt s (at + length (flat bytes (keep (isBelow f) (d ∷ ds)))) ≡ f
+    go (inr below) q next =
+        let e : at + length (flat bytes (keep (isBelow f) (d ∷ ds))) ≡ at + 4 + lengthAt s at + length (flat bytes (keep (isBelow f) ds)) =
+        omega (
+          arith,
+          ap (λ (x : List Desc). length (flat bytes x)) (keep-yes (isBelow f) d ds (lt-ltb (d .number) f below)),
+          length-append (bytes d) (flat bytes (keep (isBelow f) ds)),
+          ap (λ (x : Desc). length (bytes x)) (h .0),
+          length-descAt s at (h .1),
+        ) in
+        rw e (next (λ z. n (keep-no (isOf f) d ds (ne-eqb (d .number) f (λ y. omega arith)) ∙ z)))
+    go (inl from) (inl to) next =
+        let e : at + length (flat bytes (keep (isBelow f) (d ∷ ds))) ≡ at =
+        omega (
+          arith,
+          ap (λ (x : List Desc). length (flat bytes x)) (keep-no (isBelow f) d ds (le-ltb (d .number) f from) ∙ none-below f (1 + d .number) ds (omega arith) (a .1)),
+        ) in
+        rw e (sym (is-number s at d (h .0)) ∙ omega arith)
+    go (inl from) (inr above) next = absurd (n (keep-no (isOf f) d ds (ne-eqb (d .number) f (λ y. omega arith)) ∙ keep-above f (1 + d .number) ds (omega arith) (a .1)))
+
+-- Of the place that is given for a feature of s: it lies behind the header, and where the response has the feature whole, its number stands there
+pub record Stood (f : ℕ) (s : List ℕ) (at : ℕ) : Type 0 where
+  pub exact : at ≡ placeIn f s
+  pub behind : 8 ≤ at
+  pub names : (length (heldIn f s) ≡ 0 → ⊥) → numberAt s at ≡ f
+
+pub stood-so : (f : ℕ) (s : List ℕ) → Stood f s (placeIn f s)
+unfolding placeIn heldIn flat
+stood-so f s = record {
+  exact = refl;
+  behind = omega arith;
+  names = λ n. stood f s 0 8 (descs s) (wholes-stand 65534 0 0 s) (wholes-asc 65534 0 0 s) (λ z. n (ap (λ (x : List Desc). length (flat bytes x)) z));
+}

@@ -24,7 +24,7 @@ use Rattle.reading.specs.declared.Walk.{Walk}
 use Rattle.reading.specs.declared.Walk.the-variants as walked
 use Rattle.reading.specs.declared.WalkJudged.{WalkJudged}
 use Rattle.reading.specs.Judged.{oddFlags, oddIn}
-use Rattle.reading.specs.inner.Tally.{headAt, lastFrom, tally}
+use Rattle.reading.specs.inner.Tally.{headAt, lastFrom, behind, tally}
 
 -- ---- the number of the last descriptor
 
@@ -52,7 +52,7 @@ by-cases {A} {P} r refused x v q none fault = go (r .number) refl
 module _ (count place last : ℕ) where
   pub tally-stop : tally count place last (stop accept) ≡ walked.Whole count place (record { 0 = last })
   unfolding tally lastFrom flat
-  tally-stop = unless-none accept walked.Refused _ refl ∙ rw (add-zero, add-zero)
+  tally-stop = unless-none accept (λ r. walked.Refused r _) _ refl ∙ rw (add-zero, add-zero)
 
   pub tally-onward : (d : Desc) (w : Walked) → tally count place last (onward d w) ≡ tally (count + 1) (place + length (bytes d)) (d .number) w
   unfolding tally lastFrom flat
@@ -64,18 +64,18 @@ module _ (count place last : ℕ) where
 
   -- what its cases say of the walk
   module _ (w : Walked) where
-    pub tally-fault : (w .fault .number ≡ 0 → ⊥) → tally count place last w ≡ walked.Refused (w .fault)
+    pub tally-fault : (w .fault .number ≡ 0 → ⊥) → tally count place last w ≡ walked.Refused (w .fault) (behind place w)
     unfolding tally
-    tally-fault k = unless-fault (w .fault) walked.Refused _ k
+    tally-fault k = unless-fault (w .fault) (λ r. walked.Refused r (behind place w)) _ k
 
-    pub tally-refused : (r : Refusal) → walked.Refused r ≡ tally count place last w → (r ≡ w .fault) × (w .fault .number ≡ 0 → ⊥)
+    pub tally-refused : (r : Refusal) (at : ℕ) → walked.Refused r at ≡ tally count place last w → (r ≡ w .fault) × (w .fault .number ≡ 0 → ⊥) × (at ≡ behind place w)
     unfolding tally
-    tally-refused r q = by-cases (w .fault) walked.Refused _ _ q (λ k e. absurd (true≢false cc)) (λ k e. (cc, k))
+    tally-refused r at q = by-cases (w .fault) (λ f. walked.Refused f (behind place w)) _ _ q (λ k e. absurd (true≢false cc)) (λ k e. (cc, k, cc))
 
     pub tally-whole : (n end : ℕ) (f : Feature) → walked.Whole n end f ≡ tally count place last w
         → (w .fault .number ≡ 0) × (n ≡ count + length (w .found)) × (end ≡ place + length (flat bytes (w .found))) × (f ≡ record { 0 = lastFrom last (w .found) })
     unfolding tally
-    tally-whole n end f q = by-cases (w .fault) walked.Refused _ _ q (λ k e. (k, cc, cc, cc)) (λ k e. absurd (true≢false cc))
+    tally-whole n end f q = by-cases (w .fault) (λ r. walked.Refused r (behind place w)) _ _ q (λ k e. (k, cc, cc, cc)) (λ k e. absurd (true≢false cc))
 
 -- ---- the four header bytes, as they were read
 
@@ -142,13 +142,13 @@ module _ (w : Walk) (rt sfn end : ℕ) (s : List ℕ) (at lo count : ℕ) (last 
         e ∙ ap (λ (k : ℕ). tally count at (last .0) (walk k rt sfn end s lo at)) {x = length s - count} {y = suc (length s - (count + 1))} (omega arith)
         ∙ ap (tally count at (last .0)) g
 
-    pub loop-fault : (r : Refusal) → h ≡ head.Refused r → walked.Refused r ≡ w
-    unfolding headAt
+    pub loop-fault : (r : Refusal) → h ≡ head.Refused r → walked.Refused r at ≡ w
+    unfolding headAt flat
     loop-fault r k =
         by-cases (headFault rt sfn end s lo at) head.Refused _ _ (sym k ∙ q) (λ z f. absurd (true≢false cc))
         (λ z f.
         let g : r ≡ headFault rt sfn end s lo at = cc in
-        sym (one-more _ (walk-bad _ rt sfn end s lo at l z) ∙ tally-fault count at (last .0) (stop (headFault rt sfn end s lo at)) z ∙ ap walked.Refused (sym g)))
+        sym (one-more _ (walk-bad _ rt sfn end s lo at l z) ∙ tally-fault count at (last .0) (stop (headFault rt sfn end s lo at)) z ∙ rw (← g, add-zero)))
 
     module _ (number : Feature) (len : ℕ) (k : h ≡ head.Stands number len) where
       facts : (headFault rt sfn end s lo at .number ≡ 0) × (number ≡ record { 0 = numberAt s at }) × (len ≡ lengthAt s at)

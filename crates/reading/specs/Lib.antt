@@ -1,4 +1,5 @@
 pub mod Scan
+pub mod Stop
 pub mod Places
 pub mod Completed
 pub mod Judged

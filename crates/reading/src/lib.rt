@@ -10,10 +10,11 @@ ghost use Rattle.text.specs.Response.{headerLength, returnLimit};
 ghost use Rattle.text.specs.Reading.{headerRule, headRule, numberAt, flagsAt, lengthAt, descAt, walk, reading};
 ghost use Rattle.reading.specs.Places.{nextAt};
 ghost use Rattle.reading.specs.Scan.{scanned};
+ghost use Rattle.reading.specs.Stop.{standing, stopped};
 ghost use Rattle.reading.specs.Judged.{oddFlags, judged};
 ghost use Rattle.reading.specs.inner.Tally.{refusal, headAt, tally, walkJudged, scanJudged};
 ghost use Rattle.reading.specs.Completed.{completed};
-ghost use Rattle.reading.specs.Held.{HeldIn, HeldOf};
+ghost use Rattle.reading.specs.Held.{placeIn, HeldIn, HeldOf};
 use refusal::Refusal;
 use text::Feature;
 use text::Flags;
@@ -25,6 +26,12 @@ use text::Reading;
 pub struct Scanned {
     pub reading: Reading,
     pub last: Feature,
+}
+
+// Where a reading stops: the place of the first descriptor that is at fault or not whole, and the feature that stands there.
+pub struct Stop {
+    pub at: usize,
+    pub feature: Feature,
 }
 
 // The reading of a response to RT 0 from 0 that has to be complete, and how many of its whole descriptors have flags that a drive sheet may not have.
@@ -39,9 +46,9 @@ enum Head {
     Stands { number: Feature, len: u8 },
 }
 
-// The walk over the descriptors: a refusal, or how many are whole, the place behind the last and its number.
+// The walk over the descriptors: a refusal and the place of the descriptor, or how many are whole, the place behind the last and its number.
 enum Walk {
-    Refused(Refusal),
+    Refused { fault: Refusal, at: usize },
     Whole {
         count: u32,
         end: usize,
@@ -244,7 +251,7 @@ fn walk_over(rt: u8, sfn: Feature, end: usize, s: &[u8]) -> Walk
     while at + 4 <= s.len() {
         match head_at(rt, sfn, end, s, lengths, lo, at) {
             Head::Refused(fault) => {
-                return Walk::Refused(fault);
+                return Walk::Refused { fault, at };
             }
             Head::Stands { number, len } => {
                 let next = at + 4 + len as usize;
@@ -299,7 +306,7 @@ pub fn scan(limit: usize, rt: u8, sfn: Feature, s: &[u8]) -> Scanned
     }
     let end = stated as usize + 4;
     match walk_over(rt, sfn, end, s) {
-        Walk::Refused(fault) => refusing(fault),
+        Walk::Refused { fault, at } => refusing(fault),
         Walk::Whole {
             count,
             end: behind,
@@ -342,6 +349,59 @@ pub fn complete(s: &[u8]) -> Reading
     reading
 }
 
+// ---- where it stops
+
+// The walk has come to a place; a feature stands there if its four header bytes were received.
+fn standing(s: &[u8], at: usize) -> Stop
+    ensures { λ r. ⌜ r ≡ standing (now (s .entry)) at ⌝ }
+{
+    if headed(s, at) {
+        return Stop {
+            at,
+            feature: number_at(s, at),
+        };
+    }
+    Stop {
+        at,
+        feature: Feature(0),
+    }
+}
+
+// Where the reading of a response to RT rt from sfn that may have at most limit bytes stops; 0 and 0 where its header is refused.
+pub fn stops(limit: usize, rt: u8, sfn: Feature, s: &[u8]) -> Stop
+    ensures { λ r. ⌜ r ≡ stopped limit rt (sfn .0) (now (s .entry)) ⌝ }
+{
+    let stated = fields::get4(s, 0);
+    let fault = header_rule(limit, rt, s.len(), stated);
+    if fault.number != 0 {
+        return Stop {
+            at: 0,
+            feature: Feature(0),
+        };
+    }
+    match walk_over(rt, sfn, stated as usize + 4, s) {
+        Walk::Refused { fault, at } => standing(s, at),
+        Walk::Whole { count, end, last } => standing(s, end),
+    }
+}
+
+// Where a feature's descriptor stands in a response to RT 0 from 0: behind the whole descriptors of lower features, and so where it would stand if it is not there.
+pub fn place_of(feature: Feature, s: &[u8]) -> usize
+    ensures { λ r. ⌜ r ≡ placeIn (feature .0) (now (s .entry)) ⌝ }
+{
+    let reading = read(0, Feature(0), s);
+    let end = reading.end;
+    let mut at = Header::LENGTH;
+    while at < end {
+        let number = number_at(s, at);
+        if feature.0 <= number.0 {
+            return at;
+        }
+        at = next_at(s, at);
+    }
+    at
+}
+
 // ---- the flags, on the same walk
 
 // 1 where a drive sheet may not have such flags, else 0.
@@ -372,7 +432,7 @@ fn walk_judging(end: usize, s: &[u8]) -> WalkJudged
         match head_at(0, Feature(0), end, s, lengths, lo, at) {
             Head::Refused(fault) => {
                 return WalkJudged {
-                    walk: Walk::Refused(fault),
+                    walk: Walk::Refused { fault, at },
                     odd: odds,
                 };
             }
@@ -423,7 +483,7 @@ fn scan_judging(s: &[u8]) -> ScanJudged
     let judged = walk_judging(full, s);
     let walk = judged.walk;
     match walk {
-        Walk::Refused(fault) => {
+        Walk::Refused { fault, at } => {
             let refused = refusing(fault);
             ScanJudged {
                 scan: refused,

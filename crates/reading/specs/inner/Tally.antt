@@ -32,12 +32,15 @@ unfoldable pub lastFrom : ℕ → List Desc → ℕ
 lastFrom n [] = n
 lastFrom n (d ∷ ds) = lastFrom (d .number) ds
 
--- the walk w in numbers, behind count descriptors that end at a place, the last of them numbered last: its refusal, or the count, the place behind
--- the last and its number
+-- the place behind the descriptors that the walk w found, from a place on
+abbrev pub behind : (place : ℕ) → Walked → ℕ
+behind place w = place + length (flat bytes (w .found))
+
+-- the walk w in numbers, behind count descriptors that end at a place, the last of them numbered last: its refusal and where, or the count, the place
+-- behind the last and its number
 unfoldable pub tally : (count place last : ℕ) → Walked → Walk
 tally count place last w =
-    unless (w .fault) walked.Refused
-    (walked.Whole (count + length (w .found)) (place + length (flat bytes (w .found))) (record { 0 = lastFrom last (w .found) }))
+    unless (w .fault) (λ r. walked.Refused r (behind place w)) (walked.Whole (count + length (w .found)) (behind place w) (record { 0 = lastFrom last (w .found) }))
 
 -- a whole walk in numbers, and how many of its descriptors have odd flags; the same of a scan
 abbrev pub walkJudged : Walked → WalkJudged

@@ -136,6 +136,13 @@ fn proved(case: &Case, out: &mut [u8]) -> Option<Numbers> {
         }
         ("import", _) => raw::import(first, out, told),
         ("read", _) => raw::read(given[0] as u8, gcf::Feature(given[1] as u16), first, told),
+        ("stops", _) => {
+            let [most, rt, sfn] = [given[0], given[1], given[2]];
+            let mut feature = [0];
+            let place = raw::stops(most as usize, rt as u8, gcf::Feature(sfn as u16), first, &mut feature);
+            return Some(two(place, feature[0]));
+        }
+        ("place", _) => return Some(one(raw::place(gcf::Feature(given[0] as u16), first))),
         ("descriptors", _) => raw::check_descriptors(first, told),
         ("profile", _) => {
             let mut said = [0; 2];
@@ -178,6 +185,11 @@ fn lists(bytes: &[u8], features: u64) -> (Vec<u16>, Vec<u16>) {
 /// A count alone.
 fn one(count: usize) -> Numbers {
     [count as u64, 0, 0, 0, 0, 0, 0, 0]
+}
+
+/// A place, and what stands there.
+fn two(place: usize, feature: u64) -> Numbers {
+    [place as u64, feature, 0, 0, 0, 0, 0, 0]
 }
 
 /// A count or a refusal, with its place.
@@ -229,6 +241,12 @@ fn plain(case: &Case, out: &mut [u8]) -> Option<Numbers> {
             let [profile, length, count] = fields;
             with(reading.number, &[profile, length, count, reading.end as u64, u64::from(reading.complete)])
         }
+        "stops" => {
+            let [most, rt, sfn] = [given[0], given[1], given[2]];
+            let (place, feature) = second::reading::stops(most as usize, rt as u8, Feature(sfn as u16), first);
+            two(place, u64::from(feature.0))
+        }
+        "place" => one(second::find::place(Feature(given[0] as u16), first)),
         "descriptors" => {
             let (number, feature) = second::checks::check_descriptors(first);
             with(number, &[u64::from(feature.0)])

@@ -35,6 +35,8 @@
 //! mend N | RESPONSE = refusal, count, changes; the buffer is N bytes for the copy, then the list of changes, four bytes each
 //! import | RESPONSE = refusal, count, place
 //! read RT SFN | RESPONSE = refusal, profile, Data Length, whole descriptors, the place behind the last, 1 if complete
+//! stops MOST RT SFN | RESPONSE = the place where the reading stops, the feature there
+//! place FEATURE | RESPONSE = where its descriptor stands
 //! held FEATURE | FRESH | KEPT = count; the descriptor is copied to the buffer
 //! list | RESPONSE = count
 //! descriptors | RESPONSE = number, feature

@@ -17,12 +17,14 @@ mod load;
 mod make_sense;
 mod mend;
 mod most;
+mod place;
 mod read;
 mod read_sense;
 mod respond;
 mod respond_accepted;
 mod respond_image;
 mod respond_image_accepted;
+mod stops;
 mod sweep_start;
 mod sweep_take;
 
@@ -53,6 +55,8 @@ pub const KINDS: &[Kind] = &[
     respond_image_accepted::KIND,
     build_command::KIND,
     read::KIND,
+    stops::KIND,
+    place::KIND,
     held::KIND,
     list::KIND,
     most::KIND,
