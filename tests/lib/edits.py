@@ -21,8 +21,8 @@ class Edit:
     def __init__(self, path):
         self.path, self.crate, self.label = path, path.parts[1], path.stem
         lines = text_of(path).splitlines()
-        heads = [head.groups() for line in lines if (head := re.match(r"# ([\w:]+)(?:, in ([\w:/-]+))?: (.+)$", line))]
-        self.answers = [(about, place or about.split("::", 1)[-1], what) for about, place, what in heads]
+        self.groups = groups(lines)
+        self.answers = [answer for answers, _ in self.groups for answer in answers]
         self.pairs = replacements(lines)
 
     def name(self):
@@ -51,9 +51,59 @@ class Edit:
         """A function of its crate or a need of its proof, a definition or a theorem."""
         return self.is_about(f"{self.crate}::{place.split('/')[0]}") or self.declares("proofs", place)
 
+    def of_code(self):
+        """The functions that its wrong answers of code are about, one for each: an answer that changes a definition, a law or a contract is none, and an answer in a
+        function's own code is none where the same file changes that function's contract or definition: it was not tried under the real one."""
+        texts, code, other = {}, [], set()
+        for answers, pairs in self.groups:
+            changes = [self.change(texts, *pair) for pair in pairs]
+            if all(change == "code" for change in changes) and not any(what.startswith("a contract") for _, _, what in answers):
+                code += [(about, f"{self.crate}::{place.split('/')[0]}") for about, place, _ in answers]
+            else:
+                other.update(about for about, _, _ in answers)
+        return [about for about, place in code if place not in other]
+
+    def change(self, texts, file, old, new):
+        """What a replacement changes, after those before it: code, or something that the code is held against."""
+        text = texts.get(file) or text_of(f"crates/{self.crate}/{file}")
+        line = text[:text.find(old)].count("\n")
+        texts[file] = text.replace(old, new, 1)
+        return "code" if file.startswith("src/") and line not in promising(text) else "promise"
+
     def declares(self, folder, name):
         files = Path(f"crates/{self.crate}/{folder}").glob("**/*.antt")
         return any(declared_in_antt(name, text_of(file)) for file in files)
+
+
+HEAD = re.compile(r"# ([\w:]+)(?:, in ([\w:/-]+))?: (.+)$")
+
+
+def groups(lines):
+    """The wrong answers of an edit's lines, each a function, a place and what is wrong, with the replacements that make them: heads that follow each other have
+    theirs together."""
+    found, start = [], 0
+    for at, line in enumerate(lines):
+        if not (head := HEAD.match(line)):
+            continue
+        about, place, what = head.groups()
+        if not found or any(line.startswith("new:") for line in lines[start:at]):
+            found.append(([], at))
+            start = at
+        found[-1][0].append((about, place or about.split("::", 1)[-1], what))
+    files = [f"file: {file}" for file in [""] + [line.removeprefix("file: ") for line in lines if line.startswith("file: ")]]
+    ends = [at for _, at in found[1:]] + [len(lines)]
+    return [(answers, replacements([files[sum(line.startswith("file: ") for line in lines[:at])], *lines[at:end]])) for (answers, at), end in zip(found, ends)]
+
+
+def promising(text):
+    """The numbers of a source's lines that say what a function promises or asks, or bring names for that: from `requires`, `ensures` or `ghost` to the body."""
+    found, inside = set(), False
+    for at, line in enumerate(text.splitlines()):
+        inside = (inside or bool(re.match(r" *(requires|ensures|ghost)\b", line))) and line.strip() != "{"
+        if inside:
+            found.add(at)
+        inside = inside and not line.startswith("ghost use ")
+    return found
 
 
 def replacements(lines):
@@ -159,10 +209,27 @@ def cases(quick):
         if quick and not Path(f"target/must-fail/{edit.crate}/{edit.label}/.log").exists():
             continue
         yield Case("edit", f"{edit.name()}: refused at a fact", refusal_wrong(edit))
-    about = Counter(about for edit in edits for about, _, _ in edit.answers)
-    for f in source.public():
-        yield Case("edit", f"{f.path}: two wrong answers or more", None if about[f.path] >= 2 else f"{about[f.path]}")
+    yield from counted_cases(edits)
     yield from mixed_cases(quick)
+
+
+def counted_cases(edits):
+    """Each public contract has two wrong answers of code or more; docs/DECISIONS.md lists those that can have none, and these have two of another kind."""
+    code = Counter(about for edit in edits for about in edit.of_code())
+    every = Counter(about for edit in edits for about, _, _ in edit.answers)
+    listed = excused()
+    for f in source.public():
+        count = (every if f.path in listed else code)[f.path]
+        yield Case("edit", f"{f.path}: two wrong answers of code or more", None if count >= 2 else f"{count}")
+    for path in listed:
+        public = any(f.path == path for f in source.public())
+        yield Case("edit", f"{path}: listed as one without wrong answers of code", None if public and code[path] < 2 else "it is no public function, or has two")
+
+
+def excused():
+    """The functions that docs/DECISIONS.md names under its question for them."""
+    _, _, behind = text_of("docs/DECISIONS.md").partition("- **Which public contracts have no wrong answers of code?**")
+    return re.findall(r"`(\w+(?:::\w+)+)`", behind.partition("\n- **")[0])
 
 
 # ---- what does not compile

@@ -1,5 +1,5 @@
 -- Each public function's own contract, as the toolchain generates it, asks nothing and decides the whole outcome: every returned field, where a returned part lies, and
--- every byte of lent memory. One line a function; five of the theorems stand in the function's own crate, where an edit that weakens the contract is refused by them. Assumes nothing.
+-- every byte of lent memory. One line a function; six of the theorems stand in the function's own crate, where an edit that weakens the contract is refused by them. Assumes nothing.
 use mathlib.Core.Path.{_≡_, refl, ap}
 use mathlib.Core.List.{List}
 use Prim.Native.Nat.{ℕ}
@@ -11,6 +11,7 @@ use Rattle.text.proofs.Decides as text-decides
 use Rattle.sheet.proofs.Decides as sheet-decides
 use Rattle.load.proofs.load as load
 use Rattle.reading.proofs.Decides as reading-decides
+use Rattle.sense.proofs.Decides as sense-decides
 use Rattle.lent.specs.Maker.{Outcome}
 use Rattle.fields.proofs.byte as byte
 use Rattle.fields.proofs.get2 as get2
@@ -325,13 +326,13 @@ pub place-of-decided : Decided place-of.ended (λ M. place-of.clauses) (λ M. pl
 place-of-decided x = decides (x .𝓤) (λ o o′ p q. (joined p q, refl))
 
 pub read-decided : Decided read.ended (λ M. read.clauses) (λ M. read.spec)
-read-decided = reading-decides.read-decided
+read-decided x = decides (x .𝓤) (λ o o′ p q. (joined p q, refl))
 
 pub complete-decided : Decided complete.ended (λ M. complete.clauses) (λ M. complete.spec)
 complete-decided x = decides (x .𝓤) (λ o o′ p q. (joined p q, refl))
 
 pub judge-decided : Decided judge.ended (λ M. judge.clauses) (λ M. judge.spec)
-judge-decided x = decides (x .𝓤) (λ o o′ p q. (joined p q, refl))
+judge-decided = reading-decides.judge-decided
 
 pub held-decided : DecidedAs held.ended (λ M. held.clauses) (λ M. held.spec) (λ κs r. seen r)
 held-decided = reading-decides.held-decided
@@ -427,7 +428,7 @@ rom-respond-decided x = decides (x .𝓤) (λ o o′ p q. (ap (λ (z : Outcome).
 -- ---- sense
 
 pub sense-make-decided : Decided sense-make.ended (λ M. sense-make.clauses) (λ M. sense-make.spec)
-sense-make-decided x = decides (x .𝓤) (λ o o′ p q. (ap (λ (z : Outcome). z .made) (joined p q), refl & ap (λ (z : Outcome). z .buffer) (joined p q) & refl))
+sense-make-decided = sense-decides.make-decided
 
 pub sense-read-decided : Decided sense-read.ended (λ M. sense-read.clauses) (λ M. sense-read.spec)
 sense-read-decided x = decides (x .𝓤) (λ o o′ p q. (heard-injective (o .0) (o′ .0) (joined p q), refl))

@@ -5,3 +5,4 @@ pub mod Making
 pub mod Tried
 pub mod RoundTrip
 pub mod Cases
+pub mod Decides
