@@ -1,9 +1,7 @@
-// Compares what no other test can, since it is exported by no function or is a line of the paper without a star: the two longest responses, and each step of a sweep
-// whose record is lent, a line each of standard input. tests/cases compares all else over the exported functions.
-ghost use Prim.Native.Nat.{_<_};
+// Compares what no other test can, since no function exports it: each step of a sweep whose record is lent, a line each of standard input. tests/cases compares all
+// else over the exported functions.
 ghost use mathlib.Core.Path.{_≡_};
 ghost use Rattle.sweep.specs.Sweep.{turn, stepped};
-use layout::Layout;
 use libc::STDIN_FILENO;
 use libc::STDOUT_FILENO;
 use sweep::Step;
@@ -42,122 +40,6 @@ fn agreeing(a: &[u8], b: &[u8]) -> usize {
 // Whether as many bytes of b as a has are those of a.
 fn same(a: &[u8], b: &[u8]) -> bool {
     agreeing(a, b) == a.len()
-}
-
-// ---- 'Full length 65,532 is sent whole at A 65,535; 65,536 is sent as 65,534.'
-
-// So many equal bytes, as far as there is room.
-fn repeat(out: &mut [u8], from: usize, byte: u8, count: u64) -> usize {
-    let mut at = from;
-    let mut i: u64 = 0;
-    while i < count {
-        if out.len() <= at {
-            return at;
-        }
-        out[at] = byte;
-        at += 1;
-        i += 1;
-    }
-    at
-}
-
-// A sheet of 273 features, each with a body of 236 bytes, its number's low byte again and again: number, flags and length of one, as a sheet and a response have them.
-fn put_head(out: &mut [u8], at: usize, number: u16) -> usize {
-    lent::put4(out, at, number as u32 * 65536 + 0x01EC)
-}
-
-// The contents, where the first body stands at this offset.
-fn put_entries(out: &mut [u8], from: usize, bodies: u32) -> usize {
-    let mut at = from;
-    let mut number: u16 = 1;
-    while number < 274 {
-        at = put_head(out, at, number);
-        at = lent::put4(out, at, bodies % 65536 + (number as u32 - 1) * 236);
-        number += 1;
-    }
-    at
-}
-
-// The bodies, with their heads or without.
-fn put_body(out: &mut [u8], at: usize, heads: bool, number: u16) -> usize {
-    let byte = (number % 256) as u8;
-    if !heads {
-        return repeat(out, at, byte, 236);
-    }
-    let body = put_head(out, at, number);
-    repeat(out, body, byte, 236)
-}
-
-fn put_bodies(out: &mut [u8], from: usize, heads: bool) -> usize {
-    let mut at = from;
-    let mut number: u16 = 1;
-    while number < 274 {
-        at = put_body(out, at, heads, number);
-        number += 1;
-    }
-    at
-}
-
-// The profiles: one that is not current, or none.
-fn put_profiles(out: &mut [u8], at: usize, one: bool) -> usize {
-    if one {
-        return lent::put4(out, at, 0x00050000);
-    }
-    at
-}
-
-// How many bytes the profiles have.
-fn profiles(one: bool) -> u32
-    ensures { λ r. ⌜ r < 8 ⌝ }
-{
-    if one {
-        return 4;
-    }
-    0
-}
-
-// The sheet, with one profile or none.
-fn put_sheet(out: &mut [u8], one: bool) -> usize {
-    let bytes = profiles(one);
-    let contents = lent::put4(out, 0, 0x01110000 + bytes / 4);
-    let list = put_entries(out, contents, 2188 + bytes);
-    let bodies = put_profiles(out, list, one);
-    put_bodies(out, bodies, false)
-}
-
-// Its full response to RT 0 from 0, which has 65,532 bytes, or 65,536 with a profile.
-fn put_response(out: &mut [u8], one: bool) -> usize {
-    let bytes = profiles(one);
-    let rest = lent::put4(out, 0, 65528 + bytes);
-    let zero = lent::put4(out, rest, 0);
-    let list = lent::put4(out, zero, 0x00000300 + bytes);
-    let behind = put_profiles(out, list, one);
-    put_bodies(out, behind, true)
-}
-
-// Whether the response at A 65,535 has so many bytes, which are those of the full response, and nothing behind them is changed.
-fn sent_whole(one: bool, count: usize) -> bool {
-    let mut sheet = [0u8; 66700];
-    let mut want = [0xEEu8; 65600];
-    let mut got = [0xEEu8; 65600];
-    let length = put_sheet(&mut sheet, one);
-    put_response(&mut want, one);
-    repeat(&mut want, count, 0xEE, 65600);
-    let command = *b"\x46\x00\x00\x00\x00\x00\x00\xFF\xFF\x00";
-    let reply = responder::respond(
-        Layout::Rows,
-        fields::part(&sheet, 0, length),
-        &command,
-        &mut got,
-    );
-    let refusal = reply.refusal;
-    if refusal.number != 0 {
-        return false;
-    }
-    if reply.count != count {
-        return false;
-    }
-    same(&want, &got)
 }
 
 // ---- a sweep whose record is lent
@@ -345,8 +227,6 @@ fn lines(s: &[u8]) {
 
 fn main() {
     let mut input = [0u8; 8192];
-    say_case(b"full length 65,532 at A 65,535 ", sent_whole(false, 65532));
-    say_case(b"full length 65,536 at A 65,535 ", sent_whole(true, 65534));
     let received = io::read_full(STDIN_FILENO, &mut input);
     lines(&input[..received]);
 }
