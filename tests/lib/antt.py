@@ -1,4 +1,5 @@
 """The declarations of the .antt files: their names, statements and fields, and to which file a name leads through the `use` lines."""
+import functools
 import re
 from pathlib import Path
 from typing import NamedTuple
@@ -113,10 +114,16 @@ def declared(file, lines, sections):
 @kept
 def declarations(file):
     """A file's declarations by their names."""
-    lines = [COMMENT.sub("", line).rstrip() for line in text_of(file).splitlines()]
+    return declarations_in(file, text_of(file))
+
+
+@functools.lru_cache(maxsize=None)
+def declarations_in(file, text):
+    lines = [COMMENT.sub("", line).rstrip() for line in text.splitlines()]
     return {one.name: one for one in declared(file, lines, ())}
 
 
+@kept
 def file_of(module):
     """The file that a module's name says, or nothing where the toolchain makes it or the kit has it."""
     parts = re.match(r"Rattle·([a-z_0-9]+)(?:·\w+)?\.((?:specs|proofs)\.\S+)$", module)
@@ -127,8 +134,13 @@ def file_of(module):
 @kept
 def imports(file):
     """What the `use` lines of an .antt file or, with `ghost`, of a source bring: names, each with its module and its name there, and modules by another name."""
+    return imports_in(text_of(file))
+
+
+@functools.lru_cache(maxsize=None)
+def imports_in(text):
     names, modules = {}, {}
-    for line in re.findall(r"^ *(?:ghost )?use ([^\n;]+)", text_of(file), re.M):
+    for line in re.findall(r"^ *(?:ghost )?use ([^\n;]+)", text, re.M):
         if "{" in line:
             module, listed = line.split(".{", 1)
             for part in listed.rsplit("}", 1)[0].split(","):

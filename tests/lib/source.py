@@ -1,4 +1,5 @@
 """The functions of the sources: what each is called, its parameters, whether it is public, and what it asks of its caller."""
+import functools
 import re
 from typing import NamedTuple, Optional
 
@@ -49,6 +50,11 @@ def contract_after(lines, at):
 
 def split_at(text, mark):
     """A text's parts between a mark that stands inside no bracket."""
+    return list(parts_between(text, mark))
+
+
+@functools.lru_cache(maxsize=None)
+def parts_between(text, mark):
     parts, depth, start, at = [], 0, 0, 0
     while at < len(text):
         if text[at] in "([{⟨":
@@ -61,7 +67,7 @@ def split_at(text, mark):
             start = at
             continue
         at += 1
-    return [part.strip() for part in parts + [text[start:]]]
+    return tuple(part.strip() for part in parts + [text[start:]])
 
 
 def inside(text, at):
@@ -163,6 +169,7 @@ def leaves(prefix, path):
     return {(renamed.strip() or whole.split("::")[-1]): whole}
 
 
+@functools.lru_cache(maxsize=None)
 def calls(source, crate, modules):
     """The paths that a source names with a call or hands on, resolved through its `use` lines, and the methods that it calls. A `*` brings every name of its module."""
     code = re.sub(r"\s*::\s*", "::", LINE_COMMENT.sub("", source))
@@ -201,7 +208,7 @@ def followed(path):
 
 def called_by(function, file, crate):
     """Whether a source calls a function, by its path, by a name that a `use` line gives it, unqualified in its own crate, or as a method."""
-    modules = ["", *(f"{name}::" for name in re.findall(r"^(?:pub )?mod (\w+);", text_of(file), re.M))] if crate == function.crate else []
+    modules = ("", *(f"{name}::" for name in re.findall(r"^(?:pub )?mod (\w+);", text_of(file), re.M))) if crate == function.crate else ()
     paths, methods = calls(text_of(file), crate, modules)
     return function.path in {followed(path) for path in paths} or (is_method(function) and function.path.split("::")[-1] in methods)
 
