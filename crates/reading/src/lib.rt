@@ -48,7 +48,10 @@ enum Head {
 
 // The walk over the descriptors: a refusal and the place of the descriptor, or how many are whole, the place behind the last and its number.
 enum Walk {
-    Refused { fault: Refusal, at: usize },
+    Refused {
+        fault: Refusal,
+        at: usize,
+    },
     Whole {
         count: u32,
         end: usize,
