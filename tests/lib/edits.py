@@ -57,7 +57,7 @@ class Edit:
         texts, code, other = {}, [], set()
         for answers, pairs in self.groups:
             changes = [self.change(texts, *pair) for pair in pairs]
-            if all(change == "code" for change in changes) and not any(what.startswith("a contract") for _, _, what in answers):
+            if set(changes) == {"code"} and not any(what.startswith("a contract") for _, _, what in answers):
                 code += [(about, f"{self.crate}::{place.split('/')[0]}") for about, place, _ in answers]
             else:
                 other.update(about for about, _, _ in answers)
@@ -65,7 +65,8 @@ class Edit:
 
     def change(self, texts, file, old, new):
         """What a replacement changes, after those before it: code, or something that the code is held against."""
-        text = texts.get(file) or text_of(f"crates/{self.crate}/{file}")
+        where = f"crates/{self.crate}/{file}"
+        text = texts.get(file) or (text_of(where) if exists(where) else "")
         line = text[:text.find(old)].count("\n")
         texts[file] = text.replace(old, new, 1)
         return "code" if file.startswith("src/") and line not in promising(text) else "promise"
@@ -78,21 +79,36 @@ class Edit:
 HEAD = re.compile(r"# ([\w:]+)(?:, in ([\w:/-]+))?: (.+)$")
 
 
+def parsed(lines):
+    """What an edit's lines say, in order: the head of a wrong answer, or a replacement, a triple of file, old text and new text."""
+    file, old = None, None
+    for line in lines:
+        if head := HEAD.match(line):
+            yield head, None
+        elif line.startswith("file: "):
+            file = line.removeprefix("file: ")
+        elif line.startswith("old: "):
+            old = line.removeprefix("old: ")
+        elif line.startswith("new:"):
+            yield None, (file, old, line.removeprefix("new:").removeprefix(" "))
+
+
+def replacements(lines):
+    return [pair for _, pair in parsed(lines) if pair]
+
+
 def groups(lines):
     """The wrong answers of an edit's lines, each a function, a place and what is wrong, with the replacements that make them: heads that follow each other have
     theirs together."""
-    found, start = [], 0
-    for at, line in enumerate(lines):
-        if not (head := HEAD.match(line)):
-            continue
-        about, place, what = head.groups()
-        if not found or any(line.startswith("new:") for line in lines[start:at]):
-            found.append(([], at))
-            start = at
-        found[-1][0].append((about, place or about.split("::", 1)[-1], what))
-    files = [f"file: {file}" for file in [""] + [line.removeprefix("file: ") for line in lines if line.startswith("file: ")]]
-    ends = [at for _, at in found[1:]] + [len(lines)]
-    return [(answers, replacements([files[sum(line.startswith("file: ") for line in lines[:at])], *lines[at:end]])) for (answers, at), end in zip(found, ends)]
+    found = []
+    for head, pair in parsed(lines):
+        if head and (not found or found[-1][1]):
+            found.append(([], []))
+        if head:
+            found[-1][0].append((head[1], head[2] or head[1].split("::", 1)[-1], head[3]))
+        elif found:
+            found[-1][1].append(pair)
+    return found
 
 
 def promising(text):
@@ -104,19 +120,6 @@ def promising(text):
             found.add(at)
         inside = inside and not line.startswith("ghost use ")
     return found
-
-
-def replacements(lines):
-    """The triples of file, old text and new text of an edit's lines."""
-    pairs, file, old = [], None, None
-    for line in lines:
-        if line.startswith("file: "):
-            file = line.removeprefix("file: ")
-        elif line.startswith("old: "):
-            old = line.removeprefix("old: ")
-        elif line.startswith("new:"):
-            pairs.append((file, old, line.removeprefix("new:").removeprefix(" ")))
-    return pairs
 
 
 def replaced(pairs, folder):
