@@ -364,8 +364,8 @@ pub extern "C" fn gcf_stops(
     ensures { λ r. ⌜ left r tt (now (numbers .exit)) ≡ showStop (stopped most rt (sfn .0) (now (response .entry))) (now (numbers .entry)) ⌝ }
 {
     let stop = reading::stops(most, rt, sfn, response);
-    let feature = stop.feature;
-    tell(numbers, 0, feature.0 as u64);
+    let found = stop.feature;
+    tell(numbers, 0, found.0 as u64);
     stop.at
 }
 
