@@ -128,7 +128,7 @@ def functions_of(crate):
     root = f"crates/{crate}/src/" + ("lib.rt" if is_library(crate) else "main.rt")
     found = functions_of_file(crate, root, [crate], crate in libraries())
     for public, name in re.findall(r"^(pub )?mod (\w+);", text_of(root), re.M):
-        found += functions_of_file(crate, f"crates/{crate}/src/{name}.rt", [crate, name], bool(public))
+        found += functions_of_file(crate, f"crates/{crate}/src/{name}.rt", [crate, name], bool(public) and crate in libraries())
     return found
 
 

@@ -46,11 +46,11 @@ fn answer_of(
 
 fn answer_command(sheet: &[u8], command: &[u8]) {
     let mut response = [0u8; Header::RETURN_LIMIT];
-    let lay = told::layout_given(COLUMNS);
+    let lay = sheets::layout_given(COLUMNS);
     let reply = answer_of(lay, sheet, command, &mut response);
     let refusal = reply.refusal;
     if refusal.number != 0 {
-        told::say_sheet_refused(refusal, lay, sheet);
+        sheets::say_refused(refusal, lay, sheet);
         return;
     }
     let count = reply.count;
@@ -79,7 +79,7 @@ fn answer_input(input: &mut [u8]) {
     }
     let count = got.count;
     if count > MOST {
-        told::say_sheet_too_long();
+        sheets::say_too_long();
         return;
     }
     answer(&input[..count]);

@@ -1,7 +1,8 @@
 // Reads a response from standard input and says in words what is wrong with its descriptors, and whether it has what a profile requires: the
 // one that is asked for, else each listed one that has a table. The archive subset, 0000h, is judged only where it is asked for. Of a response that is refused it says
-// only why. Arguments: RT, starting feature number, allocation length (`asked`), profile, whether hexadecimal text is read, and whether padding is trimmed.
+// only why. Arguments: RT, starting feature number, allocation length (`asked`), profile, whether hexadecimal text is read, whether padding is trimmed, and whether all faults are said.
 use checks::Finding;
+use checks::rules;
 use libc::STDOUT_FILENO;
 use needs::Judgement;
 use needs::Wrong;
@@ -16,6 +17,9 @@ const ROOM: usize = Header::RETURN_LIMIT + 1;
 
 // The argument that says whether hexadecimal text is read.
 const HEX: usize = 5;
+
+// The argument that says whether all faults are said.
+const ALL: usize = 7;
 
 // ---- words
 
@@ -34,24 +38,116 @@ fn say_profile(profile: Profile) {
 
 // ---- the descriptors
 
-fn say_fault(refusal: Refusal, feature: Feature) {
+// Of 36 and 37: the first byte of a descriptor, counted from its start, that mending changes in the copy, and the highest bit that it clears there.
+fn say_bit(descriptor: &[u8], clean: &[u8]) {
+    let k = strays::first_in(descriptor, clean);
+    say(b": byte ");
+    streams::say_decimal(k as u64);
+    say(b" bit ");
+    streams::say_decimal(strays::bit_in(descriptor, clean, k) as u64);
+}
+
+fn has_bit(number: u8) -> bool {
+    match number {
+        36..=37 => true,
+        _ => false,
+    }
+}
+
+// A fault of the feature whose descriptor stands at a place, or would stand there.
+fn say_fault(refusal: Refusal, feature: Feature, s: &[u8], clean: &[u8], at: usize) {
     streams::mark_fault();
+    say(b"descriptors: ");
     streams::say_decimal(refusal.number as u64);
     say(b" in ");
     say_feature(feature);
+    say(b" at byte ");
+    streams::say_decimal(at as u64);
     say(b": ");
     words::say_meaning(STDOUT_FILENO, refusal);
+    if has_bit(refusal.number) {
+        say_bit(
+            fields::part(s, at, s.len()),
+            fields::part(clean, at, s.len()),
+        );
+    }
     say(b"\n");
 }
 
-fn say_descriptors(finding: Finding) {
-    let refusal = finding.refusal;
-    say(b"descriptors: ");
-    if refusal.number == 0 {
-        say(b"no fault\n");
+// The first fault.
+fn say_first(finding: Finding, s: &[u8], clean: &[u8]) {
+    let feature = finding.feature;
+    say_fault(
+        finding.refusal,
+        feature,
+        s,
+        clean,
+        reading::place_of(feature, s),
+    );
+}
+
+fn reports(feature: Feature, s: &[u8]) -> bool {
+    reading::held(feature, s, s).len() > 0
+}
+
+// 30 of a feature that every response has to report.
+fn say_if_missing(feature: Feature, s: &[u8], clean: &[u8]) {
+    if !reports(feature, s) {
+        say_fault(
+            refusal::CORE_MISSING,
+            feature,
+            s,
+            clean,
+            reading::place_of(feature, s),
+        );
+    }
+}
+
+// The first fault of the descriptor at a place, if it has one.
+fn say_if_fault(removable: bool, s: &[u8], clean: &[u8], at: usize) {
+    let fault = rules::fault_at(removable, s, at);
+    if fault.number != 0 {
+        say_fault(fault, reading::number_at(s, at), s, clean, at);
+    }
+}
+
+// That of every descriptor. There are fewer than bytes.
+fn say_each_fault(removable: bool, s: &[u8], clean: &[u8]) {
+    let mut at = Header::LENGTH;
+    let mut i = 0;
+    while i < s.len() {
+        if s.len() <= at {
+            return;
+        }
+        say_if_fault(removable, s, clean, at);
+        at = reading::next_at(s, at);
+        i += 1;
+    }
+}
+
+fn say_all(s: &[u8], clean: &[u8]) {
+    say_if_missing(Feature(0), s, clean);
+    say_if_missing(Feature(1), s, clean);
+    say_each_fault(reports(Feature(3), s), s, clean);
+}
+
+fn say_faults(finding: Finding, s: &[u8]) {
+    let mut clean = [0u8; ROOM];
+    strays::put_clean(s, &mut clean);
+    if streams::given(ALL) {
+        say_all(s, &clean);
         return;
     }
-    say_fault(refusal, finding.feature);
+    say_first(finding, s, &clean);
+}
+
+fn say_descriptors(finding: Finding, s: &[u8]) {
+    let refusal = finding.refusal;
+    if refusal.number == 0 {
+        say(b"descriptors: no fault\n");
+        return;
+    }
+    say_faults(finding, s);
 }
 
 // ---- the profiles
@@ -67,14 +163,49 @@ fn say_wrong(wrong: Wrong) {
     }
 }
 
-fn say_broken(feature: Feature, wrong: Wrong) {
+fn say_broken(profile: Profile, feature: Feature, wrong: Wrong) {
     streams::mark_fault();
+    say_profile(profile);
+    say(b": ");
     say_feature(feature);
     say_wrong(wrong);
 }
 
-fn say_refused(refusal: Refusal) {
+// A line for a feature if it breaks a profile.
+fn say_if_broken(profile: Profile, feature: Feature, s: &[u8]) {
+    let judgement = needs::check_feature(profile, feature, s);
+    if let Judgement::Broken(broken, wrong) = judgement {
+        say_broken(profile, broken, wrong);
+    }
+}
+
+// A line for each feature from one on that breaks it.
+fn say_each_broken(profile: Profile, first: Feature, s: &[u8]) {
+    let mut number = first.0 as u32;
+    while number < 65536 {
+        say_if_broken(profile, Feature((number % 65536) as u16), s);
+        number += 1;
+    }
+}
+
+// The lowest feature that breaks it, or where all are wanted each of them.
+fn say_breaks(profile: Profile, feature: Feature, wrong: Wrong, s: &[u8]) {
+    if streams::given(ALL) {
+        say_each_broken(profile, feature, s);
+        return;
+    }
+    say_broken(profile, feature, wrong);
+}
+
+fn say_conforms(profile: Profile) {
+    say_profile(profile);
+    say(b": conforms\n");
+}
+
+fn say_refused(profile: Profile, refusal: Refusal) {
     streams::mark_fault();
+    say_profile(profile);
+    say(b": ");
     streams::say_decimal(refusal.number as u64);
     say(b": ");
     words::say_meaning(STDOUT_FILENO, refusal);
@@ -82,13 +213,11 @@ fn say_refused(refusal: Refusal) {
 }
 
 fn say_judged(profile: Profile, s: &[u8]) {
-    say_profile(profile);
-    say(b": ");
     let judgement = needs::check_profile(profile, s);
     match judgement {
-        Judgement::Conforms => say(b"conforms\n"),
-        Judgement::Broken(feature, wrong) => say_broken(feature, wrong),
-        Judgement::Refused(refusal) => say_refused(refusal),
+        Judgement::Conforms => say_conforms(profile),
+        Judgement::Broken(feature, wrong) => say_breaks(profile, feature, wrong, s),
+        Judgement::Refused(refusal) => say_refused(profile, refusal),
     }
 }
 
@@ -183,7 +312,7 @@ fn check(s: &[u8]) {
         dumps::hint(HEX, s);
         return;
     }
-    say_descriptors(finding);
+    say_descriptors(finding, s);
     say_profiles(s);
 }
 

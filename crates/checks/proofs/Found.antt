@@ -211,7 +211,7 @@ module _ (ds : List Desc) (d : Desc) where
           rw (if-yes accept _ (newer (d .flags)) e) (kept (λ v. absurd (no v)) (kept (λ v. absurd (no v)) (kept (λ v. absurd (no v)) refl)))
       go false e = rw (if-no accept _ (newer (d .flags)) e) (looked-breaks (of-version (d .flags) e))
 
-  desc-breaks : Breaks ds d (descFault (reported 3 ds) d .number)
+  pub desc-breaks : Breaks ds d (descFault (reported 3 ds) d .number)
   unfolding descFault flagsFault flagsGiving rowRule
   desc-breaks =
       subst (λ (r : Refusal). Breaks ds d (r .number)) (sym (orElse-assoc _ _ _))

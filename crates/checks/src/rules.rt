@@ -327,8 +327,8 @@ fn desc_fault(removable: bool, f: Feature, flags: Flags, body: &[u8]) -> Refusal
     body_fault(row, f, flags, body)
 }
 
-// The first fault of the descriptor at a place.
-fn fault_at(removable: bool, s: &[u8], at: usize) -> Refusal
+// The first fault of the descriptor at a place, whatever the others have.
+pub fn fault_at(removable: bool, s: &[u8], at: usize) -> Refusal
     ensures { λ r. ⌜ r ≡ descFault removable (descAt (now (s .entry)) at) ⌝ }
 {
     let f = reading::number_at(s, at);

@@ -37,11 +37,11 @@ fn other(lay: Layout) -> Layout {
 }
 
 fn convert_sheet(sheet: &[u8], out: &mut [u8]) {
-    let lay = told::layout_given(1);
+    let lay = sheets::layout_given(1);
     let made = laid_out(other(lay), lay, sheet, out);
     let refusal = made.refusal;
     if refusal.number != 0 {
-        told::say_sheet_refused(refusal, lay, sheet);
+        sheets::say_refused(refusal, lay, sheet);
         return;
     }
     let count = made.count;
@@ -55,7 +55,7 @@ fn convert_input(input: &mut [u8], out: &mut [u8]) {
     }
     let count = got.count;
     if count > MOST {
-        told::say_sheet_too_long();
+        sheets::say_too_long();
         return;
     }
     convert_sheet(&input[..count], out);

@@ -81,10 +81,12 @@ use Rattle.bench.proofs.bench as bench
 use Rattle.checks.proofs.legal.row_of as legal-row-of
 use Rattle.checks.proofs.rules.wrong_length as rules-wrong-length
 use Rattle.checks.proofs.rules.reserved_fault as rules-reserved-fault
+use Rattle.checks.proofs.rules.fault_at as rules-fault-at
 use Rattle.checks.proofs.rules.cue_fault as rules-cue-fault
 use Rattle.checks.proofs.check_descriptors as check-descriptors
 use Rattle.needs.proofs.Wrong.number as wrong-number
 use Rattle.needs.proofs.check_profile as check-profile
+use Rattle.needs.proofs.check_feature as check-feature
 use Rattle.needs.proofs.Judgements.{said-injective}
 use Rattle.mend.specs.Mend as mend-specs
 use Rattle.mend.proofs.mend as mend
@@ -387,6 +389,9 @@ wrong-number-decided x = decides (x .𝓤) (λ o o′ p q. (joined p q, refl))
 pub check-profile-decided : Decided check-profile.ended (λ M. check-profile.clauses) (λ M. check-profile.spec)
 check-profile-decided x = decides (x .𝓤) (λ o o′ p q. (said-injective (o .0) (o′ .0) (joined p q), refl))
 
+pub check-feature-decided : Decided check-feature.ended (λ M. check-feature.clauses) (λ M. check-feature.spec)
+check-feature-decided x = decides (x .𝓤) (λ o o′ p q. (said-injective (o .0) (o′ .0) (joined p q), refl))
+
 -- what the mender shares with it
 
 pub legal-row-of-decided : Decided legal-row-of.ended (λ M. legal-row-of.clauses) (λ M. legal-row-of.spec)
@@ -397,6 +402,9 @@ rules-wrong-length-decided x = decides (x .𝓤) (λ o o′ p q. (joined p q, re
 
 pub rules-reserved-fault-decided : Decided rules-reserved-fault.ended (λ M. rules-reserved-fault.clauses) (λ M. rules-reserved-fault.spec)
 rules-reserved-fault-decided x = decides (x .𝓤) (λ o o′ p q. (joined p q, refl))
+
+pub rules-fault-at-decided : Decided rules-fault-at.ended (λ M. rules-fault-at.clauses) (λ M. rules-fault-at.spec)
+rules-fault-at-decided x = decides (x .𝓤) (λ o o′ p q. (joined p q, refl))
 
 pub rules-cue-fault-decided : Decided rules-cue-fault.ended (λ M. rules-cue-fault.clauses) (λ M. rules-cue-fault.spec)
 rules-cue-fault-decided x = decides (x .𝓤) (λ o o′ p q. (joined p q, refl))

@@ -2,6 +2,9 @@
 -- the demand says. The arguments have the names of the function's head (Named.antt), r is the result, and a name with a prime what stands there at exit.
 -- The functions below these are tied in Ground.antt, the exported ones in Exported.antt. Assumes nothing.
 use mathlib.Core.Path.{_≡_}
+use mathlib.Core.Path.{sym, ap, subst, _∙_}
+use mathlib.Core.Bool.{Bool}
+use mathlib.Core.List.{List}
 use Prim.Native.Nat.{min}
 use denote.Ref.{now}
 use Rattle.base.proofs.Promise.{Promised, promises, by}
@@ -37,9 +40,18 @@ use Rattle.sweep.specs.Sweep.{step, turn}
 use Rattle.bench.specs.Bench as bench-specs
 use Rattle.bench.proofs.bench as bench
 use Rattle.needs.specs.Judge.{said}
+use Rattle.refusal.specs.declared.Refusal.{Refusal}
+use Rattle.text.specs.Drive.{Desc}
+use Rattle.text.specs.Reading.{descAt}
+use Rattle.checks.specs.Rules.{descFault}
+use Rattle.checks.specs.Check.{reported}
+use Rattle.checks.proofs.Found.{Breaks, desc-breaks}
 use Rattle.checks.proofs.check_descriptors as check-descriptors
+use Rattle.checks.proofs.rules.fault_at as rules-fault-at
 use Rattle.needs.proofs.Wrong.number as wrong-number
 use Rattle.needs.proofs.check_profile as check-profile
+use Rattle.needs.proofs.check_feature as check-feature
+use Rattle.needs.proofs.Singly.{Judged, judged-so}
 use Rattle.capture.proofs.check as capture-check
 use Rattle.import.proofs.import as import
 use Rattle.sense.specs.Sense.{heard}
@@ -154,11 +166,22 @@ bench-tied x = promises (x .𝓤) (λ o. by (Benches _ _ _ _) (benches _ _ _ _))
 pub check-descriptors-tied : Promised check-descriptors.ended (λ M. check-descriptors.clauses) (λ M. check-descriptors.spec) (named (λ _ s r _. Finds (now s) r))
 check-descriptors-tied x = promises (x .𝓤) (λ o. by (Finds _) (finds _))
 
+-- of one descriptor, whatever the others are: the first rule that it breaks among any descriptors that have 0003h or not, as the call says
+fault-breaks : (removable : Bool) (d : Desc) (r : Refusal) → r ≡ descFault removable d → (ds : List Desc) → reported 3 ds ≡ removable → Breaks ds d (r .number)
+fault-breaks removable d r e ds q = subst (λ (k : Refusal). Breaks ds d (k .number)) (ap (λ (b : Bool). descFault b d) q ∙ sym e) (desc-breaks ds d)
+
+pub rules-fault-at-tied : Promised rules-fault-at.ended (λ M. rules-fault-at.clauses) (λ M. rules-fault-at.spec)
+    (named (λ _ removable s at r _ _ _. (ds : List Desc) → reported 3 ds ≡ removable → Breaks ds (descAt (now s) at) (r .number)))
+rules-fault-at-tied x = promises (x .𝓤) (λ o e. fault-breaks _ _ _ e)
+
 pub wrong-number-tied : Promised wrong-number.ended (λ M. wrong-number.clauses) (λ M. wrong-number.spec) (named (λ _ self r _. Tells self r))
 wrong-number-tied x = promises (x .𝓤) (λ o. by (Tells _) (tells _))
 
 pub check-profile-tied : Promised check-profile.ended (λ M. check-profile.clauses) (λ M. check-profile.spec) (named (λ _ profile s r _ _. Judges (profile .0) (now s) (said r)))
 check-profile-tied x = promises (x .𝓤) (λ o. by (Judges _ _) (judges _ _))
+
+pub check-feature-tied : Promised check-feature.ended (λ M. check-feature.clauses) (λ M. check-feature.spec) (named (λ _ profile feature s r _ _ _. Judged (profile .0) (feature .0) (now s) (said r)))
+check-feature-tied x = promises (x .𝓤) (λ o. by (Judged _ _ _) (judged-so _ _ _))
 
 -- ---- capture and import
 

@@ -1,5 +1,6 @@
-// What a refusal of a response means in words, where its number has more than one ground: the words know the RT and the start of the command, the most bytes that it let through,
-// and the response.
+// What a refusal of a response means in words, and where it stands: the byte, and the feature there. Where a number has more than one ground, the words know the RT and the start
+// of the command, the most bytes that it let through, and the response.
+use reading::Stop;
 use refusal::Refusal;
 use text::Feature;
 use text::Header;
@@ -35,34 +36,6 @@ fn say_cut_short(fd: i32, most: usize) {
 
 // ---- 18: a feature number is not one that may stand there
 
-// Whether a number may not stand where the lowest that may is `low`.
-fn is_out(rt: u8, start: u16, low: u32, number: u16) -> bool {
-    if (number as u32) < low {
-        return true;
-    }
-    if rt != 2 {
-        return false;
-    }
-    number != start
-}
-
-// The place of the first descriptor whose number may not stand there.
-fn place_of(rt: u8, start: u16, s: &[u8]) -> usize {
-    let mut at = Header::LENGTH;
-    let mut low = start as u32;
-    let mut i = 0;
-    while i < s.len() {
-        let number = reading::number_at(s, at);
-        if is_out(rt, start, low, number.0) {
-            return at;
-        }
-        low = number.0 as u32 + 1;
-        at = reading::next_at(s, at);
-        i += 1;
-    }
-    at
-}
-
 fn say_feature(fd: i32, number: u16) {
     say(fd, b"feature ");
     words::say_hex4(fd, number);
@@ -91,17 +64,16 @@ fn say_number(fd: i32, rt: u8, start: u16, at: usize, number: u16) {
         say_first(fd, rt, start, number);
         return;
     }
-    if is_out(rt, start, 0, number) {
+    if rt == 2 {
         say_further(fd, start, number);
         return;
     }
     words::say_meaning(fd, refusal::FEATURE_BAD);
 }
 
-fn say_order(fd: i32, rt: u8, start: u16, s: &[u8]) {
-    let at = place_of(rt, start, s);
-    let number = reading::number_at(s, at);
-    say_number(fd, rt, start, at, number.0);
+fn say_order(fd: i32, rt: u8, start: Feature, stop: Stop) {
+    let number = stop.feature;
+    say_number(fd, rt, start.0, stop.at, number.0);
 }
 
 // ---- the words
@@ -111,17 +83,64 @@ pub fn say_meaning(fd: i32, rt: u8, start: Feature, most: usize, refusal: Refusa
     let number = refusal.number;
     match number {
         16 => say_too_long(fd, most, s),
-        18 => say_order(fd, rt, start.0, s),
+        18 => say_order(fd, rt, start, reading::stops(most, rt, start, s)),
         28 => say_cut_short(fd, most),
         _ => words::say_meaning(fd, refusal),
     }
 }
 
-// Says `refused`, the number and what it means.
-pub fn say_refused(fd: i32, rt: u8, start: Feature, most: usize, refusal: Refusal, s: &[u8]) {
-    say(fd, b"refused ");
+// ---- where
+
+// Whether a refusal stands where the reading stops: at the descriptor at fault, with 23 and 27 to 29 at the first one that is not whole.
+fn has_place(number: u8) -> bool {
+    match number {
+        17..=20 => true,
+        23 => true,
+        27..=29 => true,
+        _ => false,
+    }
+}
+
+// Whether the four header bytes of a descriptor at a place were received, so that a feature stands there.
+pub fn is_headed(at: usize, received: usize) -> bool {
+    if received < 4 {
+        return false;
+    }
+    at <= received - 4
+}
+
+fn say_place(fd: i32, stop: Stop, received: usize) {
+    let at = stop.at;
+    let feature = stop.feature;
+    say(fd, b" at byte ");
+    streams::say_decimal_to(fd, at as u64);
+    if is_headed(at, received) {
+        say(fd, b", feature ");
+        words::say_hex4(fd, feature.0);
+        say(fd, b"h");
+    }
+}
+
+// Says the number of a refusal, where it stands, and what it means.
+fn say_found(fd: i32, rt: u8, start: Feature, most: usize, refusal: Refusal, s: &[u8]) {
     streams::say_decimal_to(fd, refusal.number as u64);
+    if has_place(refusal.number) {
+        say_place(fd, reading::stops(most, rt, start, s), s.len());
+    }
     say(fd, b": ");
     say_meaning(fd, rt, start, most, refusal, s);
     say(fd, b"\n");
+}
+
+// The same behind `refused`.
+pub fn say_refused(fd: i32, rt: u8, start: Feature, most: usize, refusal: Refusal, s: &[u8]) {
+    say(fd, b"refused ");
+    say_found(fd, rt, start, most, refusal, s);
+}
+
+// The same of a refusal that stands at a place, and nothing of any other.
+pub fn say_placed(fd: i32, rt: u8, start: Feature, most: usize, refusal: Refusal, s: &[u8]) {
+    if has_place(refusal.number) {
+        say_found(fd, rt, start, most, refusal, s);
+    }
 }

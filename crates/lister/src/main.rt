@@ -4,6 +4,7 @@ ghost use mathlib.Core.Path.{_≡_};
 ghost use lib.ListN.{take};
 ghost use Rattle.io.specs.Counts.{Counts};
 ghost use Rattle.listing.specs.Listing.{listing};
+use libc::STDERR_FILENO;
 use text::Header;
 
 // One byte more than a response may have: an input that fills it is refused, not shortened.
@@ -20,6 +21,20 @@ fn listed(s: &[u8], text: &mut [u8; listing::LONGEST]) -> usize
     listing::list(s, text)
 }
 
+// What is said on standard error of a response that is refused: where it is at fault, and what it may be.
+fn say_more(s: &[u8]) {
+    streams::mark_fault();
+    grounds::say_placed(
+        STDERR_FILENO,
+        asked::rt(),
+        asked::from(),
+        asked::most(),
+        asked::fault(s),
+        s,
+    );
+    dumps::hint(HEX, s);
+}
+
 // A listing of a response that is read as RT 0 from 0, or the refusal of that reading, which alone begins with a small letter. What a reading of another RT or start
 // accepts, that of RT 0 from 0 accepts too, with the same values.
 fn say_listed(s: &[u8]) {
@@ -27,13 +42,11 @@ fn say_listed(s: &[u8]) {
     let count = listed(s, &mut text);
     streams::say(&text[..count]);
     if text[0] == b'r' {
-        streams::mark_fault();
-        dumps::hint(HEX, s);
+        say_more(s);
     }
 }
 
 fn say_refused(number: u8) {
-    streams::mark_fault();
     streams::say(b"refused ");
     streams::say_decimal(number as u64);
     streams::say(b"\n");
@@ -43,7 +56,7 @@ fn say_asked(s: &[u8]) {
     let fault = asked::fault(s);
     if fault.number != 0 {
         say_refused(fault.number);
-        dumps::hint(HEX, s);
+        say_more(s);
         return;
     }
     say_listed(s);

@@ -124,7 +124,7 @@ fn say_fault(refusal: Refusal, lay: Layout, sheet: &[u8], features: &[u16], prof
 // A refusal of a list, with the number at fault, or one of the sheet, with its line.
 fn say_refused(refusal: Refusal, lay: Layout, sheet: &[u8], features: &[u16], profiles: &[u16]) {
     if refusal.number < refusal::LIST_ORDER.number {
-        told::say_sheet_refused(refusal, lay, sheet);
+        sheets::say_refused(refusal, lay, sheet);
         return;
     }
     streams::mark_fault();
@@ -166,7 +166,7 @@ fn take_lists(lists: &mut [u16]) -> usize
 
 fn load_listed(sheet: &[u8], lists: &[u16], out: &mut [u8]) {
     let features = streams::arg(2) as usize;
-    let lay = told::layout_given(1);
+    let lay = sheets::layout_given(1);
     if lists.len() < features {
         return;
     }
@@ -180,7 +180,7 @@ fn load_input(input: &mut [u8], lists: &mut [u16], out: &mut [u8]) {
     }
     let count = got.count;
     if count > MOST {
-        told::say_sheet_too_long();
+        sheets::say_too_long();
         return;
     }
     let listed = take_lists(lists);

@@ -72,15 +72,6 @@ fn change_in(s: &[u8], noted: u32) -> Change {
 
 // ---- in words
 
-fn digit(d: u8) -> u8 {
-    let digits = *b"0123456789ABCDEF";
-    digits[(d % 16) as usize]
-}
-
-fn say_byte(b: u8) {
-    say(&[digit(b / 16), digit(b)]);
-}
-
 fn is_cue_length(change: Change) -> bool {
     if change.feature.0 != 0x002E {
         return false;
@@ -112,9 +103,9 @@ fn say_words(change: Change) {
     say(b", ");
     say_field(change);
     say(b": ");
-    say_byte(change.old);
+    words::say_byte(STDOUT_FILENO, change.old);
     say(b"h becomes ");
-    say_byte(change.new);
+    words::say_byte(STDOUT_FILENO, change.new);
     say(b"h\n");
 }
 
@@ -127,9 +118,9 @@ fn say_line(change: Change) {
     say(b" ");
     say_decimal(change.byte as u64);
     say(b" ");
-    say_byte(change.old);
+    words::say_byte(STDOUT_FILENO, change.old);
     say(b" ");
-    say_byte(change.new);
+    words::say_byte(STDOUT_FILENO, change.new);
     say(b"\n");
 }
 
@@ -166,7 +157,14 @@ fn say_count(count: usize) {
 
 fn say_refused(refusal: Refusal, s: &[u8]) {
     streams::mark_fault();
-    words::say_refused(STDERR_FILENO, refusal, 0, 0);
+    grounds::say_refused(
+        STDERR_FILENO,
+        0,
+        Feature(0),
+        Header::RETURN_LIMIT,
+        refusal,
+        s,
+    );
     dumps::hint(HEX, s);
 }
 

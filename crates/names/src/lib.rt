@@ -1,4 +1,8 @@
-// The names of features, profiles and values, in words: one table of each, a line for each number, in hexadecimal.
+// The names of features, profiles and values, in words: one table of each, a line for each number, in hexadecimal. Beside them the fields of the bodies, and the forms in which
+// words and JSON are said.
+pub mod bodies;
+pub mod forms;
+
 use streams::say;
 
 // Says what a table has for a number, or what is said where it has nothing.
@@ -11,7 +15,7 @@ fn say_named(table: &[u8], number: u32, otherwise: &[u8]) {
     say(name);
 }
 
-// Features, as Table 6 of document 000 and document 002 name them.
+// Features, as Table 6 of document 000 and document 002 name them, and those that the published MMC has added.
 pub fn say_feature(number: u16) {
     if number >= 0xFF00 {
         say(b"Vendor Unique");
@@ -22,6 +26,7 @@ pub fn say_feature(number: u16) {
         0001 Core\n\
         0002 Morphing\n\
         0003 Removable Medium\n\
+        0004 Write Protect\n\
         0010 Random Readable\n\
         001D MultiRead\n\
         001E CD Read\n\
@@ -33,9 +38,32 @@ pub fn say_feature(number: u16) {
         0024 Defect Management\n\
         0025 Write Once\n\
         0026 Restricted Overwrite\n\
+        0027 CD-RW CAV Write\n\
+        0028 MRW\n\
+        0029 Enhanced Defect Reporting\n\
+        002A DVD+RW\n\
+        002B DVD+R\n\
+        002C Rigid Restricted Overwrite\n\
         002D CD Track at Once\n\
         002E CD Mastering\n\
         002F DVD-R Write\n\
+        0030 Double Density CD Read\n\
+        0031 Double Density CD-R Write\n\
+        0032 Double Density CD-RW Write\n\
+        0033 Layer Jump Recording\n\
+        0034 Layer Jump Rigid Restricted Overwrite\n\
+        0035 Stop Long Operation\n\
+        0037 CD-RW Media Write Support\n\
+        0038 BD-R Pseudo-Overwrite\n\
+        003A DVD+RW Dual Layer\n\
+        003B DVD+R Dual Layer\n\
+        0040 BD Read\n\
+        0041 BD Write\n\
+        0042 Timely Safe Recording\n\
+        0050 HD DVD Read\n\
+        0051 HD DVD Write\n\
+        0052 HD DVD-RW Fragment Recording\n\
+        0080 Hybrid Disc\n\
         0100 Power Management\n\
         0101 S.M.A.R.T.\n\
         0102 Embedded Changer\n\
@@ -44,7 +72,17 @@ pub fn say_feature(number: u16) {
         0105 Time-out\n\
         0106 DVD-CSS\n\
         0107 Real Time Streaming\n\
-        0108 Logical Unit serial number",
+        0108 Logical Unit serial number\n\
+        0109 Media Serial Number\n\
+        010A Disc Control Blocks\n\
+        010B DVD CPRM\n\
+        010C Firmware Information\n\
+        010D AACS\n\
+        010E DVD CSS Managed Recording\n\
+        0110 VCPS\n\
+        0113 SecurDisc\n\
+        0120 BD CPS\n\
+        0142 OSSC",
         number as u32,
         b"no name",
     );

@@ -4,7 +4,9 @@ pub mod Columns
 pub mod Lowest
 pub mod Resumed
 pub mod Judgements
+pub mod Alone
 pub mod Broken
 pub mod Breaks
 pub mod Judged
+pub mod Singly
 pub mod Promised

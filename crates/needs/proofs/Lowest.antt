@@ -11,11 +11,11 @@ use Rattle.base.proofs.Compare.{le-or-lt}
 use Rattle.needs.specs.Judge.{Said, saysConforms, saysBroken, lowestFrom}
 
 module _ (w : ℕ → ℕ) where
-  lowest-past : (f k : ℕ) → w f ≡ 0 → lowestFrom w f (suc k) ≡ lowestFrom w (suc f) k
+  pub lowest-past : (f k : ℕ) → w f ≡ 0 → lowestFrom w f (suc k) ≡ lowestFrom w (suc f) k
   unfolding lowestFrom
   lowest-past f k e = rw (e, lowestFrom)
 
-  lowest-here : (f k v : ℕ) → w f ≡ suc v → lowestFrom w f (suc k) ≡ saysBroken f (suc v)
+  pub lowest-here : (f k v : ℕ) → w f ≡ suc v → lowestFrom w f (suc k) ≡ saysBroken f (suc v)
   unfolding lowestFrom
   lowest-here f k v e = rw (e, lowestFrom)
 

@@ -1,3 +1,4 @@
 pub mod Required
 pub mod Judge
+pub mod Alone
 pub mod inner

@@ -1,7 +1,9 @@
 // What a profile requires of a response to RT 0 from 0: one rule over one table.
 ghost use mathlib.Core.Path.{_≡_};
 ghost use Rattle.needs.specs.Judge.{wrongNumber, said, judged};
+ghost use Rattle.needs.specs.Alone.{judgedOf};
 
+mod one;
 mod table;
 mod walk;
 
@@ -56,4 +58,21 @@ pub fn check_profile(profile: Profile, s: &[u8]) -> Judgement
         return Judgement::Refused(refusal::NO_TABLE);
     }
     table::lowest_broken(column, s)
+}
+
+// Whether one feature of a response is as a profile requires, whatever the others are.
+pub fn check_feature(profile: Profile, feature: Feature, s: &[u8]) -> Judgement
+    ensures { λ r. ⌜ said r ≡ judgedOf (profile .0) (feature .0) (now (s .entry)) ⌝ }
+{
+    let reading = reading::complete(s);
+    let fault = reading.refusal;
+    if fault.number != 0 {
+        return Judgement::Refused(fault);
+    }
+    let column = table::column_of(profile);
+    if column.1 == 0 {
+        let none = refusal::NO_TABLE;
+        return Judgement::Refused(none);
+    }
+    table::judged_one(column, feature, s)
 }

@@ -5,10 +5,11 @@ ghost use mathlib.Core.Bool.{true};
 ghost use Rattle.reading.specs.Places.{descs};
 ghost use Rattle.reading.specs.Completed.{completeFault};
 ghost use Rattle.needs.specs.Required.{required, columnOf};
-ghost use Rattle.needs.specs.Judge.{said, lowest};
+ghost use Rattle.needs.specs.Judge.{said, wrongIn, lowestFrom, lowest};
 ghost use Rattle.needs.specs.inner.Table.{lineRead, columnRead, columnIn};
 ghost use Rattle.needs.specs.inner.Walk.{ascends};
 use super::Judgement;
+use super::one;
 use super::walk;
 use text::Feature;
 use text::Profile;
@@ -108,4 +109,15 @@ pub fn lowest_broken(column: Column, s: &[u8]) -> Judgement
 {
     let rows = LINES;
     walk::lowest_in(&rows[..], column, s)
+}
+
+// A feature of a complete response, by a column.
+// Asks: a response that is accepted and complete, which the reading's numbers and 29 have shown before.
+pub fn judged_one(column: Column, feature: Feature, s: &[u8]) -> Judgement
+    requires { ⌜ completeFault (now s) .number ≡ 0 ⌝ }
+    ensures { λ r. ⌜ said r ≡ lowestFrom (wrongIn required column (descs (now (s .entry)))) (feature .0) 1 ⌝ }
+{
+    let rows = LINES;
+    let need = one::line_in(&rows[..], column.1, feature);
+    one::judged_in(column, need, feature, s)
 }

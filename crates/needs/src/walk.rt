@@ -19,7 +19,7 @@ use text::Flags;
 use text::Header;
 
 // Whether a descriptor is what a line asks for, or what is wrong with it.
-enum Fit {
+pub enum Fit {
     Fits,
     Lacks(Wrong),
 }
@@ -36,7 +36,7 @@ const ANY_LENGTH: u8 = 255;
 // ---- the rules, on numbers
 
 // Whether a line stands in the column with this mark.
-fn is_marked(mark: u8, need: Need) -> bool
+pub fn is_marked(mark: u8, need: Need) -> bool
     ensures { λ r. ⌜ r ≡ marked mark need ⌝ }
 {
     let shared = need.0 & mark;
@@ -86,7 +86,7 @@ fn asks_nothing(need: Need, longest: u8) -> bool
 // ---- the rules, at a descriptor
 
 // Whether the descriptor at a place is what a line asks for. Most lines need no look at flags and body.
-fn fit_at(need: Need, longest: u8, s: &[u8], at: usize) -> Fit
+pub fn fit_at(need: Need, longest: u8, s: &[u8], at: usize) -> Fit
     ensures { λ r. ⌜ fitNumber r ≡ descWrong need longest (descAt (now (s .entry)) at) ⌝ }
 {
     if asks_nothing(need, longest) {
@@ -104,7 +104,7 @@ fn fit_at(need: Need, longest: u8, s: &[u8], at: usize) -> Fit
 }
 
 // Whether the descriptor at a place is longer than a body may be.
-fn long_at(longest: u8, s: &[u8], at: usize) -> bool
+pub fn long_at(longest: u8, s: &[u8], at: usize) -> bool
     ensures { λ r. ⌜ r ≡ tooLong longest (descAt (now (s .entry)) at) ⌝ }
 {
     if longest == ANY_LENGTH {

@@ -123,11 +123,11 @@ fn say_fewest(commands: u32) {
 fn sweep(sheet: &[u8], response: &mut [u8], collected: &mut [u8], starts: &mut [u16]) {
     let rt = asked::rt();
     let a = streams::arg(3);
-    let lay = told::layout_given(5);
+    let lay = sheets::layout_given(5);
     let benched = bench::bench(lay, sheet, rt, a, response, collected, starts);
     let refusal = benched.refusal;
     if refusal.number != 0 {
-        told::say_sheet_refused(refusal, lay, sheet);
+        sheets::say_refused(refusal, lay, sheet);
         return;
     }
     let profile = Profile(fields::get2(response, 6));
@@ -147,7 +147,7 @@ fn sweep_input(input: &mut [u8], collected: &mut [u8], starts: &mut [u16]) {
     }
     let count = got.count;
     if count > MOST {
-        told::say_sheet_too_long();
+        sheets::say_too_long();
         return;
     }
     let mut response = [0u8; Header::RETURN_LIMIT];

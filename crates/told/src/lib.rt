@@ -1,5 +1,4 @@
-// What the programs tell of a sweep, of a sheet and of a capture: a line a round, the totals, the collected descriptors as one response, the line that a refusal names.
-use layout::Layout;
+// What the programs tell of a sweep and of a capture: a line a round, the totals, the collected descriptors as one response, the line that a refusal names.
 use libc::STDERR_FILENO;
 use libc::STDOUT_FILENO;
 use refusal::Refusal;
@@ -59,38 +58,10 @@ pub fn put_response(profile: Profile, descriptors: &[u8]) {
     streams::say_to(RESPONSE, descriptors);
 }
 
-// How the sheet that is read is laid out: in columns where this argument is given.
-pub fn layout_given(i: usize) -> Layout {
-    if streams::given(i) {
-        return Layout::Columns;
-    }
-    Layout::Rows
-}
-
-// A refusal of a sheet or a command, with the line of the sheet that it names.
-pub fn say_sheet_refused(refusal: Refusal, lay: Layout, sheet: &[u8]) {
-    streams::mark_fault();
-    let profiles = layout::profile_count(sheet);
-    if refusal.place == 0 {
-        words::say_refused(STDERR_FILENO, refusal, profiles as u64, 0);
-        return;
-    }
-    let feature = layout::feature_at(lay, sheet, refusal.place - 1);
-    words::say_refused(STDERR_FILENO, refusal, profiles as u64, feature.0);
-}
-
 // A refusal of a command that was to be built.
 pub fn say_not_built(refusal: Refusal) {
     streams::mark_fault();
     words::say_refused(STDERR_FILENO, refusal, 0, 0);
-}
-
-pub fn say_sheet_too_long() {
-    streams::mark_fault();
-    streams::say_to(
-        STDERR_FILENO,
-        b"the sheet has over 1,048,576 bytes, more than are taken here\n",
-    );
 }
 
 // The feature number of an entry that the sheet would have, counted from 1: its descriptor stands as many places behind feature 0's.
@@ -104,9 +75,20 @@ fn feature_of(response: &[u8], entry: u16) -> Feature {
     reading::number_at(response, at)
 }
 
-// A refusal of a capture, with the profile or the entry that it names.
+// A refusal of a capture, with the profile or the entry that it names, else with the place where the reading stops.
 pub fn say_capture_refused(refusal: Refusal, response: &[u8]) {
     streams::mark_fault();
+    if refusal.place == 0 {
+        grounds::say_refused(
+            STDERR_FILENO,
+            0,
+            Feature(0),
+            Header::RETURN_LIMIT,
+            refusal,
+            response,
+        );
+        return;
+    }
     let profiles = reading::body_at(response, Header::LENGTH).len() / 4;
     let feature = feature_of(response, refusal.place);
     words::say_refused(STDERR_FILENO, refusal, profiles as u64, feature.0);

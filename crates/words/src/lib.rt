@@ -80,6 +80,12 @@ pub fn say_hex4(fd: i32, n: u16) {
     say(fd, &text);
 }
 
+// Two of them.
+pub fn say_byte(fd: i32, b: u8) {
+    let text = [digit(b as u16 / 16), digit(b as u16)];
+    say(fd, &text);
+}
+
 // The line of a sheet that a refusal names, if it names one: of so many profiles, or with this feature number.
 fn say_line(fd: i32, refusal: Refusal, profiles: u64, feature: u16) {
     if refusal.place == 0 {

@@ -6,12 +6,12 @@ use Rattle.viewer.proofs.say_bytes.Statement.{statement}
 use Rattle.viewer.proofs.say_bytes.Tie as tie
 
 abbrev Inv-loop : tie.InvT-loop
-Inv-loop body between i₀ i = i ≤ length body
+Inv-loop json body i₀ t4 t5 i = i ≤ length body
 
 abbrev μ-loop : tie.MeasureT-loop
-μ-loop body between i₀ i = length body - i
+μ-loop json body i₀ t4 t5 i = length body - i
 
 pub say-bytes-spec : {M : Type 1} → statement M
 say-bytes-spec =
     tie.close
-    (tie.spec Inv-loop μ-loop (λ c. search needs) (λ c κs. search needs) (λ c. search needs) (λ c κs. search needs) (λ c. search needs) (λ c. search needs) (λ c. search needs) (λ c. search needs))
+    (tie.spec Inv-loop μ-loop (λ c. search needs) (λ c. search needs) (λ c. search needs) (λ c κs. search needs) (λ c. search needs) (λ c κs. search needs) (λ c. search needs) (λ c. search needs) (λ c. search needs) (λ c. search needs))

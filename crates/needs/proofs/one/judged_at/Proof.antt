@@ -1,0 +1,14 @@
+-- `needs::one::judged_at` meets its contract: its line has the mark, or it has not.
+use borrow.Author.Needs.{needs}
+use Rattle.needs.proofs.Alone.{by-line, by-none}
+use Rattle.needs.proofs.one.judged_at.Statement.{statement}
+use Rattle.needs.proofs.one.judged_at.Tie as tie
+
+returns : tie.Need-returns
+returns c = search by-line
+
+returns-2 : tie.Need-returns-2
+returns-2 c = search by-none
+
+pub judged-at-spec : {M : Type 1} → statement M
+judged-at-spec = tie.close (tie.spec (λ c κs. search needs) (λ c κs. search needs) returns (λ c κs. search needs) returns-2)
