@@ -34,9 +34,9 @@ struct Change {
 
 // ---- a change
 
-// The place of the descriptor that a place of a response lies in. There are fewer descriptors than bytes.
-fn descriptor_at(s: &[u8], place: usize) -> usize {
-    let mut at = Header::LENGTH;
+// The place of the descriptor that a place of a response lies in, looked for from an earlier one on. There are fewer descriptors than bytes.
+fn descriptor_at(s: &[u8], from: usize, place: usize) -> usize {
+    let mut at = from;
     let mut i = 0;
     while i < s.len() {
         let next = reading::next_at(s, at);
@@ -57,10 +57,14 @@ fn between(from: usize, to: usize) -> usize {
     to - from
 }
 
-// What a number of the list says of a response.
-fn change_in(s: &[u8], noted: u32) -> Change {
-    let place = (noted / 65536) as usize;
-    let at = descriptor_at(s, place);
+// The place that a number of the list tells.
+fn place_in(noted: u32) -> usize {
+    (noted / 65536) as usize
+}
+
+// What a number of the list says of a response, in which its descriptor begins at a place.
+fn change_in(s: &[u8], at: usize, noted: u32) -> Change {
+    let place = place_in(noted);
     Change {
         feature: reading::number_at(s, at),
         place: place,
@@ -134,13 +138,17 @@ fn say_change(change: Change) {
     say_words(change);
 }
 
+// Their places rise, so that no descriptor is passed twice.
 fn say_changes(s: &[u8], list: &[u32], count: usize) {
+    let mut at = Header::LENGTH;
     let mut i = 0;
     while i < list.len() {
         if i == count {
             return;
         }
-        say_change(change_in(s, list[i]));
+        let noted = list[i];
+        at = descriptor_at(s, at, place_in(noted));
+        say_change(change_in(s, at, noted));
         i += 1;
     }
 }

@@ -6,10 +6,10 @@ use Rattle.mender.proofs.descriptor_at.Statement.{statement}
 use Rattle.mender.proofs.descriptor_at.Tie as tie
 
 abbrev Inv-loop : tie.InvT-loop
-Inv-loop s place at₀ i₀ at i = Unit {0}
+Inv-loop s from place at₀ i₀ at i = Unit {0}
 
 abbrev μ-loop : tie.MeasureT-loop
-μ-loop s place at₀ i₀ at i = length s - i
+μ-loop s from place at₀ i₀ at i = length s - i
 
 pub descriptor-at-spec : {M : Type 1} → statement M
 descriptor-at-spec =

@@ -6,12 +6,12 @@ use Rattle.mender.proofs.say_changes.Statement.{statement}
 use Rattle.mender.proofs.say_changes.Tie as tie
 
 abbrev Inv-loop : tie.InvT-loop
-Inv-loop s list count i₀ i = Unit {0}
+Inv-loop s list count at₀ i₀ at i = Unit {0}
 
 abbrev μ-loop : tie.MeasureT-loop
-μ-loop s list count i₀ i = length list - i
+μ-loop s list count at₀ i₀ at i = length list - i
 
 pub say-changes-spec : {M : Type 1} → statement M
 say-changes-spec =
     tie.close
-    (tie.spec Inv-loop μ-loop (λ c. search needs) (λ c. search needs) (λ c. search needs) (λ c. search needs) (λ c κs. search needs) (λ c κs. search needs) (λ c. search needs) (λ c. search needs) (λ c. search needs) (λ c. search needs))
+    (tie.spec Inv-loop μ-loop (λ c. search needs) (λ c. search needs) (λ c. search needs) (λ c. search needs) (λ c κs. search needs) (λ c κs. search needs) (λ c κs. search needs) (λ c κs. search needs) (λ c. search needs) (λ c. search needs) (λ c. search needs) (λ c. search needs))
