@@ -2,7 +2,7 @@
 # out, with the place of each descriptor, which is the sum of the lengths before it.
 #
 # Lines of the input, with tabs between: 'capture' or 'against', a number, and the name as it can be printed. Of capture N the folder GCF_TOLD has N.bytes, as od prints them, and what
-# the viewer, the checker and the mender say of it: N.show, N.check, N.profiles and N.mend, with N.mended, the bytes that the mender wrote, and N.note, what was said on standard error.
+# the viewer, the checker and the mender say of it: N.show, N.check, N.archive and N.mend, with N.mended, the bytes that the mender wrote, and N.note, what was said on standard error.
 # GCF_MODE is page or diff.
 #
 # Descriptors are numbered through all captures: those of capture c are low[c] to high[c].
@@ -247,8 +247,8 @@ function load(c, place) {
     all[c] = read_bytes(place ".bytes")
     size[c] = int((length(all[c]) + 1) / 3)
     load_show(c, place ".show")
-    load_check(c, place ".check", "descriptors: ")
-    load_check(c, place ".profiles", "profile ")
+    load_check(c, place ".check", "")
+    load_check(c, place ".archive", "profile 0000")
     load_mend(c, place ".mend")
     load_notes(c, place ".note")
     if (refused[c] != "" || state[c] != "") return

@@ -179,11 +179,54 @@ fn say_if_broken(profile: Profile, feature: Feature, s: &[u8]) {
     }
 }
 
+// Whether a profile asks for a feature: then a header alone, which is a complete response, lacks it.
+fn asks(profile: Profile, feature: Feature) -> bool {
+    let judgement = needs::check_feature(profile, feature, b"\0\0\0\x04\0\0\0\0");
+    match judgement {
+        Judgement::Conforms => false,
+        Judgement::Broken(_, _) => true,
+        Judgement::Refused(_) => false,
+    }
+}
+
+// Whether a feature stands at a place, with a body.
+fn is_bodied(feature: Feature, s: &[u8], at: usize) -> bool {
+    let number = reading::number_at(s, at);
+    if number.0 != feature.0 {
+        return false;
+    }
+    reading::length_at(s, at) > 0
+}
+
+// A line for a feature, which stands at a place if it is reported, if it breaks a profile. One that is not asked for breaks it only by a body that is too long: so most
+// need no look at the response.
+fn say_if_judged(profile: Profile, feature: Feature, s: &[u8], at: usize) {
+    if is_bodied(feature, s, at) {
+        say_if_broken(profile, feature, s);
+        return;
+    }
+    if asks(profile, feature) {
+        say_if_broken(profile, feature, s);
+    }
+}
+
+// The place behind a feature, if it stands at this one.
+fn place_behind(feature: Feature, s: &[u8], at: usize) -> usize {
+    let number = reading::number_at(s, at);
+    if number.0 != feature.0 {
+        return at;
+    }
+    reading::next_at(s, at)
+}
+
 // A line for each feature from one on that breaks it.
 fn say_each_broken(profile: Profile, first: Feature, s: &[u8]) {
+    let mut at = reading::place_of(first, s);
     let mut number = first.0 as u32;
     while number < 65536 {
-        say_if_broken(profile, Feature((number % 65536) as u16), s);
+        let feature = Feature((number % 65536) as u16);
+        say_if_judged(profile, feature, s, at);
+        at = place_behind(feature, s, at);
         number += 1;
     }
 }

@@ -5,12 +5,12 @@ use Rattle.checker.proofs.say_each_broken.Statement.{statement}
 use Rattle.checker.proofs.say_each_broken.Tie as tie
 
 abbrev Inv-loop : tie.InvT-loop
-Inv-loop profile first s number = number ≤ 65536
+Inv-loop profile s at₀ number₀ at number = number ≤ 65536
 
 abbrev μ-loop : tie.MeasureT-loop
-μ-loop profile first s number = 65536 - number
+μ-loop profile s at₀ number₀ at number = 65536 - number
 
 pub say-each-broken-spec : {M : Type 1} → statement M
 say-each-broken-spec =
     tie.close
-    (tie.spec Inv-loop μ-loop (λ c. search needs) (λ c. search needs) (λ c. search needs) (λ c κs. search needs) (λ c. search needs) (λ c. search needs) (λ c. search needs) (λ c. search needs))
+    (tie.spec Inv-loop μ-loop (λ c κs. search needs) (λ c. search needs) (λ c. search needs) (λ c. search needs) (λ c κs. search needs) (λ c κs. search needs) (λ c. search needs) (λ c. search needs) (λ c. search needs) (λ c. search needs))
