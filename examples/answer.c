@@ -33,7 +33,9 @@ static void print(const char *what, const uint8_t *bytes, size_t count)
 
 static int refused(const char *what, uint8_t number)
 {
-    printf("%s: refused %u\n", what, number);
+    char words[GCF_WORDS_MOST + 1];
+
+    printf("%s: refused %u: %s\n", what, number, gcf_words_in(number, words));
     return 1;
 }
 
@@ -41,13 +43,13 @@ static int refused(const char *what, uint8_t number)
 static uint8_t ask(uint8_t rt, gcf_feature sfn, uint16_t allocation, uint8_t *response, size_t room, size_t *sent)
 {
     uint8_t command[GCF_PACKET_BYTES];
-    uint64_t count;
-    uint8_t number = gcf_build_command(sizeof command, rt, sfn, allocation, command, sizeof command, &count, 1);
+    struct gcf_made made;
+    uint8_t number = gcf_build_command(sizeof command, rt, sfn, allocation, command, sizeof command, &made);
 
     if (number == GCF_ACCEPTED) {
-        number = gcf_respond_accepted(sheet, sizeof sheet, command, sizeof command, response, room, &count, 1);
+        number = gcf_respond_accepted(GCF_ROWS, sheet, sizeof sheet, command, sizeof command, response, room, &made);
     }
-    *sent = (size_t)count;
+    *sent = (size_t)made.bytes;
     return number;
 }
 
@@ -56,20 +58,31 @@ static void judge(const uint8_t *response, size_t count)
 {
     static const uint16_t profiles[] = {0xFFFF, 0x0012};
     uint8_t descriptor[GCF_DESCRIPTOR_MOST];
-    size_t held = gcf_held(gcf_feature_of(0x0003), response, count, response, 0, descriptor, sizeof descriptor);
+    uint64_t held = gcf_held(gcf_feature_of(0x0003), response, count, response, 0, descriptor, sizeof descriptor);
 
     if (gcf_descriptor_whole(descriptor, held)) {
-        print("descriptor", descriptor, held);
+        print("descriptor", descriptor, (size_t)held);
     }
     for (size_t i = 0; i < 2; i++) {
         printf("profile %04X: %s\n", profiles[i], gcf_conforms(gcf_profile_of(profiles[i]), response, count) ? "conforms" : "does not conform");
     }
 }
 
+/* Each whole descriptor of a response that was read. */
+static void walk(const uint8_t *response, const struct gcf_reading *reading)
+{
+    struct gcf_descriptor found;
+
+    for (uint64_t place = GCF_HEADER_BYTES; gcf_next(place, response, reading->end, &found); place = found.next) {
+        printf("feature %04" PRIX64 ", version %" PRIu64 "%s%s, %" PRIu64 " bytes at %" PRIu64 "\n", found.feature, found.version,
+               found.persistent ? ", persistent" : "", found.current ? ", current" : "", found.body_bytes, found.body);
+    }
+}
+
 static int answer_and_read(void)
 {
     uint8_t response[64];
-    uint64_t numbers[5];
+    struct gcf_reading reading;
     size_t sent;
     uint8_t number = ask(0, gcf_feature_of(0), 44, response, sizeof response, &sent);
 
@@ -77,12 +90,13 @@ static int answer_and_read(void)
         return refused("command", number);
     }
     print("response", response, sent);
-    number = gcf_read(0, gcf_feature_of(0), response, sent, numbers, 5);
+    number = gcf_read(0, gcf_feature_of(0), response, sent, &reading);
     if (number != GCF_ACCEPTED) {
         return refused("reading", number);
     }
     printf("profile %04" PRIX64 ", Data Length %" PRIu64 ", %" PRIu64 " whole descriptors, the last ends at %" PRIu64 ", %s\n",
-           numbers[0], numbers[1], numbers[2], numbers[3], numbers[4] ? "complete" : "cut");
+           reading.profile, reading.data_length, reading.count, reading.end, reading.complete ? "complete" : "cut");
+    walk(response, &reading);
     judge(response, sent);
     return 0;
 }
@@ -105,21 +119,21 @@ static int sweep_all(void)
     if (number != GCF_ACCEPTED) {
         return refused("sweep", number);
     }
-    print("collected", collected, sweep.collected);
+    print("collected", collected, (size_t)sweep.collected);
     return 0;
 }
 
 /* Checks a sheet and tells the person who typed it which line is wrong. */
 static int check(const char *what, const uint8_t *typed, size_t count)
 {
-    uint64_t place;
-    uint8_t number = gcf_check_sheet(typed, count, &place, 1);
+    struct gcf_check checked;
+    uint8_t number = gcf_check_sheet(GCF_ROWS, typed, count, &checked);
 
     if (number == GCF_ACCEPTED) {
         return 0;
     }
-    if (place != 0) {
-        printf("%s: %s %" PRIu64 "\n", what, number == GCF_PROFILE_BAD ? "profile" : "entry", place);
+    if (checked.place != 0) {
+        printf("%s: %s %" PRIu64 "\n", what, number == GCF_PROFILE_BAD ? "profile" : "entry", checked.place);
     }
     return refused(what, number);
 }

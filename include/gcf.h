@@ -7,15 +7,14 @@
  *
  * Of the caller is asked only what C cannot say:
  *   - a pointer and the count behind it name that many elements; the pointer is not null and is aligned for its type, also where the count is 0;
+ *   - a pointer to a struct names one;
  *   - what is written (a pointer without const) overlaps nothing else that is handed in.
  *
- * A uint8_t result is the paper's number: 0 is accepted, anything else a refusal (GCF_...); the two calls of a sweep give it in a struct, with the
- * record. Further results go to the front of the array `numbers`,
- * in the order given here, also where something is refused; an array that is too short gets the first of them, and what is behind them in a longer
- * one stays as it was.
+ * A uint8_t result is the paper's number: 0 is accepted, anything else a refusal (GCF_...), and gcf_words has its sentence. Further results go to a struct, every
+ * field of it, also where something is refused: then each is 0, but for a place. Lengths, counts and further results have 64 bits on every target.
  *
- * A place says which line of a drive sheet is refused: for 3 which profile of the list, for 4, 5, 44, 6 and 7 which entry of the contents, counted
- * from 1. With every other number, and with 0, it is 0. Of an image it is the place that the imported sheet would have.
+ * A place, where a struct has one, says which line of a drive sheet is refused: for 3 which profile of the list, for 4, 5, 44, 6 and 7 which entry of the
+ * contents, counted from 1. With every other number, and with 0, it is 0. Of an image it is the place that the imported sheet would have.
  */
 #ifndef GCF_H
 #define GCF_H
@@ -28,7 +27,7 @@
 #define GCF_VERSION "0.14.1"
 
 #if SIZE_MAX != UINT64_MAX
-#error "gcf.h: size_t has not 64 bits here, and the functions of libgcf.a take every length and count as 64 bits. There is no libgcf.a for such a target."
+#error "gcf.h: size_t has not 64 bits here, and there is no libgcf.a for such a target."
 #endif
 
 #ifdef __cplusplus
@@ -152,6 +151,11 @@ enum gcf_kind {
     GCF_KIND_TROUBLE = 4    /* the box's own trouble: its sheet or its image, or its response buffer */
 };
 
+/* The layout of a drive sheet: its contents stand entry by entry, in rows, or in columns: all feature numbers, then all flags, all body lengths, all offsets. All else
+ * stands alike, and both layouts of one sheet get the same numbers, the same places and the same bytes sent. A function that takes no layout takes rows. */
+#define GCF_ROWS false
+#define GCF_COLUMNS true
+
 /* Sizes that are always enough. */
 #define GCF_COMMAND_BYTES 10
 #define GCF_PACKET_BYTES 12      /* the same command with its two pads, as ATAPI sends it */
@@ -162,116 +166,109 @@ enum gcf_kind {
 #define GCF_SHEET_MOST 17039356  /* the longest drive sheet */
 #define GCF_IMPORT_MOST 131044   /* the longest sheet of a captured response */
 #define GCF_SENSE_BYTES 18       /* sense data in fixed format */
+#define GCF_WORDS_MOST 129       /* the sentence of a number */
+
+/* ---- further results */
+
+/* A check of a sheet or of an image. */
+struct gcf_check {
+    uint64_t place;
+};
+
+/* Bytes that were made: a response, a command, a sheet, sense data. Refused: 0 bytes. */
+struct gcf_made {
+    uint64_t bytes;
+    uint64_t place;
+};
+
+/* ---- the words */
+
+/*
+ * The sentence of a number, as ./gcf says it, without a zero byte behind it; none for a number that is not given. Gives the count of characters written; a shorter
+ * buffer gets the first ones, and GCF_WORDS_MOST are always enough.
+ */
+uint64_t gcf_words(uint8_t number, char *text, uint64_t text_bytes);
+
+/* The same with a zero byte behind it, in a buffer of GCF_WORDS_MOST + 1. Gives the buffer. */
+static inline const char *gcf_words_in(uint8_t number, char *text)
+{
+    text[gcf_words(number, text, GCF_WORDS_MOST)] = 0;
+    return text;
+}
 
 /* ---- the box */
 
-/*
- * The check of a drive sheet: 1, 2, 3 for each profile, then for each entry 4, 5 (reserved flag bits), 44 (Persistent without Current), 6, 7, then 8.
- * numbers: the place.
- */
-uint8_t gcf_check_sheet(const uint8_t *sheet, size_t sheet_bytes, uint64_t *numbers, size_t numbers_count);
+/* The check of a drive sheet: 1, 2, 3 for each profile, then for each entry 4, 5 (reserved flag bits), 44 (Persistent without Current), 6, 7, then 8. */
+uint8_t gcf_check_sheet(bool columns, const uint8_t *sheet, uint64_t sheet_bytes, struct gcf_check *check);
 
 /*
  * Answers a command from any sheet: the sheet's numbers, then 9 to 12. Accepted: the bytes sent stand at the front of the response buffer, and only
  * they changed. Refused: nothing changed.
- * numbers: bytes sent, the place. Refused: 0, the place.
  */
-uint8_t gcf_respond(const uint8_t *sheet, size_t sheet_bytes,
-                    const uint8_t *command, size_t command_bytes,
-                    uint8_t *response, size_t response_bytes,
-                    uint64_t *numbers, size_t numbers_count);
+uint8_t gcf_respond(bool columns, const uint8_t *sheet, uint64_t sheet_bytes,
+                    const uint8_t *command, uint64_t command_bytes,
+                    uint8_t *response, uint64_t response_bytes,
+                    struct gcf_made *sent);
 
 /*
  * The same for a sheet that gcf_check_sheet has accepted and that has not changed since: 9 to 12, and no time spent on the sheet's check. With RT 0
  * and RT 2 its cost follows the bytes sent, not the size of the sheet; with RT 1 it looks at each entry from the first wanted one on, to add up
  * Data Length. (With any other sheet it still keeps to its buffers; what it sends then means nothing.)
- * numbers: bytes sent.
  */
-uint8_t gcf_respond_accepted(const uint8_t *sheet, size_t sheet_bytes,
-                             const uint8_t *command, size_t command_bytes,
-                             uint8_t *response, size_t response_bytes,
-                             uint64_t *numbers, size_t numbers_count);
-
-/* ---- a sheet with its contents in columns: all feature numbers, then all flags, all body lengths, all offsets; all else stands as in rows */
+uint8_t gcf_respond_accepted(bool columns, const uint8_t *sheet, uint64_t sheet_bytes,
+                             const uint8_t *command, uint64_t command_bytes,
+                             uint8_t *response, uint64_t response_bytes,
+                             struct gcf_made *sent);
 
 /*
- * The three for such a sheet. Both layouts of one sheet get the same numbers, the same places and the same bytes sent. A function that does not say columns
- * takes a sheet in rows, and gcf_import writes one.
+ * Lays a sheet out anew, in columns or in rows, in as many bytes: the numbers of gcf_check_sheet, then 42. Accepted: it stands at the front of the buffer, and
+ * only its bytes changed. Refused: nothing changed. What is laid out in the other layout and back is as it was.
  */
-uint8_t gcf_check_columns(const uint8_t *sheet, size_t sheet_bytes, uint64_t *numbers, size_t numbers_count);
-
-uint8_t gcf_respond_columns(const uint8_t *sheet, size_t sheet_bytes,
-                            const uint8_t *command, size_t command_bytes,
-                            uint8_t *response, size_t response_bytes,
-                            uint64_t *numbers, size_t numbers_count);
-
-uint8_t gcf_respond_columns_accepted(const uint8_t *sheet, size_t sheet_bytes,
-                                     const uint8_t *command, size_t command_bytes,
-                                     uint8_t *response, size_t response_bytes,
-                                     uint64_t *numbers, size_t numbers_count);
-
-/*
- * Turns a sheet in rows into one in columns, which is as long: the numbers of gcf_check_sheet, then 42. Accepted: it stands at the front of the buffer, and
- * only its bytes changed. Refused: nothing changed.
- * numbers: bytes of the sheet, the place. Refused: 0, the place.
- */
-uint8_t gcf_to_columns(const uint8_t *sheet, size_t sheet_bytes, uint8_t *columns, size_t columns_bytes, uint64_t *numbers, size_t numbers_count);
-
-/* The same back: a sheet in columns into one in rows. Each undoes the other. */
-uint8_t gcf_to_rows(const uint8_t *sheet, size_t sheet_bytes, uint8_t *rows, size_t rows_bytes, uint64_t *numbers, size_t numbers_count);
+uint8_t gcf_convert(bool columns, const uint8_t *sheet, uint64_t sheet_bytes,
+                    bool to_columns, uint8_t *converted, uint64_t converted_bytes,
+                    struct gcf_made *made);
 
 /* ---- a medium goes in: the sheet as it leaves it */
 
 /*
- * Of a sheet in rows, the sheet with a medium that makes these features and these profiles current: a Persistent feature stays current, each other one is
- * current exactly if it is listed, each profile is current exactly if it is listed, and nothing else changes. What was in before makes no difference. The
- * numbers of gcf_check_sheet, then 51 (a list that does not ascend, or repeats a number), 52 (a feature or profile that the sheet lacks; feature 0 counts as
+ * Of a sheet, the sheet, in the layout that it has, with a medium that makes these features and these profiles current: a Persistent feature stays current, each
+ * other one is current exactly if it is listed, each profile is current exactly if it is listed, and nothing else changes. What was in before makes no difference.
+ * The numbers of gcf_check_sheet, then 51 (a list that does not ascend, or repeats a number), 52 (a feature or profile that the sheet lacks; feature 0 counts as
  * lacking), 53 (a buffer shorter than the sheet). Accepted: the sheet, as long as it was and accepted again, stands at the front of the buffer, and only its
  * bytes changed. Refused: nothing changed. Sweep between two loadings, not across one (docs/MANUAL.md).
- * numbers: bytes of the sheet, the place. Refused: 0, the place.
  */
-uint8_t gcf_load(const uint8_t *sheet, size_t sheet_bytes,
-                 const gcf_feature *features, size_t features_count,
-                 const gcf_profile *profiles, size_t profiles_count,
-                 uint8_t *loaded, size_t loaded_bytes,
-                 uint64_t *numbers, size_t numbers_count);
-
-/* The same of a sheet in columns, which stays in columns. */
-uint8_t gcf_load_columns(const uint8_t *sheet, size_t sheet_bytes,
-                         const gcf_feature *features, size_t features_count,
-                         const gcf_profile *profiles, size_t profiles_count,
-                         uint8_t *loaded, size_t loaded_bytes,
-                         uint64_t *numbers, size_t numbers_count);
+uint8_t gcf_load(bool columns, const uint8_t *sheet, uint64_t sheet_bytes,
+                 const gcf_feature *features, uint64_t features_count,
+                 const gcf_profile *profiles, uint64_t profiles_count,
+                 uint8_t *loaded, uint64_t loaded_bytes,
+                 struct gcf_made *made);
 
 /* ---- the box without a sheet: it holds an image, a complete response to RT 0 from 0 that gcf_import accepts */
 
 /*
  * The check of an image: 14 to 18, 20, 29, 41, the sheet's 3, then for each descriptor behind feature 0 the sheet's 5, 44. These are import's numbers
- * but 42, in import's order.
- * numbers: the place, as gcf_import tells it.
+ * but 42, in import's order, and the place is as gcf_import tells it.
  */
-uint8_t gcf_check_image(const uint8_t *image, size_t image_bytes, uint64_t *numbers, size_t numbers_count);
+uint8_t gcf_check_image(const uint8_t *image, uint64_t image_bytes, struct gcf_check *check);
 
 /*
  * Answers a command from any image: the numbers of gcf_check_image, then 9 to 12. Accepted: what gcf_respond sends from the sheet that gcf_import makes of
  * the image stands at the front of the response buffer, and only it changed. Refused: nothing changed.
- * numbers: bytes sent, the place. Refused: 0, the place.
  */
-uint8_t gcf_respond_image(const uint8_t *image, size_t image_bytes,
-                          const uint8_t *command, size_t command_bytes,
-                          uint8_t *response, size_t response_bytes,
-                          uint64_t *numbers, size_t numbers_count);
+uint8_t gcf_respond_image(const uint8_t *image, uint64_t image_bytes,
+                          const uint8_t *command, uint64_t command_bytes,
+                          uint8_t *response, uint64_t response_bytes,
+                          struct gcf_made *sent);
 
 /*
  * The same for an image that gcf_check_image has accepted and that has not changed since: 9 to 12, and no time spent on the image's check. It walks from
  * the first descriptor to the first wanted one, and with RT 1 on to the last. (With any other image it still keeps to its buffers; what it sends then
  * means nothing.)
- * numbers: bytes sent.
  */
-uint8_t gcf_respond_image_accepted(const uint8_t *image, size_t image_bytes,
-                                   const uint8_t *command, size_t command_bytes,
-                                   uint8_t *response, size_t response_bytes,
-                                   uint64_t *numbers, size_t numbers_count);
+uint8_t gcf_respond_image_accepted(const uint8_t *image, uint64_t image_bytes,
+                                   const uint8_t *command, uint64_t command_bytes,
+                                   uint8_t *response, uint64_t response_bytes,
+                                   struct gcf_made *sent);
 
 /* ---- the driver */
 
@@ -279,60 +276,85 @@ uint8_t gcf_respond_image_accepted(const uint8_t *image, size_t image_bytes,
  * Makes the command that asks for Requested Type rt from feature sfn on with this allocation length, every other bit 0. It has length bytes, GCF_COMMAND_BYTES
  * or GCF_PACKET_BYTES: 9 for another length, then 11 for RT over 2, then 12 for a shorter buffer. Accepted: it stands at the front of the buffer, and only its
  * bytes changed; a box takes it for exactly those three. Refused: nothing changed.
- * numbers: bytes written.
  */
-uint8_t gcf_build_command(size_t length, uint8_t rt, gcf_feature sfn, uint16_t allocation,
-                          uint8_t *command, size_t command_bytes,
-                          uint64_t *numbers, size_t numbers_count);
+uint8_t gcf_build_command(uint64_t length, uint8_t rt, gcf_feature sfn, uint16_t allocation,
+                          uint8_t *command, uint64_t command_bytes,
+                          struct gcf_made *made);
+
+/* What a response holds; gcf_profile_of(reading.profile) is the profile's type. */
+struct gcf_reading {
+    uint64_t profile;     /* the Current Profile, 0 if there is none */
+    uint64_t data_length; /* as the header states it */
+    uint64_t count;       /* whole descriptors */
+    uint64_t end;         /* the place behind the last of them */
+    uint64_t complete;    /* 1, or 0 if the response is cut */
+};
+
+/* Reads a response to Requested Type rt from feature sfn on: 13 to 20. */
+uint8_t gcf_read(uint8_t rt, gcf_feature sfn, const uint8_t *response, uint64_t response_bytes, struct gcf_reading *reading);
+
+/* A descriptor in a response: its fields, and where its body and the next descriptor stand. */
+struct gcf_descriptor {
+    uint64_t feature;
+    uint64_t flags;      /* all eight bits, of which the next three are parts */
+    uint64_t version;
+    uint64_t persistent; /* 1 or 0 */
+    uint64_t current;    /* 1 or 0 */
+    uint64_t body;       /* the place of its first byte in the response */
+    uint64_t body_bytes;
+    uint64_t next;
+};
 
 /*
- * Reads a response to Requested Type rt from feature sfn on: 13 to 20.
- * numbers: Current Profile, Data Length, whole descriptors, the place behind the last of them, 1 if complete or 0 if cut. Refused: all 0.
+ * The descriptor at a place of a response, if it stands there whole. Else false, and every field 0. From GCF_HEADER_BYTES on, and from each `next`, it gives the whole
+ * descriptors of a response that gcf_read accepts, each once, in their order, and then false. It reads bytes and judges none of them: hand over the `end` that
+ * gcf_read gave as the count, and a response that is refused, whose end is 0, has none.
  */
-uint8_t gcf_read(uint8_t rt, gcf_feature sfn,
-                 const uint8_t *response, size_t response_bytes,
-                 uint64_t *numbers, size_t numbers_count);
+bool gcf_next(uint64_t place, const uint8_t *response, uint64_t response_bytes, struct gcf_descriptor *descriptor);
+
+/* Where a reading stops. */
+struct gcf_stop {
+    uint64_t place;
+    uint64_t feature; /* the feature that stands there, 0 where its four header bytes were not received */
+};
 
 /*
  * Where the reading of a response to Requested Type rt from feature sfn on stops, which may have at most `most` bytes (65,534, or C in a sweep): the place of the first
  * descriptor that is at fault, with 17 to 20, or that was not received whole, or the end. 0 where the header is refused, 13 to 16.
- * numbers: the feature that stands there, 0 where its four header bytes were not received.
  */
-size_t gcf_stops(size_t most, uint8_t rt, gcf_feature sfn,
-                 const uint8_t *response, size_t response_bytes,
-                 uint64_t *numbers, size_t numbers_count);
+void gcf_stops(uint64_t most, uint8_t rt, gcf_feature sfn, const uint8_t *response, uint64_t response_bytes, struct gcf_stop *stop);
 
 /*
  * Where a feature's descriptor stands in a response to RT 0 from 0: behind the header and the whole descriptors of lower features, and so where it would stand if the
  * response does not have it. 8 for one that is refused.
  */
-size_t gcf_place(gcf_feature feature, const uint8_t *response, size_t response_bytes);
+uint64_t gcf_place(gcf_feature feature, const uint8_t *response, uint64_t response_bytes);
 
 /*
  * Copies a feature's descriptor out of the fresh response if it is whole there, else out of the kept one, both responses to RT 0 from 0. Gives the
  * count of bytes written: 0 where neither holds it (or the buffer has none). GCF_DESCRIPTOR_MOST bytes are always enough; a shorter buffer gets the
  * first bytes, and gcf_descriptor_whole tells such a cut copy from a whole one.
  */
-size_t gcf_held(gcf_feature feature,
-                const uint8_t *fresh, size_t fresh_bytes,
-                const uint8_t *kept, size_t kept_bytes,
-                uint8_t *descriptor, size_t descriptor_bytes);
+uint64_t gcf_held(gcf_feature feature,
+                  const uint8_t *fresh, uint64_t fresh_bytes,
+                  const uint8_t *kept, uint64_t kept_bytes,
+                  uint8_t *descriptor, uint64_t descriptor_bytes);
 
 /* Whether the `count` bytes that gcf_held wrote are all of the descriptor: its four header bytes, and the body of which the fourth says the length. */
-static inline bool gcf_descriptor_whole(const uint8_t *descriptor, size_t count)
+static inline bool gcf_descriptor_whole(const uint8_t *descriptor, uint64_t count)
 {
-    return count >= 4 && count == 4 + (size_t)descriptor[3];
+    return count >= 4 && count == 4 + (uint64_t)descriptor[3];
 }
 
 /*
- * The listing of a response to RT 0 from 0 as text, without a zero byte behind it. Gives the count of bytes written. It stops at the buffer's end:
+ * The listing of a response to RT 0 from 0 as text, without a zero byte behind it. Gives the count of characters written. It stops at the buffer's end:
  * the text is whole where the count is below text_bytes, and always where text_bytes is GCF_LISTING_MOST or more. Else, with a count of text_bytes,
  * it may be cut.
  */
-size_t gcf_list(const uint8_t *response, size_t response_bytes, uint8_t *text, size_t text_bytes);
+uint64_t gcf_list(const uint8_t *response, uint64_t response_bytes, char *text, uint64_t text_bytes);
 
 /* The most bytes that a response has with this allocation length: the smaller of it and 65,534. */
-size_t gcf_most(uint16_t allocation);
+uint64_t gcf_most(uint16_t allocation);
 
 /* A sweep's record. It is handed in and comes back as one thing; any record may be handed in. */
 struct gcf_sweep {
@@ -340,7 +362,7 @@ struct gcf_sweep {
     uint16_t allocation;
     gcf_feature next;    /* the Starting Feature Number to ask for */
     uint32_t commands;   /* responses accepted so far */
-    size_t collected;    /* bytes collected so far */
+    uint64_t collected;  /* bytes collected so far */
     bool ended;
     gcf_profile profile; /* the Current Profile of the first accepted response, 0 before it */
 };
@@ -366,8 +388,8 @@ struct gcf_step gcf_sweep_start(uint8_t rt, uint16_t allocation);
  * 45: with commands so far, a Current Profile other than the first response had. A change that keeps the profile is not seen (docs/MANUAL.md).
  */
 struct gcf_step gcf_sweep_take(struct gcf_sweep sweep,
-                               const uint8_t *response, size_t response_bytes,
-                               uint8_t *collecting, size_t collecting_bytes);
+                               const uint8_t *response, uint64_t response_bytes,
+                               uint8_t *collecting, uint64_t collecting_bytes);
 
 /* The same two on a record that stays where it is. */
 static inline uint8_t gcf_sweep_begin(struct gcf_sweep *sweep, uint8_t rt, uint16_t allocation)
@@ -378,8 +400,8 @@ static inline uint8_t gcf_sweep_begin(struct gcf_sweep *sweep, uint8_t rt, uint1
 }
 
 static inline uint8_t gcf_sweep_on(struct gcf_sweep *sweep,
-                                   const uint8_t *response, size_t response_bytes,
-                                   uint8_t *collecting, size_t collecting_bytes)
+                                   const uint8_t *response, uint64_t response_bytes,
+                                   uint8_t *collecting, uint64_t collecting_bytes)
 {
     struct gcf_step step = gcf_sweep_take(*sweep, response, response_bytes, collecting, collecting_bytes);
     *sweep = step.sweep;
@@ -388,46 +410,60 @@ static inline uint8_t gcf_sweep_on(struct gcf_sweep *sweep,
 
 /* ---- the bench and the checks */
 
+/* What a bench sweep did. */
+struct gcf_swept {
+    uint64_t commands;  /* starts written */
+    uint64_t collected; /* bytes */
+    uint64_t place;
+};
+
 /*
  * Sweeps a sheet from end to end: the sheet's numbers, 21, 22, 12, then each round's. Accepted: the descriptors collected, the starts asked for, and
  * the last response with zeros behind it. Refused: all three buffers are zero throughout.
- * numbers: commands (starts written), bytes collected, the place. Refused: 0, 0, the place.
  */
-uint8_t gcf_bench(const uint8_t *sheet, size_t sheet_bytes, uint8_t rt, uint16_t allocation,
-                  uint8_t *response, size_t response_bytes,
-                  uint8_t *collected, size_t collected_bytes,
-                  uint16_t *starts, size_t starts_count,
-                  uint64_t *numbers, size_t numbers_count);
+uint8_t gcf_bench(bool columns, const uint8_t *sheet, uint64_t sheet_bytes, uint8_t rt, uint16_t allocation,
+                  uint8_t *response, uint64_t response_bytes,
+                  uint8_t *collected, uint64_t collected_bytes,
+                  uint16_t *starts, uint64_t starts_count,
+                  struct gcf_swept *swept);
 
-/* The same of a sheet in columns. */
-uint8_t gcf_bench_columns(const uint8_t *sheet, size_t sheet_bytes, uint8_t rt, uint16_t allocation,
-                          uint8_t *response, size_t response_bytes,
-                          uint8_t *collected, size_t collected_bytes,
-                          uint16_t *starts, size_t starts_count,
-                          uint64_t *numbers, size_t numbers_count);
+/* What a check of descriptors finds. */
+struct gcf_finding {
+    uint64_t feature; /* the one at fault, 0 but for 30 to 39 */
+};
 
 /*
  * Checks the descriptors of a response to RT 0 from 0: the reading's numbers, 29, then 30 to 39. A feature with a Version above 0 may be longer than its
  * table says, and its body is not looked at.
- * numbers: the feature at fault, 0 but for 30 to 39.
  */
-uint8_t gcf_check_descriptors(const uint8_t *response, size_t response_bytes, uint64_t *numbers, size_t numbers_count);
+uint8_t gcf_check_descriptors(const uint8_t *response, uint64_t response_bytes, struct gcf_finding *finding);
+
+/* What is said of a profile. */
+struct gcf_judgement {
+    uint64_t wrong;   /* what is wrong with the lowest feature that breaks the profile, one of enum gcf_wrong, 0 if none does */
+    uint64_t feature; /* that feature */
+};
 
 /*
  * Whether a response to RT 0 from 0 has what a profile requires: the reading's numbers, 29, 40. 0 says only that it could be judged; whether it has
- * all is the first of the numbers, and gcf_conforms asks for both. The archive subset is asked for as profile GCF_ARCHIVE.
- * numbers: what is wrong with the lowest feature that breaks the profile, one of enum gcf_wrong, 0 if none does, and that feature. Refused: 0, 0.
+ * all is what `wrong` says, and gcf_conforms asks for both. The archive subset is asked for as profile GCF_ARCHIVE.
  */
-uint8_t gcf_check_profile(gcf_profile profile, const uint8_t *response, size_t response_bytes, uint64_t *numbers, size_t numbers_count);
+uint8_t gcf_check_profile(gcf_profile profile, const uint8_t *response, uint64_t response_bytes, struct gcf_judgement *judgement);
 
 /* Whether the response could be judged, and has all that the profile requires. */
-static inline bool gcf_conforms(gcf_profile profile, const uint8_t *response, size_t response_bytes)
+static inline bool gcf_conforms(gcf_profile profile, const uint8_t *response, uint64_t response_bytes)
 {
-    uint64_t numbers[2];
-    return gcf_check_profile(profile, response, response_bytes, numbers, 2) == GCF_ACCEPTED && numbers[0] == 0;
+    struct gcf_judgement judgement;
+    return gcf_check_profile(profile, response, response_bytes, &judgement) == GCF_ACCEPTED && judgement.wrong == GCF_WRONG_NOTHING;
 }
 
 /* ---- mending a captured response */
+
+/* What a mending made. */
+struct gcf_mended {
+    uint64_t bytes;   /* of the copy */
+    uint64_t changes; /* in the list */
+};
 
 /*
  * Mends a complete response to RT 0 from 0 in a copy: reserved flags and reserved body bits and pads are cleared, 0000h to 0003h get both flags, Persistent is
@@ -436,45 +472,45 @@ static inline bool gcf_conforms(gcf_profile profile, const uint8_t *response, si
  * long as it was, stands at the front of the copy buffer, and the changes at the front of the list, in rising order, one for each byte that differs:
  * place * 65536 + old byte * 256 + new byte, where a place counts from 0 (gcf_change_place, gcf_change_old, gcf_change_new). Nothing else changed. Refused: nothing
  * changed. What gcf_check_descriptors finds in the mended response is 0, 30, 31 or 39. A list as long as the response is never too short.
- * numbers: bytes of the copy, changes. Refused: 0, 0.
  */
-uint8_t gcf_mend(const uint8_t *response, size_t response_bytes,
-                 uint8_t *copy, size_t copy_bytes,
-                 uint32_t *changes, size_t changes_count,
-                 uint64_t *numbers, size_t numbers_count);
+uint8_t gcf_mend(const uint8_t *response, uint64_t response_bytes,
+                 uint8_t *copy, uint64_t copy_bytes,
+                 uint32_t *changes, uint64_t changes_count,
+                 struct gcf_mended *mended);
 
 /* What a change says. */
-static inline size_t gcf_change_place(uint32_t change) { return change >> 16; }
+static inline uint64_t gcf_change_place(uint32_t change) { return change >> 16; }
 static inline uint8_t gcf_change_old(uint32_t change) { return (uint8_t)(change >> 8); }
 static inline uint8_t gcf_change_new(uint32_t change) { return (uint8_t)change; }
 
 /* ---- import */
 
 /*
- * Turns a captured response to RT 0 from 0 into a drive sheet from which the box gives those bytes back: 14 to 18, 20, 29, 41, the sheet's 3, then for
+ * Turns a captured response to RT 0 from 0 into a drive sheet in rows from which the box gives those bytes back: 14 to 18, 20, 29, 41, the sheet's 3, then for
  * each descriptor behind feature 0 the sheet's 5, 44, then 42. Accepted: the sheet stands at the front of the buffer, and only its bytes changed.
- * Refused: nothing changed.
- * numbers: bytes of the sheet, the place. Refused: 0, the place that it would have in the sheet: for 3 in feature 0's list, else among the descriptors
- * behind feature 0.
+ * Refused: nothing changed, and the place is the one that it would have in the sheet: for 3 in feature 0's list, else among the descriptors behind feature 0.
  */
-uint8_t gcf_import(const uint8_t *response, size_t response_bytes, uint8_t *sheet, size_t sheet_bytes, uint64_t *numbers, size_t numbers_count);
+uint8_t gcf_import(const uint8_t *response, uint64_t response_bytes, uint8_t *sheet, uint64_t sheet_bytes, struct gcf_made *made);
 
 /* ---- sense data */
 
 /*
- * Makes the 18 bytes of fixed-format sense data for the number that gcf_respond, gcf_respond_columns, gcf_respond_image or their three for what was
- * accepted before gave, 0 too: 54 for a number that no command gives, then 55 for a buffer under GCF_SENSE_BYTES. Accepted: they stand at the front of the
- * buffer, and only they changed. Refused: nothing changed.
- * numbers: bytes written.
+ * Makes the 18 bytes of fixed-format sense data for the number that gcf_respond, gcf_respond_image or their two for what was accepted before gave, 0 too: 54 for
+ * a number that no command gives, then 55 for a buffer under GCF_SENSE_BYTES. Accepted: they stand at the front of the buffer, and only they changed.
+ * Refused: nothing changed.
  */
-uint8_t gcf_make_sense(uint8_t number, uint8_t *sense, size_t sense_bytes, uint64_t *numbers, size_t numbers_count);
+uint8_t gcf_make_sense(uint8_t number, uint8_t *sense, uint64_t sense_bytes, struct gcf_made *made);
+
+/* What sense data says. */
+struct gcf_meaning {
+    uint64_t kind; /* one of enum gcf_kind, 0 where it is refused */
+};
 
 /*
  * What received sense data means: 46 for a length other than 18, 47 for a response code other than 70h, 48 for any other bytes than gcf_make_sense
  * writes.
- * numbers: the kind, one of enum gcf_kind. Refused: 0.
  */
-uint8_t gcf_read_sense(const uint8_t *sense, size_t sense_bytes, uint64_t *numbers, size_t numbers_count);
+uint8_t gcf_read_sense(const uint8_t *sense, uint64_t sense_bytes, struct gcf_meaning *meaning);
 
 #ifdef __cplusplus
 }

@@ -2,6 +2,9 @@
 
 use crate::{accepted, raw, Feature, Number, Profile, COMMAND_BYTES, DESCRIPTOR_MOST, PACKET_BYTES};
 
+/// The header in front of the descriptors.
+const HEADER_BYTES: usize = 8;
+
 /// The Requested Type of a command.
 #[derive(Clone, Copy, Debug, PartialEq, Eq, Hash)]
 #[repr(u8)]
@@ -45,7 +48,7 @@ pub fn packet(rt: Rt, sfn: Feature, allocation: u16) -> [u8; PACKET_BYTES] {
 /// Nothing is refused: the two above and a sweep have one of the two lengths, room for it, and an RT of at most 2.
 fn built<const LENGTH: usize>(rt: u8, sfn: Feature, allocation: u16) -> [u8; LENGTH] {
     let mut command = [0; LENGTH];
-    let number = raw::build_command(LENGTH, rt, sfn, allocation, &mut command, &mut []);
+    let number = raw::build_command(LENGTH, rt, sfn, allocation, &mut command, &mut raw::Made::default());
     debug_assert_eq!(number, 0);
     command
 }
@@ -59,10 +62,31 @@ pub struct Reading<'a> {
     pub data_length: u32,
     /// How many descriptors were received whole.
     pub count: usize,
-    /// Their bytes, a part of the response.
-    pub descriptors: &'a [u8],
     /// Whether the response is complete; else it is cut.
     pub complete: bool,
+    /// The response up to the end of the last of them.
+    whole: &'a [u8],
+}
+
+impl<'a> Reading<'a> {
+    /// The whole descriptors, in their order.
+    pub fn descriptors(&self) -> Descriptors<'a> {
+        Descriptors { bytes: self.whole, place: HEADER_BYTES }
+    }
+
+    /// Their bytes, a part of the response.
+    pub fn bytes(&self) -> &'a [u8] {
+        &self.whole[HEADER_BYTES..]
+    }
+}
+
+impl<'a> IntoIterator for &Reading<'a> {
+    type Item = Descriptor<'a>;
+    type IntoIter = Descriptors<'a>;
+
+    fn into_iter(self) -> Descriptors<'a> {
+        self.descriptors()
+    }
 }
 
 /// Reads a response to Requested Type `rt` from feature `sfn` on: `gcf_read`. Hand over exactly the bytes received.
@@ -73,19 +97,80 @@ pub struct Reading<'a> {
 /// let response = [0, 0, 0, 8, 0, 0, 0, 0x12, 1, 5, 3, 0];
 /// let reading = gcf::read(Rt::All, Feature(0x0105), &response).unwrap();
 /// assert_eq!((reading.profile, reading.count, reading.complete), (Profile(0x0012), 1, true));
-/// assert_eq!(reading.descriptors, [1, 5, 3, 0]);
+/// assert_eq!(reading.bytes(), [1, 5, 3, 0]);
+/// for descriptor in &reading {
+///     assert_eq!((descriptor.feature, descriptor.persistent, descriptor.body), (Feature(0x0105), true, &[][..]));
+/// }
 /// assert_eq!(gcf::read(Rt::All, Feature(0), &response[..7]), Err(Number::ReceivedBad));
 /// ```
 pub fn read(rt: Rt, sfn: Feature, response: &[u8]) -> Result<Reading<'_>, Number> {
-    let mut numbers = [0; 5];
-    accepted(raw::read(rt as u8, sfn, response, &mut numbers))?;
+    let mut reading = raw::Reading::default();
+    accepted(raw::read(rt as u8, sfn, response, &mut reading))?;
     Ok(Reading {
-        profile: Profile(numbers[0] as u16),
-        data_length: numbers[1] as u32,
-        count: numbers[2] as usize,
-        descriptors: &response[8..numbers[3] as usize],
-        complete: numbers[4] != 0,
+        profile: Profile(reading.profile as u16),
+        data_length: reading.data_length as u32,
+        count: reading.count as usize,
+        complete: reading.complete != 0,
+        whole: &response[..reading.end as usize],
     })
+}
+
+/// A descriptor: its fields, and its body as a part of the response.
+#[derive(Clone, Copy, Debug, PartialEq, Eq)]
+pub struct Descriptor<'a> {
+    /// The feature's number.
+    pub feature: Feature,
+    /// All eight bits of its flags, of which the next three are parts.
+    pub flags: u8,
+    /// The Version, 0 to 15.
+    pub version: u8,
+    /// Persistent.
+    pub persistent: bool,
+    /// Current.
+    pub current: bool,
+    /// The bytes behind Additional Length.
+    pub body: &'a [u8],
+}
+
+/// Descriptors that stand one behind the other.
+#[derive(Clone, Copy, Debug, PartialEq, Eq)]
+pub struct Descriptors<'a> {
+    bytes: &'a [u8],
+    place: usize,
+}
+
+impl<'a> Iterator for Descriptors<'a> {
+    type Item = Descriptor<'a>;
+
+    /// The descriptor at the place, if it stands there whole: `gcf_next`.
+    fn next(&mut self) -> Option<Descriptor<'a>> {
+        let mut told = raw::Descriptor::default();
+        if !raw::next(self.place, self.bytes, &mut told) {
+            return None;
+        }
+        self.place = told.next as usize;
+        Some(Descriptor {
+            feature: Feature(told.feature as u16),
+            flags: told.flags as u8,
+            version: told.version as u8,
+            persistent: told.persistent != 0,
+            current: told.current != 0,
+            body: &self.bytes[told.body as usize..self.place],
+        })
+    }
+}
+
+/// The descriptors that stand in bytes one behind the other from the first byte on, as a sweep collects them, up to the first that is not whole.
+///
+/// ```
+/// let collected = [0, 3, 3, 4, 0x29, 0, 0, 0, 1, 5, 3, 0, 1, 7];
+/// let mut descriptors = gcf::descriptors(&collected);
+/// assert_eq!(descriptors.next().unwrap().body, [0x29, 0, 0, 0]);
+/// assert_eq!(descriptors.next().unwrap().feature, gcf::Feature(0x0105));
+/// assert_eq!(descriptors.next(), None);
+/// ```
+pub fn descriptors(bytes: &[u8]) -> Descriptors<'_> {
+    Descriptors { bytes, place: 0 }
 }
 
 /// Where the reading of a response stops: at the first descriptor that is at fault or not whole, or at the end.
@@ -108,10 +193,11 @@ pub struct Stop {
 /// assert_eq!(gcf::stops(65_534, Rt::All, Feature(0), &response), Stop { place: 12, feature: Some(Feature(1)) });
 /// ```
 pub fn stops(most: usize, rt: Rt, sfn: Feature, response: &[u8]) -> Stop {
-    let mut numbers = [0];
-    let place = raw::stops(most, rt as u8, sfn, response, &mut numbers);
+    let mut stop = raw::Stop::default();
+    raw::stops(most, rt as u8, sfn, response, &mut stop);
+    let place = stop.place as usize;
     let stands = place > 0 && place + 4 <= response.len();
-    Stop { place, feature: Some(Feature(numbers[0] as u16)).filter(|_| stands) }
+    Stop { place, feature: Some(Feature(stop.feature as u16)).filter(|_| stands) }
 }
 
 /// Where a feature's descriptor stands in a response to RT 0 from 0, or would stand: `gcf_place`.
@@ -221,7 +307,7 @@ impl Sweep {
 
     /// How many bytes of the collecting buffer are descriptors.
     pub fn collected(&self) -> usize {
-        self.0.collected
+        self.0.collected as usize
     }
 
     /// The feature number that the next command starts at.
@@ -268,11 +354,11 @@ pub enum Finding {
 /// assert_eq!(gcf::check_descriptors(&response[..12]), Finding::Refused(Number::ResponseCut));
 /// ```
 pub fn check_descriptors(response: &[u8]) -> Finding {
-    let mut numbers = [0];
-    match Number::of(raw::check_descriptors(response, &mut numbers)) {
+    let mut finding = raw::Finding::default();
+    match Number::of(raw::check_descriptors(response, &mut finding)) {
         None => Finding::Faultless,
         Some(number) if (30..=39).contains(&number.number()) => {
-            Finding::Fault(number, Feature(numbers[0] as u16))
+            Finding::Fault(number, Feature(finding.feature as u16))
         }
         Some(number) => Finding::Refused(number),
     }
@@ -316,11 +402,11 @@ pub enum Judgement {
 /// assert_eq!(gcf::check_profile(Profile(0x0009), &response), Judgement::Refused(Number::NoTable));
 /// ```
 pub fn check_profile(profile: Profile, response: &[u8]) -> Judgement {
-    let mut numbers = [0; 2];
-    if let Err(number) = accepted(raw::check_profile(profile, response, &mut numbers)) {
+    let mut judgement = raw::Judgement::default();
+    if let Err(number) = accepted(raw::check_profile(profile, response, &mut judgement)) {
         return Judgement::Refused(number);
     }
-    let wrong = match numbers[0] {
+    let wrong = match judgement.wrong {
         0 => return Judgement::Conforms,
         1 => Wrong::Absent,
         2 => Wrong::TooShort,
@@ -328,5 +414,5 @@ pub fn check_profile(profile: Profile, response: &[u8]) -> Judgement {
         4 => Wrong::NotCurrent,
         _ => Wrong::TooLong,
     };
-    Judgement::Broken(Feature(numbers[1] as u16), wrong)
+    Judgement::Broken(Feature(judgement.feature as u16), wrong)
 }

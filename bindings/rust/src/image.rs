@@ -1,6 +1,6 @@
 //! The box that holds an image in place of a sheet.
 
-use crate::drive::placed;
+use crate::drive::{made, placed};
 use crate::{accepted, raw, Number, Refused};
 
 /// An image that was accepted: a complete response to RT 0 from 0 that [`import`](crate::import) takes. Its bytes are borrowed, so that they
@@ -22,9 +22,9 @@ impl<'a> Image<'a> {
     /// assert_eq!(Image::check(&gcf::IMAGE_E[..40]).unwrap_err().number, Number::ResponseCut);
     /// ```
     pub fn check(bytes: &'a [u8]) -> Result<Image<'a>, Refused> {
-        let mut numbers = [0];
-        let number = raw::check_image(bytes, &mut numbers);
-        placed(number, numbers[0]).map(|()| Image(bytes))
+        let mut check = raw::Check::default();
+        let number = raw::check_image(bytes, &mut check);
+        placed(number, check.place).map(|()| Image(bytes))
     }
 
     /// Answers a command's bytes: `gcf_respond_image_accepted`. Gives the bytes to send, the front of the buffer; nothing else of it changed.
@@ -39,9 +39,9 @@ impl<'a> Image<'a> {
     /// assert_eq!(image.respond(&[0x46, 0], &mut response), Err(gcf::Number::CommandLength));
     /// ```
     pub fn respond<'b>(&self, command: &[u8], response: &'b mut [u8]) -> Result<&'b [u8], Number> {
-        let mut numbers = [0];
-        accepted(raw::respond_image_accepted(self.0, command, response, &mut numbers))?;
-        Ok(&response[..numbers[0] as usize])
+        let mut sent = raw::Made::default();
+        accepted(raw::respond_image_accepted(self.0, command, response, &mut sent))?;
+        Ok(&response[..sent.bytes as usize])
     }
 
     /// The image's bytes.
@@ -61,7 +61,7 @@ impl<'a> Image<'a> {
 /// assert_eq!(gcf::respond_image(&[0; 7], &command, &mut response), Err(Refused { number: Number::ReceivedBad, line: None }));
 /// ```
 pub fn respond_image<'b>(image: &[u8], command: &[u8], response: &'b mut [u8]) -> Result<&'b [u8], Refused> {
-    let mut numbers = [0; 2];
-    placed(raw::respond_image(image, command, response, &mut numbers), numbers[1])?;
-    Ok(&response[..numbers[0] as usize])
+    let mut sent = raw::Made::default();
+    let number = raw::respond_image(image, command, response, &mut sent);
+    made(number, sent, response)
 }

@@ -7,9 +7,9 @@
 //! The box answers from a drive sheet:
 //!
 //! ```
-//! use gcf::{Number, Sheet};
+//! use gcf::{Layout, Number, Sheet};
 //!
-//! let sheet = Sheet::check(&gcf::SHEET_E).unwrap();
+//! let sheet = Sheet::check(Layout::Rows, &gcf::SHEET_E).unwrap();
 //! let mut response = [0; 44];
 //! let sent = sheet.respond(&[0x46, 0, 0, 0, 0, 0, 0, 0, 44, 0], &mut response).unwrap(); // 10 bytes, or 12 in a packet
 //! assert_eq!(sent[..8], [0, 0, 0, 40, 0, 0, 0, 0x12]);
@@ -28,9 +28,9 @@
 //! The driver sweeps it, here with an allocation length of 20 bytes:
 //!
 //! ```
-//! use gcf::{Rt, Sheet, Sweep};
+//! use gcf::{Layout, Rt, Sheet, Sweep};
 //!
-//! let sheet = Sheet::check(&gcf::SHEET_E).unwrap();
+//! let sheet = Sheet::check(Layout::Rows, &gcf::SHEET_E).unwrap();
 //! let (mut response, mut collecting) = ([0; 20], [0; 64]);
 //! let mut sweep = Sweep::start(Rt::All, 20).unwrap();
 //! while !sweep.ended() {
@@ -38,35 +38,47 @@
 //!     sweep.take(received, &mut collecting).unwrap();
 //! }
 //! assert_eq!((sweep.commands(), sweep.collected()), (4, 36));
+//! let features: Vec<u16> = gcf::descriptors(&collecting[..36]).map(|descriptor| descriptor.feature.0).collect();
+//! assert_eq!(features, [0, 1, 3, 0x001F, 0x0105]);
 //! ```
+//!
+//! A refusal says why, in the words of the programs:
+//!
+//! ```
+//! use gcf::{Layout, Sheet};
+//!
+//! let refused = Sheet::check(Layout::Rows, &[0; 3]).unwrap_err();
+//! assert_eq!(refused.to_string(), "1: the sheet has under 4 bytes, or under 4 + 8n + 4p");
+//! ```
+//!
+//! With the feature `std`, which is on unless it is turned off, numbers and refusals are errors, `std::error::Error`.
 #![no_std]
 #![deny(unsafe_code)]
 #![warn(missing_docs)]
 
-#[cfg(not(target_pointer_width = "64"))]
-compile_error!("libgcf.a takes lengths of 64 bits, and usize has fewer on this target");
+#[cfg(feature = "std")]
+extern crate std;
 
-mod columns;
+#[cfg(not(target_pointer_width = "64"))]
+compile_error!("there is no libgcf.a for a target whose usize has not 64 bits");
+
 mod drive;
 mod driver;
 mod image;
-mod medium;
 mod mend;
 mod numbers;
 #[allow(unsafe_code, missing_docs)]
 pub mod raw;
 mod sense;
 
-pub use columns::{bench_columns, respond_columns, to_columns, to_rows, Columns};
-pub use drive::{bench, import, most, respond, Line, Refused, Sheet, Swept};
+pub use drive::{bench, convert, import, load, most, respond, Layout, Line, Refused, Sheet, Swept};
 pub use driver::{
-    check_descriptors, check_profile, command, held, list, packet, place, read, stops, Finding, Judgement,
-    Reading, Rt, Stop, Sweep, Wrong,
+    check_descriptors, check_profile, command, descriptors, held, list, packet, place, read, stops,
+    Descriptor, Descriptors, Finding, Judgement, Reading, Rt, Stop, Sweep, Wrong,
 };
 pub use image::{respond_image, Image};
-pub use medium::{load, load_columns};
 pub use mend::{mend, undo, Change, Mended};
-pub use numbers::Number;
+pub use numbers::{Number, Words};
 pub use sense::{make_sense, read_sense, Kind};
 
 /// A feature number: `gcf_feature`. A profile number does not fit its place.
@@ -102,6 +114,8 @@ pub const SHEET_MOST: usize = 17_039_356;
 pub const IMPORT_MOST: usize = 131_044;
 /// Sense data in fixed format.
 pub const SENSE_BYTES: usize = 18;
+/// The sentence of a number has at most so many bytes.
+pub const WORDS_MOST: usize = 129;
 
 /// Sheet E, the manual's worked example: a recorder with four features and two profiles.
 pub const SHEET_E: [u8; 52] = [

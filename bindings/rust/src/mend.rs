@@ -60,9 +60,9 @@ pub fn mend<'b, 'c>(
     copy: &'b mut [u8],
     list: &'c mut [u32],
 ) -> Result<Mended<'b, 'c>, Number> {
-    let mut numbers = [0; 2];
-    accepted(raw::mend(response, copy, list, &mut numbers))?;
-    Ok(Mended { copy: &copy[..numbers[0] as usize], lines: &list[..numbers[1] as usize] })
+    let mut mended = raw::Mended::default();
+    accepted(raw::mend(response, copy, list, &mut mended))?;
+    Ok(Mended { copy: &copy[..mended.bytes as usize], lines: &list[..mended.changes as usize] })
 }
 
 /// Undoes changes in a mended copy, one after the other: what comes of all of them is the response as it was.

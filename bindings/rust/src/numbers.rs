@@ -1,5 +1,7 @@
 //! The numbers that are given: `enum gcf_number` of `include/gcf.h`, as an enum with a variant each.
 
+use crate::{raw, WORDS_MOST};
+
 /// Makes the enum, its numbers and the way back from one table.
 macro_rules! numbers {
     ($($(#[$words:meta])* $name:ident = $number:literal,)*) => {
@@ -141,8 +143,44 @@ numbers! {
     SenseBufferShort = 55,
 }
 
-impl core::fmt::Display for Number {
-    fn fmt(&self, to: &mut core::fmt::Formatter<'_>) -> core::fmt::Result {
-        write!(to, "{}", self.number())
+/// The sentence of a number.
+#[derive(Clone, Copy)]
+pub struct Words {
+    text: [u8; WORDS_MOST],
+    count: usize,
+}
+
+impl Words {
+    /// As text; empty for a number that is not given.
+    pub fn as_str(&self) -> &str {
+        core::str::from_utf8(&self.text[..self.count]).unwrap_or("")
     }
 }
+
+impl Number {
+    /// What it means, in the words of the programs: `gcf_words`.
+    ///
+    /// ```
+    /// assert_eq!(gcf::Number::RtReserved.words().as_str(), "RT 3 is reserved");
+    /// assert_eq!(gcf::Number::Other(200).words().as_str(), "");
+    /// ```
+    pub fn words(self) -> Words {
+        let mut text = [0; WORDS_MOST];
+        let count = raw::words(self.number(), &mut text);
+        Words { text, count }
+    }
+}
+
+/// The number and its sentence.
+///
+/// ```
+/// assert_eq!(gcf::Number::RtReserved.to_string(), "11: RT 3 is reserved");
+/// ```
+impl core::fmt::Display for Number {
+    fn fmt(&self, to: &mut core::fmt::Formatter<'_>) -> core::fmt::Result {
+        write!(to, "{}: {}", self.number(), self.words().as_str())
+    }
+}
+
+#[cfg(feature = "std")]
+impl std::error::Error for Number {}

@@ -1,10 +1,65 @@
-//! The exported functions as `include/gcf.h` declares them, over slices: a number comes out, and further results go to the front of
-//! `numbers`, as far as it has room; the two of a sweep take its record and give a step. All unsafe code of this crate is here. The functions of the crate's root are easier to use.
+//! The exported functions as `include/gcf.h` declares them, over slices: a number comes out, or a count, and further results go to a struct, every field of it; the
+//! two of a sweep take its record and give a step. All unsafe code of this crate is here. The functions of the crate's root are easier to use.
 //!
-//! Every wrapper hands over slices, each as its pointer and its count of elements. A slice's pointer is never null and is aligned, and a
-//! slice that is written overlaps no other, which is all that the functions ask of a caller.
+//! Every wrapper hands over slices, each as its pointer and its count of elements, and structs, each as its pointer. Such a pointer is never null and is aligned,
+//! and what is written overlaps nothing else, which is all that the functions ask of a caller.
 
 use crate::{Feature, Profile};
+
+/// A struct of further results.
+pub trait Told: Copy {
+    /// One with this number in every field.
+    fn filled(number: u64) -> Self;
+    /// Its fields, in their order.
+    fn numbers(&self) -> &[u64];
+}
+
+/// Makes the structs of further results: as in C, each field is a number of 64 bits.
+macro_rules! told {
+    ($($(#[$words:meta])* $name:ident { $($field:ident),* })*) => {$(
+        $(#[$words])*
+        #[repr(C)]
+        #[derive(Clone, Copy, Debug, Default, PartialEq, Eq)]
+        pub struct $name {
+            $(pub $field: u64,)*
+        }
+
+        impl Told for $name {
+            fn filled(number: u64) -> $name {
+                $name { $($field: number,)* }
+            }
+
+            fn numbers(&self) -> &[u64] {
+                let count = core::mem::size_of::<$name>() / core::mem::size_of::<u64>();
+                // every field is a u64, one behind the other
+                unsafe { core::slice::from_raw_parts((self as *const $name).cast(), count) }
+            }
+        }
+    )*};
+}
+
+told! {
+    /// A check of a sheet or of an image: `struct gcf_check`.
+    Check { place }
+    /// Bytes that were made: `struct gcf_made`.
+    Made { bytes, place }
+    /// What a response holds: `struct gcf_reading`.
+    Reading { profile, data_length, count, end, complete }
+    /// A descriptor in a response: `struct gcf_descriptor`.
+    Descriptor { feature, flags, version, persistent, current, body, body_bytes, next }
+    /// Where a reading stops: `struct gcf_stop`.
+    Stop { place, feature }
+    /// What a bench sweep did: `struct gcf_swept`.
+    Swept { commands, collected, place }
+    /// What a check of descriptors finds: `struct gcf_finding`.
+    Finding { feature }
+    /// What is said of a profile: `struct gcf_judgement`.
+    Judgement { wrong, feature }
+    /// What a mending made: `struct gcf_mended`.
+    Mended { bytes, changes }
+    /// What sense data says: `struct gcf_meaning`.
+    Meaning { kind }
+}
 
 /// A sweep's record: `struct gcf_sweep`. Any record may be handed in.
 #[repr(C)]
@@ -17,7 +72,7 @@ pub struct Sweep {
     /// Responses accepted so far.
     pub commands: u32,
     /// Bytes collected so far.
-    pub collected: usize,
+    pub collected: u64,
     pub ended: bool,
     /// The Current Profile of the first accepted response, 0 before it.
     pub profile: Profile,
@@ -41,596 +96,422 @@ pub struct Step {
 
 #[link(name = "gcf", kind = "static")]
 extern "C" {
-    fn gcf_check_sheet(sheet: *const u8, sheet_len: usize, numbers: *mut u64, numbers_len: usize) -> u8;
+    fn gcf_words(number: u8, text: *mut u8, text_len: u64) -> u64;
+    fn gcf_check_sheet(columns: bool, sheet: *const u8, sheet_len: u64, check: *mut Check) -> u8;
     fn gcf_respond(
+        columns: bool,
         sheet: *const u8,
-        sheet_len: usize,
+        sheet_len: u64,
         command: *const u8,
-        command_len: usize,
+        command_len: u64,
         response: *mut u8,
-        response_len: usize,
-        numbers: *mut u64,
-        numbers_len: usize,
+        response_len: u64,
+        sent: *mut Made,
     ) -> u8;
     fn gcf_respond_accepted(
+        columns: bool,
         sheet: *const u8,
-        sheet_len: usize,
+        sheet_len: u64,
         command: *const u8,
-        command_len: usize,
+        command_len: u64,
         response: *mut u8,
-        response_len: usize,
-        numbers: *mut u64,
-        numbers_len: usize,
+        response_len: u64,
+        sent: *mut Made,
     ) -> u8;
-    fn gcf_check_columns(sheet: *const u8, sheet_len: usize, numbers: *mut u64, numbers_len: usize) -> u8;
-    fn gcf_respond_columns(
+    fn gcf_convert(
+        columns: bool,
         sheet: *const u8,
-        sheet_len: usize,
-        command: *const u8,
-        command_len: usize,
-        response: *mut u8,
-        response_len: usize,
-        numbers: *mut u64,
-        numbers_len: usize,
-    ) -> u8;
-    fn gcf_respond_columns_accepted(
-        sheet: *const u8,
-        sheet_len: usize,
-        command: *const u8,
-        command_len: usize,
-        response: *mut u8,
-        response_len: usize,
-        numbers: *mut u64,
-        numbers_len: usize,
-    ) -> u8;
-    fn gcf_to_columns(
-        sheet: *const u8,
-        sheet_len: usize,
-        columns: *mut u8,
-        columns_len: usize,
-        numbers: *mut u64,
-        numbers_len: usize,
-    ) -> u8;
-    fn gcf_to_rows(
-        sheet: *const u8,
-        sheet_len: usize,
-        rows: *mut u8,
-        rows_len: usize,
-        numbers: *mut u64,
-        numbers_len: usize,
+        sheet_len: u64,
+        to_columns: bool,
+        converted: *mut u8,
+        converted_len: u64,
+        made: *mut Made,
     ) -> u8;
     fn gcf_load(
+        columns: bool,
         sheet: *const u8,
-        sheet_len: usize,
+        sheet_len: u64,
         features: *const Feature,
-        features_len: usize,
+        features_len: u64,
         profiles: *const Profile,
-        profiles_len: usize,
+        profiles_len: u64,
         loaded: *mut u8,
-        loaded_len: usize,
-        numbers: *mut u64,
-        numbers_len: usize,
+        loaded_len: u64,
+        made: *mut Made,
     ) -> u8;
-    fn gcf_load_columns(
-        sheet: *const u8,
-        sheet_len: usize,
-        features: *const Feature,
-        features_len: usize,
-        profiles: *const Profile,
-        profiles_len: usize,
-        loaded: *mut u8,
-        loaded_len: usize,
-        numbers: *mut u64,
-        numbers_len: usize,
-    ) -> u8;
-    fn gcf_mend(
-        response: *const u8,
-        response_len: usize,
-        copy: *mut u8,
-        copy_len: usize,
-        changes: *mut u32,
-        changes_len: usize,
-        numbers: *mut u64,
-        numbers_len: usize,
-    ) -> u8;
-    fn gcf_check_image(image: *const u8, image_len: usize, numbers: *mut u64, numbers_len: usize) -> u8;
+    fn gcf_check_image(image: *const u8, image_len: u64, check: *mut Check) -> u8;
     fn gcf_respond_image(
         image: *const u8,
-        image_len: usize,
+        image_len: u64,
         command: *const u8,
-        command_len: usize,
+        command_len: u64,
         response: *mut u8,
-        response_len: usize,
-        numbers: *mut u64,
-        numbers_len: usize,
+        response_len: u64,
+        sent: *mut Made,
     ) -> u8;
     fn gcf_respond_image_accepted(
         image: *const u8,
-        image_len: usize,
+        image_len: u64,
         command: *const u8,
-        command_len: usize,
+        command_len: u64,
         response: *mut u8,
-        response_len: usize,
-        numbers: *mut u64,
-        numbers_len: usize,
+        response_len: u64,
+        sent: *mut Made,
     ) -> u8;
     fn gcf_build_command(
-        length: usize,
+        length: u64,
         rt: u8,
         sfn: Feature,
         allocation: u16,
         command: *mut u8,
-        command_len: usize,
-        numbers: *mut u64,
-        numbers_len: usize,
+        command_len: u64,
+        made: *mut Made,
     ) -> u8;
-    fn gcf_read(
-        rt: u8,
-        sfn: Feature,
-        response: *const u8,
-        response_len: usize,
-        numbers: *mut u64,
-        numbers_len: usize,
-    ) -> u8;
-    fn gcf_stops(
-        most: usize,
-        rt: u8,
-        sfn: Feature,
-        response: *const u8,
-        response_len: usize,
-        numbers: *mut u64,
-        numbers_len: usize,
-    ) -> usize;
-    fn gcf_place(feature: Feature, response: *const u8, response_len: usize) -> usize;
+    fn gcf_read(rt: u8, sfn: Feature, response: *const u8, response_len: u64, reading: *mut Reading) -> u8;
+    fn gcf_next(place: u64, response: *const u8, response_len: u64, descriptor: *mut Descriptor) -> bool;
+    fn gcf_stops(most: u64, rt: u8, sfn: Feature, response: *const u8, response_len: u64, stop: *mut Stop);
+    fn gcf_place(feature: Feature, response: *const u8, response_len: u64) -> u64;
     fn gcf_held(
         feature: Feature,
         fresh: *const u8,
-        fresh_len: usize,
+        fresh_len: u64,
         kept: *const u8,
-        kept_len: usize,
+        kept_len: u64,
         descriptor: *mut u8,
-        descriptor_len: usize,
-    ) -> usize;
-    fn gcf_list(response: *const u8, response_len: usize, text: *mut u8, text_len: usize) -> usize;
-    fn gcf_most(allocation: u16) -> usize;
+        descriptor_len: u64,
+    ) -> u64;
+    fn gcf_list(response: *const u8, response_len: u64, text: *mut u8, text_len: u64) -> u64;
+    fn gcf_most(allocation: u16) -> u64;
     fn gcf_sweep_start(rt: u8, allocation: u16) -> Step;
     fn gcf_sweep_take(
         sweep: Sweep,
         response: *const u8,
-        response_len: usize,
+        response_len: u64,
         collecting: *mut u8,
-        collecting_len: usize,
+        collecting_len: u64,
     ) -> Step;
     fn gcf_bench(
+        columns: bool,
         sheet: *const u8,
-        sheet_len: usize,
+        sheet_len: u64,
         rt: u8,
         allocation: u16,
         response: *mut u8,
-        response_len: usize,
+        response_len: u64,
         collected: *mut u8,
-        collected_len: usize,
+        collected_len: u64,
         starts: *mut u16,
-        starts_len: usize,
-        numbers: *mut u64,
-        numbers_len: usize,
+        starts_len: u64,
+        swept: *mut Swept,
     ) -> u8;
-    fn gcf_bench_columns(
-        sheet: *const u8,
-        sheet_len: usize,
-        rt: u8,
-        allocation: u16,
-        response: *mut u8,
-        response_len: usize,
-        collected: *mut u8,
-        collected_len: usize,
-        starts: *mut u16,
-        starts_len: usize,
-        numbers: *mut u64,
-        numbers_len: usize,
-    ) -> u8;
-    fn gcf_check_descriptors(
-        response: *const u8,
-        response_len: usize,
-        numbers: *mut u64,
-        numbers_len: usize,
-    ) -> u8;
+    fn gcf_check_descriptors(response: *const u8, response_len: u64, finding: *mut Finding) -> u8;
     fn gcf_check_profile(
         profile: Profile,
         response: *const u8,
-        response_len: usize,
-        numbers: *mut u64,
-        numbers_len: usize,
+        response_len: u64,
+        judgement: *mut Judgement,
+    ) -> u8;
+    fn gcf_mend(
+        response: *const u8,
+        response_len: u64,
+        copy: *mut u8,
+        copy_len: u64,
+        changes: *mut u32,
+        changes_len: u64,
+        mended: *mut Mended,
     ) -> u8;
     fn gcf_import(
         response: *const u8,
-        response_len: usize,
+        response_len: u64,
         sheet: *mut u8,
-        sheet_len: usize,
-        numbers: *mut u64,
-        numbers_len: usize,
+        sheet_len: u64,
+        made: *mut Made,
     ) -> u8;
-    fn gcf_make_sense(
-        number: u8,
-        sense: *mut u8,
-        sense_len: usize,
-        numbers: *mut u64,
-        numbers_len: usize,
-    ) -> u8;
-    fn gcf_read_sense(sense: *const u8, sense_len: usize, numbers: *mut u64, numbers_len: usize) -> u8;
+    fn gcf_make_sense(number: u8, sense: *mut u8, sense_len: u64, made: *mut Made) -> u8;
+    fn gcf_read_sense(sense: *const u8, sense_len: u64, meaning: *mut Meaning) -> u8;
 }
 
-/// Checks a sheet; the numbers are: place.
-pub fn check_sheet(sheet: &[u8], numbers: &mut [u64]) -> u8 {
-    unsafe { gcf_check_sheet(sheet.as_ptr(), sheet.len(), numbers.as_mut_ptr(), numbers.len()) }
+/// The sentence of a number: the count of bytes written.
+pub fn words(number: u8, text: &mut [u8]) -> usize {
+    let count = unsafe { gcf_words(number, text.as_mut_ptr(), text.len() as u64) };
+    count as usize
 }
 
-/// Answers a command; the numbers are: bytes sent, place.
-pub fn respond(sheet: &[u8], command: &[u8], response: &mut [u8], numbers: &mut [u64]) -> u8 {
+/// Checks a sheet.
+pub fn check_sheet(columns: bool, sheet: &[u8], check: &mut Check) -> u8 {
+    unsafe { gcf_check_sheet(columns, sheet.as_ptr(), sheet.len() as u64, check) }
+}
+
+/// Answers a command.
+pub fn respond(columns: bool, sheet: &[u8], command: &[u8], response: &mut [u8], sent: &mut Made) -> u8 {
     unsafe {
         gcf_respond(
+            columns,
             sheet.as_ptr(),
-            sheet.len(),
+            sheet.len() as u64,
             command.as_ptr(),
-            command.len(),
+            command.len() as u64,
             response.as_mut_ptr(),
-            response.len(),
-            numbers.as_mut_ptr(),
-            numbers.len(),
+            response.len() as u64,
+            sent,
         )
     }
 }
 
-/// Answers a command from a sheet that was accepted before; the numbers are: bytes sent.
-pub fn respond_accepted(sheet: &[u8], command: &[u8], response: &mut [u8], numbers: &mut [u64]) -> u8 {
-    unsafe {
-        gcf_respond_accepted(
-            sheet.as_ptr(),
-            sheet.len(),
-            command.as_ptr(),
-            command.len(),
-            response.as_mut_ptr(),
-            response.len(),
-            numbers.as_mut_ptr(),
-            numbers.len(),
-        )
-    }
-}
-
-/// Checks a sheet in columns; the numbers are: place.
-pub fn check_columns(sheet: &[u8], numbers: &mut [u64]) -> u8 {
-    unsafe { gcf_check_columns(sheet.as_ptr(), sheet.len(), numbers.as_mut_ptr(), numbers.len()) }
-}
-
-/// Answers a command from a sheet in columns; the numbers are: bytes sent, place.
-pub fn respond_columns(sheet: &[u8], command: &[u8], response: &mut [u8], numbers: &mut [u64]) -> u8 {
-    unsafe {
-        gcf_respond_columns(
-            sheet.as_ptr(),
-            sheet.len(),
-            command.as_ptr(),
-            command.len(),
-            response.as_mut_ptr(),
-            response.len(),
-            numbers.as_mut_ptr(),
-            numbers.len(),
-        )
-    }
-}
-
-/// Answers a command from a sheet in columns that was accepted before; the numbers are: bytes sent.
-pub fn respond_columns_accepted(
+/// Answers a command from a sheet that was accepted before.
+pub fn respond_accepted(
+    columns: bool,
     sheet: &[u8],
     command: &[u8],
     response: &mut [u8],
-    numbers: &mut [u64],
+    sent: &mut Made,
 ) -> u8 {
     unsafe {
-        gcf_respond_columns_accepted(
+        gcf_respond_accepted(
+            columns,
             sheet.as_ptr(),
-            sheet.len(),
+            sheet.len() as u64,
             command.as_ptr(),
-            command.len(),
+            command.len() as u64,
             response.as_mut_ptr(),
-            response.len(),
-            numbers.as_mut_ptr(),
-            numbers.len(),
+            response.len() as u64,
+            sent,
         )
     }
 }
 
-/// Turns a sheet into columns; the numbers are: bytes of the sheet, place.
-pub fn to_columns(sheet: &[u8], columns: &mut [u8], numbers: &mut [u64]) -> u8 {
+/// Lays a sheet out anew.
+pub fn convert(columns: bool, sheet: &[u8], to_columns: bool, converted: &mut [u8], made: &mut Made) -> u8 {
     unsafe {
-        gcf_to_columns(
+        gcf_convert(
+            columns,
             sheet.as_ptr(),
-            sheet.len(),
-            columns.as_mut_ptr(),
-            columns.len(),
-            numbers.as_mut_ptr(),
-            numbers.len(),
+            sheet.len() as u64,
+            to_columns,
+            converted.as_mut_ptr(),
+            converted.len() as u64,
+            made,
         )
     }
 }
 
-/// Turns a sheet in columns into rows; the numbers are: bytes of the sheet, place.
-pub fn to_rows(sheet: &[u8], rows: &mut [u8], numbers: &mut [u64]) -> u8 {
-    unsafe {
-        gcf_to_rows(
-            sheet.as_ptr(),
-            sheet.len(),
-            rows.as_mut_ptr(),
-            rows.len(),
-            numbers.as_mut_ptr(),
-            numbers.len(),
-        )
-    }
-}
-
-/// Loads a medium; the numbers are: bytes of the sheet, place.
+/// Makes the sheet that a medium leaves.
 pub fn load(
+    columns: bool,
     sheet: &[u8],
     features: &[Feature],
     profiles: &[Profile],
     loaded: &mut [u8],
-    numbers: &mut [u64],
+    made: &mut Made,
 ) -> u8 {
     unsafe {
         gcf_load(
+            columns,
             sheet.as_ptr(),
-            sheet.len(),
+            sheet.len() as u64,
             features.as_ptr(),
-            features.len(),
+            features.len() as u64,
             profiles.as_ptr(),
-            profiles.len(),
+            profiles.len() as u64,
             loaded.as_mut_ptr(),
-            loaded.len(),
-            numbers.as_mut_ptr(),
-            numbers.len(),
+            loaded.len() as u64,
+            made,
         )
     }
 }
 
-/// Loads a medium into a sheet in columns; the numbers are: bytes of the sheet, place.
-pub fn load_columns(
-    sheet: &[u8],
-    features: &[Feature],
-    profiles: &[Profile],
-    loaded: &mut [u8],
-    numbers: &mut [u64],
-) -> u8 {
-    unsafe {
-        gcf_load_columns(
-            sheet.as_ptr(),
-            sheet.len(),
-            features.as_ptr(),
-            features.len(),
-            profiles.as_ptr(),
-            profiles.len(),
-            loaded.as_mut_ptr(),
-            loaded.len(),
-            numbers.as_mut_ptr(),
-            numbers.len(),
-        )
-    }
+/// Checks an image.
+pub fn check_image(image: &[u8], check: &mut Check) -> u8 {
+    unsafe { gcf_check_image(image.as_ptr(), image.len() as u64, check) }
 }
 
-/// Mends a response in a copy and lists the changes; the numbers are: bytes of the copy, changes.
-pub fn mend(response: &[u8], copy: &mut [u8], changes: &mut [u32], numbers: &mut [u64]) -> u8 {
-    unsafe {
-        gcf_mend(
-            response.as_ptr(),
-            response.len(),
-            copy.as_mut_ptr(),
-            copy.len(),
-            changes.as_mut_ptr(),
-            changes.len(),
-            numbers.as_mut_ptr(),
-            numbers.len(),
-        )
-    }
-}
-
-/// Checks an image; the numbers are: place.
-pub fn check_image(image: &[u8], numbers: &mut [u64]) -> u8 {
-    unsafe { gcf_check_image(image.as_ptr(), image.len(), numbers.as_mut_ptr(), numbers.len()) }
-}
-
-/// Answers a command from an image; the numbers are: bytes sent, place.
-pub fn respond_image(image: &[u8], command: &[u8], response: &mut [u8], numbers: &mut [u64]) -> u8 {
+/// Answers a command from an image.
+pub fn respond_image(image: &[u8], command: &[u8], response: &mut [u8], sent: &mut Made) -> u8 {
     unsafe {
         gcf_respond_image(
             image.as_ptr(),
-            image.len(),
+            image.len() as u64,
             command.as_ptr(),
-            command.len(),
+            command.len() as u64,
             response.as_mut_ptr(),
-            response.len(),
-            numbers.as_mut_ptr(),
-            numbers.len(),
+            response.len() as u64,
+            sent,
         )
     }
 }
 
-/// Answers a command from an image that was accepted before; the numbers are: bytes sent.
-pub fn respond_image_accepted(image: &[u8], command: &[u8], response: &mut [u8], numbers: &mut [u64]) -> u8 {
+/// Answers a command from an image that was accepted before.
+pub fn respond_image_accepted(image: &[u8], command: &[u8], response: &mut [u8], sent: &mut Made) -> u8 {
     unsafe {
         gcf_respond_image_accepted(
             image.as_ptr(),
-            image.len(),
+            image.len() as u64,
             command.as_ptr(),
-            command.len(),
+            command.len() as u64,
             response.as_mut_ptr(),
-            response.len(),
-            numbers.as_mut_ptr(),
-            numbers.len(),
+            response.len() as u64,
+            sent,
         )
     }
 }
 
-/// Makes the command of `length` bytes that asks for these; the numbers are: bytes written.
+/// Makes a command of so many bytes.
 pub fn build_command(
     length: usize,
     rt: u8,
     sfn: Feature,
     allocation: u16,
     command: &mut [u8],
-    numbers: &mut [u64],
+    made: &mut Made,
 ) -> u8 {
     unsafe {
         gcf_build_command(
-            length,
+            length as u64,
             rt,
             sfn,
             allocation,
             command.as_mut_ptr(),
-            command.len(),
-            numbers.as_mut_ptr(),
-            numbers.len(),
+            command.len() as u64,
+            made,
         )
     }
 }
 
-/// Reads a response; the numbers are: profile, Data Length, whole descriptors, place behind the last, complete.
-pub fn read(rt: u8, sfn: Feature, response: &[u8], numbers: &mut [u64]) -> u8 {
-    unsafe { gcf_read(rt, sfn, response.as_ptr(), response.len(), numbers.as_mut_ptr(), numbers.len()) }
+/// Reads a response.
+pub fn read(rt: u8, sfn: Feature, response: &[u8], reading: &mut Reading) -> u8 {
+    unsafe { gcf_read(rt, sfn, response.as_ptr(), response.len() as u64, reading) }
 }
 
-/// Where the reading of a response stops; the number is the feature that stands there.
-pub fn stops(most: usize, rt: u8, sfn: Feature, response: &[u8], numbers: &mut [u64]) -> usize {
-    unsafe { gcf_stops(most, rt, sfn, response.as_ptr(), response.len(), numbers.as_mut_ptr(), numbers.len()) }
+/// The descriptor at a place, if it stands there whole.
+pub fn next(place: usize, response: &[u8], descriptor: &mut Descriptor) -> bool {
+    unsafe { gcf_next(place as u64, response.as_ptr(), response.len() as u64, descriptor) }
 }
 
-/// Where a feature's descriptor stands in a response.
+/// Where a reading stops.
+pub fn stops(most: usize, rt: u8, sfn: Feature, response: &[u8], stop: &mut Stop) {
+    unsafe { gcf_stops(most as u64, rt, sfn, response.as_ptr(), response.len() as u64, stop) }
+}
+
+/// Where a feature stands, or would stand.
 pub fn place(feature: Feature, response: &[u8]) -> usize {
-    unsafe { gcf_place(feature, response.as_ptr(), response.len()) }
+    let count = unsafe { gcf_place(feature, response.as_ptr(), response.len() as u64) };
+    count as usize
 }
 
-/// Copies a feature's descriptor from the fresh response, else from the kept one; gives how many bytes it wrote.
+/// Copies a descriptor: the count of bytes written.
 pub fn held(feature: Feature, fresh: &[u8], kept: &[u8], descriptor: &mut [u8]) -> usize {
-    unsafe {
+    let count = unsafe {
         gcf_held(
             feature,
             fresh.as_ptr(),
-            fresh.len(),
+            fresh.len() as u64,
             kept.as_ptr(),
-            kept.len(),
+            kept.len() as u64,
             descriptor.as_mut_ptr(),
-            descriptor.len(),
+            descriptor.len() as u64,
         )
-    }
+    };
+    count as usize
 }
 
-/// Writes the listing of a response; gives how many bytes it wrote.
+/// Lists a response: the count of bytes written.
 pub fn list(response: &[u8], text: &mut [u8]) -> usize {
-    unsafe { gcf_list(response.as_ptr(), response.len(), text.as_mut_ptr(), text.len()) }
+    let count =
+        unsafe { gcf_list(response.as_ptr(), response.len() as u64, text.as_mut_ptr(), text.len() as u64) };
+    count as usize
 }
 
-/// The most bytes of a response with this allocation length.
+/// The most bytes of a response.
 pub fn most(allocation: u16) -> usize {
-    unsafe { gcf_most(allocation) }
+    let count = unsafe { gcf_most(allocation) };
+    count as usize
 }
 
-/// Starts a sweep; gives the number and the record.
+/// Starts a sweep.
 pub fn sweep_start(rt: u8, allocation: u16) -> Step {
     unsafe { gcf_sweep_start(rt, allocation) }
 }
 
-/// Takes one response; gives the number and the next record.
+/// Takes a response into a sweep.
 pub fn sweep_take(sweep: Sweep, response: &[u8], collecting: &mut [u8]) -> Step {
     unsafe {
-        gcf_sweep_take(sweep, response.as_ptr(), response.len(), collecting.as_mut_ptr(), collecting.len())
+        gcf_sweep_take(
+            sweep,
+            response.as_ptr(),
+            response.len() as u64,
+            collecting.as_mut_ptr(),
+            collecting.len() as u64,
+        )
     }
 }
 
-/// Sweeps a sheet; the numbers are: commands, bytes collected, place.
+/// Sweeps a sheet.
 pub fn bench(
+    columns: bool,
     sheet: &[u8],
     rt: u8,
     allocation: u16,
     response: &mut [u8],
     collected: &mut [u8],
     starts: &mut [u16],
-    numbers: &mut [u64],
+    swept: &mut Swept,
 ) -> u8 {
     unsafe {
         gcf_bench(
+            columns,
             sheet.as_ptr(),
-            sheet.len(),
+            sheet.len() as u64,
             rt,
             allocation,
             response.as_mut_ptr(),
-            response.len(),
+            response.len() as u64,
             collected.as_mut_ptr(),
-            collected.len(),
+            collected.len() as u64,
             starts.as_mut_ptr(),
-            starts.len(),
-            numbers.as_mut_ptr(),
-            numbers.len(),
+            starts.len() as u64,
+            swept,
         )
     }
 }
 
-/// Sweeps a sheet in columns; the numbers are: commands, bytes collected, place.
-pub fn bench_columns(
-    sheet: &[u8],
-    rt: u8,
-    allocation: u16,
-    response: &mut [u8],
-    collected: &mut [u8],
-    starts: &mut [u16],
-    numbers: &mut [u64],
-) -> u8 {
-    unsafe {
-        gcf_bench_columns(
-            sheet.as_ptr(),
-            sheet.len(),
-            rt,
-            allocation,
-            response.as_mut_ptr(),
-            response.len(),
-            collected.as_mut_ptr(),
-            collected.len(),
-            starts.as_mut_ptr(),
-            starts.len(),
-            numbers.as_mut_ptr(),
-            numbers.len(),
-        )
-    }
+/// Checks the descriptors of a response.
+pub fn check_descriptors(response: &[u8], finding: &mut Finding) -> u8 {
+    unsafe { gcf_check_descriptors(response.as_ptr(), response.len() as u64, finding) }
 }
 
-/// Checks a response's descriptors; the numbers are: feature.
-pub fn check_descriptors(response: &[u8], numbers: &mut [u64]) -> u8 {
-    unsafe { gcf_check_descriptors(response.as_ptr(), response.len(), numbers.as_mut_ptr(), numbers.len()) }
+/// Whether a response has what a profile requires.
+pub fn check_profile(profile: Profile, response: &[u8], judgement: &mut Judgement) -> u8 {
+    unsafe { gcf_check_profile(profile, response.as_ptr(), response.len() as u64, judgement) }
 }
 
-/// Checks a profile's features; the numbers are: what is wrong with the lowest that breaks it, 0 if none does, and which it is.
-pub fn check_profile(profile: Profile, response: &[u8], numbers: &mut [u64]) -> u8 {
+/// Mends a response in a copy.
+pub fn mend(response: &[u8], copy: &mut [u8], changes: &mut [u32], mended: &mut Mended) -> u8 {
     unsafe {
-        gcf_check_profile(profile, response.as_ptr(), response.len(), numbers.as_mut_ptr(), numbers.len())
-    }
-}
-
-/// Makes a sheet of a captured response; the numbers are: bytes of the sheet, place.
-pub fn import(response: &[u8], sheet: &mut [u8], numbers: &mut [u64]) -> u8 {
-    unsafe {
-        gcf_import(
+        gcf_mend(
             response.as_ptr(),
-            response.len(),
-            sheet.as_mut_ptr(),
-            sheet.len(),
-            numbers.as_mut_ptr(),
-            numbers.len(),
+            response.len() as u64,
+            copy.as_mut_ptr(),
+            copy.len() as u64,
+            changes.as_mut_ptr(),
+            changes.len() as u64,
+            mended,
         )
     }
 }
 
-/// Makes sense data for a number; the numbers are: bytes written.
-pub fn make_sense(number: u8, sense: &mut [u8], numbers: &mut [u64]) -> u8 {
-    unsafe { gcf_make_sense(number, sense.as_mut_ptr(), sense.len(), numbers.as_mut_ptr(), numbers.len()) }
+/// Makes a sheet of a captured response.
+pub fn import(response: &[u8], sheet: &mut [u8], made: &mut Made) -> u8 {
+    unsafe {
+        gcf_import(response.as_ptr(), response.len() as u64, sheet.as_mut_ptr(), sheet.len() as u64, made)
+    }
 }
 
-/// Reads sense data; the numbers are: its kind.
-pub fn read_sense(sense: &[u8], numbers: &mut [u64]) -> u8 {
-    unsafe { gcf_read_sense(sense.as_ptr(), sense.len(), numbers.as_mut_ptr(), numbers.len()) }
+/// Makes sense data.
+pub fn make_sense(number: u8, sense: &mut [u8], made: &mut Made) -> u8 {
+    unsafe { gcf_make_sense(number, sense.as_mut_ptr(), sense.len() as u64, made) }
+}
+
+/// What sense data means.
+pub fn read_sense(sense: &[u8], meaning: &mut Meaning) -> u8 {
+    unsafe { gcf_read_sense(sense.as_ptr(), sense.len() as u64, meaning) }
 }

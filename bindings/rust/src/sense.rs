@@ -29,7 +29,7 @@ pub enum Kind {
 /// ```
 pub fn make_sense(last: Option<Number>) -> Result<[u8; SENSE_BYTES], Number> {
     let mut sense = [0; SENSE_BYTES];
-    accepted(raw::make_sense(last.map_or(0, Number::number), &mut sense, &mut []))?;
+    accepted(raw::make_sense(last.map_or(0, Number::number), &mut sense, &mut raw::Made::default()))?;
     Ok(sense)
 }
 
@@ -41,9 +41,9 @@ pub fn make_sense(last: Option<Number>) -> Result<[u8; SENSE_BYTES], Number> {
 /// assert_eq!(gcf::read_sense(&sense[..17]), Err(gcf::Number::SenseLength));
 /// ```
 pub fn read_sense(sense: &[u8]) -> Result<Kind, Number> {
-    let mut numbers = [0];
-    accepted(raw::read_sense(sense, &mut numbers))?;
-    Ok(match numbers[0] {
+    let mut meaning = raw::Meaning::default();
+    accepted(raw::read_sense(sense, &mut meaning))?;
+    Ok(match meaning.kind {
         1 => Kind::Nothing,
         2 => Kind::Operation,
         3 => Kind::Field,

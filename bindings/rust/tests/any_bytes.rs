@@ -35,73 +35,59 @@ fn refused<T>(result: Result<T, Refused>) -> u8 {
     number(result.map_err(|refused| refused.number))
 }
 
+/// Sheet E in either layout, and the layout as the raw functions take it.
+const SHEETS: [(Layout, bool, &[u8]); 2] =
+    [(Layout::Rows, false, &SHEET_E), (Layout::Columns, true, &COLUMNS_E)];
+
 #[test]
 fn the_box() {
     let made = &mut Made(1);
-    for _ in 0..20_000 {
-        let (sheet, command) = (made.spoilt(&SHEET_E), made.spoilt(&[0x46, 0, 0, 0, 0, 0, 0, 0, 44, 0]));
+    for turn in 0..40_000 {
+        let (layout, columns, bytes) = SHEETS[turn % 2];
+        let (sheet, command) = (made.spoilt(bytes), made.spoilt(&[0x46, 0, 0, 0, 0, 0, 0, 0, 44, 0]));
         let (room, allocation) = (made.below(60), made.below(50) as u16);
-        let mut buffers = ([0; 60], [0; 60], [0; 9]);
-        assert_eq!(refused(Sheet::check(&sheet)), raw::check_sheet(&sheet, &mut []));
-        let number = raw::respond(&sheet, &command, &mut buffers.0[..room], &mut []);
-        assert_eq!(refused(respond(&sheet, &command, &mut buffers.0[..room])), number);
-        if let Ok(sheet) = Sheet::check(&sheet) {
-            assert_eq!(sheet.respond(&command, &mut buffers.0[..room]).is_err(), number != 0);
+        let (mut lent, mut other, mut starts) = ([0; 60], [0; 60], [0; 9]);
+        let checked = Sheet::check(layout, &sheet);
+        assert_eq!(refused(checked), raw::check_sheet(columns, &sheet, &mut Default::default()));
+        let told = &mut raw::Made::default();
+        let number = raw::respond(columns, &sheet, &command, &mut lent[..room], told);
+        assert_eq!(refused(respond(layout, &sheet, &command, &mut lent[..room])), number);
+        if let Ok(sheet) = checked {
+            assert_eq!(sheet.respond(&command, &mut lent[..room]).is_err(), number != 0);
         }
-        let number =
-            raw::bench(&sheet, 1, allocation, &mut buffers.0, &mut buffers.1, &mut buffers.2, &mut []);
-        let swept = bench(&sheet, Rt::Current, allocation, &mut buffers.0, &mut buffers.1, &mut buffers.2);
+        let swept = &mut Default::default();
+        let number = raw::bench(columns, &sheet, 1, allocation, &mut lent, &mut other, &mut starts, swept);
+        let swept = bench(layout, &sheet, Rt::Current, allocation, &mut lent, &mut other, &mut starts);
         assert_eq!(refused(swept), number);
-    }
-}
-
-#[test]
-fn the_box_with_columns() {
-    let made = &mut Made(5);
-    for _ in 0..20_000 {
-        let (sheet, command) = (made.spoilt(&COLUMNS_E), made.spoilt(&[0x46, 0, 0, 0, 0, 0, 0, 0, 44, 0]));
-        let (room, allocation) = (made.below(60), made.below(50) as u16);
-        let mut buffers = ([0; 60], [0; 60], [0; 9]);
-        assert_eq!(refused(Columns::check(&sheet)), raw::check_columns(&sheet, &mut []));
-        let number = raw::respond_columns(&sheet, &command, &mut buffers.0[..room], &mut []);
-        assert_eq!(refused(respond_columns(&sheet, &command, &mut buffers.0[..room])), number);
-        if let Ok(sheet) = Columns::check(&sheet) {
-            assert_eq!(sheet.respond(&command, &mut buffers.0[..room]).is_err(), number != 0);
-            // In rows and back it is the same.
-            let rows = to_rows(sheet.bytes(), &mut buffers.0).map(|rows| rows.bytes());
-            let back = rows.and_then(|rows| to_columns(rows, &mut buffers.1)).map(|columns| columns.bytes());
-            assert_eq!(back, Ok(sheet.bytes()));
+        for (to, to_columns, _) in SHEETS {
+            let number = raw::convert(columns, &sheet, to_columns, &mut lent[..room], told);
+            assert_eq!(refused(convert(layout, &sheet, to, &mut other[..room])), number);
+            if let Ok(laid) = convert(layout, &sheet, to, &mut lent) {
+                // Laid out as it was it is the same.
+                assert_eq!(convert(to, laid.bytes(), layout, &mut other), Ok(checked.unwrap()));
+            }
         }
-        let (lent, other, starts) = (&mut buffers.0, &mut buffers.1, &mut buffers.2);
-        let number = raw::bench_columns(&sheet, 1, allocation, lent, other, starts, &mut []);
-        assert_eq!(refused(bench_columns(&sheet, Rt::Current, allocation, lent, other, starts)), number);
-        assert_eq!(
-            refused(to_rows(&sheet, &mut lent[..room])),
-            raw::to_rows(&sheet, &mut other[..room], &mut [])
-        );
-        let number = raw::to_columns(&sheet, &mut other[..room], &mut []);
-        assert_eq!(refused(to_columns(&sheet, &mut lent[..room])), number);
     }
 }
 
 #[test]
 fn media() {
     let made = &mut Made(6);
-    for _ in 0..20_000 {
-        let (sheet, columns) = (made.spoilt(&SHEET_E), made.spoilt(&COLUMNS_E));
+    for turn in 0..40_000 {
+        let (layout, columns, bytes) = SHEETS[turn % 2];
+        let sheet = made.spoilt(bytes);
         let features: Vec<Feature> =
             (0..made.below(4)).map(|_| Feature([1, 3, 0x1F, 0x105, 0x20][made.below(5)])).collect();
         let profiles: Vec<Profile> =
             (0..made.below(3)).map(|_| Profile([0x10, 0x12, 0x13][made.below(3)])).collect();
         let room = made.below(60);
-        let (mut loaded, mut other) = ([0; 60], [0; 60]);
-        let number = raw::load(&sheet, &features, &profiles, &mut loaded[..room], &mut []);
-        assert_eq!(refused(load(&sheet, &features, &profiles, &mut other[..room])), number);
-        let number = raw::load_columns(&columns, &features, &profiles, &mut loaded[..room], &mut []);
-        let made = load_columns(&columns, &features, &profiles, &mut other[..room]);
-        assert_eq!(refused(made), number);
+        let (mut lent, mut other) = ([0; 60], [0; 60]);
+        let told = &mut Default::default();
+        let number = raw::load(columns, &sheet, &features, &profiles, &mut lent[..room], told);
+        let loaded = load(layout, &sheet, &features, &profiles, &mut other[..room]);
+        assert_eq!(refused(loaded), number);
         // An accepted sheet stays accepted.
-        assert!(made.map_or(true, |made| Columns::check(made.bytes()).is_ok()));
+        assert!(loaded.map_or(true, |loaded| Sheet::check(layout, loaded.bytes()) == Ok(loaded)));
     }
 }
 
@@ -109,14 +95,14 @@ fn media() {
 fn a_mended_response() {
     let made = &mut Made(7);
     let mut full = [0; 44];
-    let sheet = Sheet::check(&SHEET_E).unwrap();
+    let sheet = Sheet::check(Layout::Rows, &SHEET_E).unwrap();
     sheet.respond(&[0x46, 0, 0, 0, 0, 0, 0, 0, 44, 0], &mut full).unwrap();
     for _ in 0..20_000 {
         let response = made.spoilt(&full);
         let (room, lines) = (made.below(50), made.below(8));
         let (mut copy, mut other) = ([0xA5; 50], [0xA5; 50]);
         let (mut list, mut second) = ([0; 8], [0; 8]);
-        let number_of = raw::mend(&response, &mut copy[..room], &mut list[..lines], &mut []);
+        let number_of = raw::mend(&response, &mut copy[..room], &mut list[..lines], &mut Default::default());
         let mended = mend(&response, &mut other[..room], &mut second[..lines]);
         assert_eq!(number(mended), number_of);
         if let Ok(mended) = mended {
@@ -138,15 +124,16 @@ fn the_box_with_an_image() {
         let room = made.below(60);
         let (mut response, mut other, mut sheet) = ([0; 60], [0; 60], [0; 99]);
         let checked = Image::check(&image);
-        assert_eq!(refused(checked), raw::check_image(&image, &mut []));
-        let number = raw::respond_image(&image, &command, &mut response[..room], &mut []);
+        assert_eq!(refused(checked), raw::check_image(&image, &mut Default::default()));
+        let number = raw::respond_image(&image, &command, &mut response[..room], &mut Default::default());
         let answer = respond_image(&image, &command, &mut other[..room]).map(<[u8]>::to_vec);
         assert_eq!(refused(answer.clone()), number);
         if let Ok(image) = checked {
             assert_eq!(image.respond(&command, &mut response[..room]).ok(), answer.as_deref().ok());
             // What the imported sheet gives.
             let sheet = import(image.bytes(), &mut sheet).map(|sheet| sheet.bytes());
-            let answered = sheet.and_then(|sheet| respond(sheet, &command, &mut response[..room]));
+            let answered =
+                sheet.and_then(|sheet| respond(Layout::Rows, sheet, &command, &mut response[..room]));
             assert_eq!(answered.map(<[u8]>::to_vec), answer);
         }
     }
@@ -159,10 +146,15 @@ fn the_driver() {
         let response = made.spoilt(&IMAGE_E);
         let (mut text, mut descriptor, mut sheet) = ([0; 99], [0; DESCRIPTOR_MOST], [0; 60]);
         for (rt, code) in [(Rt::All, 0), (Rt::Current, 1), (Rt::One, 2)] {
-            assert_eq!(
-                number(read(rt, Feature(0), &response)),
-                raw::read(code, Feature(0), &response, &mut [])
-            );
+            let (reading, told) = (read(rt, Feature(0), &response), &mut Default::default());
+            assert_eq!(number(reading), raw::read(code, Feature(0), &response, told));
+            if let Ok(reading) = reading {
+                // The descriptors are as many as the reading says, and their bytes are those of the response.
+                let size = |descriptor: Descriptor<'_>| 4 + descriptor.body.len();
+                assert_eq!(reading.descriptors().count(), reading.count);
+                assert_eq!(reading.descriptors().map(size).sum::<usize>(), reading.bytes().len());
+                assert!(reading.descriptors().eq(descriptors(reading.bytes())));
+            }
         }
         let room = made.below(100);
         list(&response, &mut text[..room]);
@@ -171,13 +163,14 @@ fn the_driver() {
             Finding::Faultless => 0,
             Finding::Fault(number, _) | Finding::Refused(number) => number.number(),
         };
-        assert_eq!(found, raw::check_descriptors(&response, &mut []));
+        assert_eq!(found, raw::check_descriptors(&response, &mut Default::default()));
         let judged = match check_profile(Profile(0x0012), &response) {
             Judgement::Conforms | Judgement::Broken(..) => 0,
             Judgement::Refused(number) => number.number(),
         };
-        assert_eq!(judged, raw::check_profile(Profile(0x0012), &response, &mut []));
-        assert_eq!(refused(import(&response, &mut sheet)), raw::import(&response, &mut [0; 60], &mut []));
+        assert_eq!(judged, raw::check_profile(Profile(0x0012), &response, &mut Default::default()));
+        let number = raw::import(&response, &mut [0; 60], &mut Default::default());
+        assert_eq!(refused(import(&response, &mut sheet)), number);
         read_sense(&response[..response.len().min(18)]).ok();
     }
 }
@@ -194,7 +187,8 @@ fn sweeps() {
         };
         for _ in 0..9 {
             let mut response = [0; 20];
-            let sent = respond(&SHEET_E, &sweep.command(), &mut response).map_or(0, <[u8]>::len);
+            let sent =
+                respond(Layout::Rows, &SHEET_E, &sweep.command(), &mut response).map_or(0, <[u8]>::len);
             let _ = sweep.take(&made.spoilt(&response[..sent]), &mut collecting[..room]);
             assert!(sweep.collected() <= room);
         }

@@ -1,11 +1,10 @@
-// The exported functions, for C and Rust (include/gcf.h): one for each operation. The two of a sweep take its record and give a step, by value. Each other returns the paper's number, or
-// a count of bytes where nothing can be refused; further results go to the front of a lent array of numbers, as far as it has room.
+// The exported functions, for C and Rust (include/gcf.h): one for each operation, over a sheet of either layout. Each returns the paper's number, or a count of bytes
+// where nothing can be refused. Further results go to a lent array that has a place for each: to C a struct of as many uint64_t with names. The two of a sweep take its
+// record and give a step, by value.
 ghost use mathlib.Core.Path.{_≡_};
-ghost use mathlib.Core.List.{[], _∷_};
 ghost use Rattle.lent.specs.Wrote.{Wrote};
 ghost use Rattle.text.specs.Reading.{reading};
 ghost use Rattle.text.specs.Response.{returnLimit, most};
-ghost use Rattle.layout.specs.declared.Layout.the-variants.{Rows, Columns};
 ghost use Rattle.layout.specs.Layout.{stored};
 ghost use Rattle.sheet.specs.Check.{verdict};
 ghost use Rattle.convert.specs.Convert.{converted};
@@ -15,6 +14,7 @@ ghost use Rattle.responder.specs.Answer.{answered};
 ghost use Rattle.responder.specs.Trusting.{trustingCommand};
 ghost use Rattle.reading.specs.Stop.{stopped};
 ghost use Rattle.reading.specs.Held.{placeIn, heldOf};
+ghost use Rattle.descriptor.specs.Standing.{standsAt};
 ghost use Rattle.listing.specs.Listing.{listing};
 ghost use Rattle.sweep.specs.Sweep.{started, turn, stepped};
 ghost use Rattle.bench.specs.Bench as bench;
@@ -26,7 +26,8 @@ ghost use Rattle.import.specs.Import.{imported};
 ghost use Rattle.rom.specs.Rom.{imageAnswered};
 ghost use Rattle.rom.specs.Image.{imageCommanded};
 ghost use Rattle.sense.specs.Sense.{made, sensed};
-ghost use Rattle.abi.specs.Left.{left, showVerdict, showMade, showPlaced, readingNumbers, showRead, showBenched, showMended, showStop, showFinding, showJudged, kindNumber, showSensed};
+ghost use Rattle.meanings.specs.Meanings.{sentence};
+ghost use Rattle.abi.specs.Left.{layoutOf, left, showVerdict, showMade, showRead, showNext, showStop, showBenched, showMended, showFinding, showJudged, kindNumber, showSensed};
 use command::Command;
 use layout::Layout;
 use needs::Judgement;
@@ -36,292 +37,163 @@ use sweep::Step;
 use sweep::Sweep;
 use text::Feature;
 use text::Profile;
-use text::Reading;
 
-// ---- further results
+// ---- the words
 
-// Puts a number into the lent array.
-fn tell(numbers: &mut [u64], at: usize, v: u64) -> usize
-    ensures { λ r. ⌜ Wrote (now (numbers .entry)) at (v ∷ []) r (now (numbers .exit)) ⌝ }
+// The sentence of a number.
+#[no_mangle]
+pub extern "C" fn gcf_words(number: u8, text: &mut [u8]) -> usize
+    ensures { λ r. ⌜ Wrote (now (text .entry)) 0 (sentence number) r (now (text .exit)) ⌝ }
 {
-    if at < numbers.len() {
-        numbers[at] = v;
-        return at + 1;
+    meanings::put_words(number, text)
+}
+
+// ---- the box
+
+// The layout that C names by a bool, which has no third value.
+fn layout_of(columns: bool) -> Layout
+    ensures { λ r. ⌜ r ≡ layoutOf columns ⌝ }
+{
+    if columns {
+        return Layout::Columns;
     }
-    at
+    Layout::Rows
 }
 
-// Puts two numbers.
-fn tell2(numbers: &mut [u64], first: u64, second: u64) -> usize
-    ensures { λ r. ⌜ Wrote (now (numbers .entry)) 0 (first ∷ second ∷ []) r (now (numbers .exit)) ⌝ }
+// The number of a sheet. Told: the place of the profile or entry at fault.
+#[no_mangle]
+pub extern "C" fn gcf_check_sheet(columns: bool, sheet: &[u8], told: &mut [u64; 1]) -> u8
+    ensures { λ r. ⌜ left r tt (now (told .exit)) ≡ showVerdict (verdict (stored (layoutOf columns) (now (sheet .entry)))) ⌝ }
 {
-    let a = tell(numbers, 0, first);
-    tell(numbers, a, second)
-}
-
-// Puts three numbers.
-fn tell3(numbers: &mut [u64], first: u64, second: u64, third: u64) -> usize
-    ensures { λ r. ⌜ Wrote (now (numbers .entry)) 0 (first ∷ second ∷ third ∷ []) r (now (numbers .exit)) ⌝ }
-{
-    let a = tell2(numbers, first, second);
-    tell(numbers, a, third)
-}
-
-// Puts the five numbers of a reading.
-fn tell_reading(numbers: &mut [u64], reading: Reading) -> usize
-    ensures { λ r. ⌜ Wrote (now (numbers .entry)) 0 (readingNumbers reading) r (now (numbers .exit)) ⌝ }
-{
-    let profile = reading.profile;
-    let a = tell(numbers, 0, profile.0 as u64);
-    let b = tell(numbers, a, reading.data_length as u64);
-    let c = tell(numbers, b, reading.count as u64);
-    let d = tell(numbers, c, reading.end as u64);
-    tell(numbers, d, reading.complete as u64)
-}
-
-// ---- the box, over a sheet of either layout
-
-fn check_laid(lay: Layout, sheet: &[u8], numbers: &mut [u64]) -> u8
-    ensures { λ r. ⌜ left r tt (now (numbers .exit)) ≡ showVerdict (verdict (stored lay (now (sheet .entry)))) (now (numbers .entry)) ⌝ }
-{
-    let verdict = sheet::check(lay, sheet);
-    tell(numbers, 0, verdict.place as u64);
+    let verdict = sheet::check(layout_of(columns), sheet);
+    *told = [verdict.place as u64];
     verdict.number
 }
 
-fn respond_laid_accepted(
-    lay: Layout,
-    sheet: &[u8],
-    command: &[u8],
-    response: &mut [u8],
-    numbers: &mut [u64],
-) -> u8
-    ensures { λ r. ⌜ left r (now (response .exit)) (now (numbers .exit))
-        ≡ showMade (trustingCommand (stored lay (now (sheet .entry))) (now (command .entry)) (now (response .entry))) (now (numbers .entry)) ⌝ }
-{
-    let trusted = responder::respond_accepted(lay, sheet, command, response);
-    let fault = trusted.refusal;
-    tell(numbers, 0, trusted.count as u64);
-    fault.number
-}
-
-// The number of a sheet. Numbers: the place of the profile or entry at fault.
-#[no_mangle]
-pub extern "C" fn gcf_check_sheet(sheet: &[u8], numbers: &mut [u64]) -> u8
-    ensures { λ r. ⌜ left r tt (now (numbers .exit)) ≡ showVerdict (verdict (stored Rows (now (sheet .entry)))) (now (numbers .entry)) ⌝ }
-{
-    check_laid(Layout::Rows, sheet, numbers)
-}
-
-// Answers a command from any sheet. Numbers: bytes sent, the place of the profile or entry at fault. What `responder::respond` does is spelt out here and for
-// columns: a frame between, which two callers would share, takes the box past 256 bytes of stack.
+// Answers a command from any sheet. Told: bytes sent, the place of the profile or entry at fault.
 #[no_mangle]
 pub extern "C" fn gcf_respond(
+    columns: bool,
     sheet: &[u8],
     command: &[u8],
     response: &mut [u8],
-    numbers: &mut [u64],
+    told: &mut [u64; 2],
 ) -> u8
-    ensures { λ r. ⌜ left r (now (response .exit)) (now (numbers .exit))
-        ≡ showPlaced (answered (stored Rows (now (sheet .entry))) (now (command .entry)) (now (response .entry))) (now (numbers .entry)) ⌝ }
+    ensures { λ r. ⌜ left r (now (response .exit)) (now (told .exit))
+        ≡ showMade (answered (stored (layoutOf columns) (now (sheet .entry))) (now (command .entry)) (now (response .entry))) ⌝ }
 {
-    let verdict = sheet::check(Layout::Rows, sheet);
-    if verdict.number != 0 {
-        tell2(numbers, 0, verdict.place as u64);
-        return verdict.number;
-    }
-    let reply = responder::respond_accepted(Layout::Rows, sheet, command, response);
-    let fault = reply.refusal;
-    tell2(numbers, reply.count as u64, fault.place as u64);
+    let answer = responder::respond(layout_of(columns), sheet, command, response);
+    let fault = answer.refusal;
+    *told = [answer.count as u64, fault.place as u64];
     fault.number
 }
 
-// Answers a command with no check of the sheet: what a box calls that has checked it once. Numbers: bytes sent.
+// Answers a command with no check of the sheet: what a box calls that has checked it once. Told: bytes sent, 0.
 #[no_mangle]
 pub extern "C" fn gcf_respond_accepted(
+    columns: bool,
     sheet: &[u8],
     command: &[u8],
     response: &mut [u8],
-    numbers: &mut [u64],
+    told: &mut [u64; 2],
 ) -> u8
-    ensures { λ r. ⌜ left r (now (response .exit)) (now (numbers .exit))
-        ≡ showMade (trustingCommand (stored Rows (now (sheet .entry))) (now (command .entry)) (now (response .entry))) (now (numbers .entry)) ⌝ }
+    ensures { λ r. ⌜ left r (now (response .exit)) (now (told .exit))
+        ≡ showMade (trustingCommand (stored (layoutOf columns) (now (sheet .entry))) (now (command .entry)) (now (response .entry))) ⌝ }
 {
-    respond_laid_accepted(Layout::Rows, sheet, command, response, numbers)
-}
-
-// The three over a sheet in columns.
-#[no_mangle]
-pub extern "C" fn gcf_check_columns(sheet: &[u8], numbers: &mut [u64]) -> u8
-    ensures { λ r. ⌜ left r tt (now (numbers .exit)) ≡ showVerdict (verdict (stored Columns (now (sheet .entry)))) (now (numbers .entry)) ⌝ }
-{
-    check_laid(Layout::Columns, sheet, numbers)
-}
-
-#[no_mangle]
-pub extern "C" fn gcf_respond_columns(
-    sheet: &[u8],
-    command: &[u8],
-    response: &mut [u8],
-    numbers: &mut [u64],
-) -> u8
-    ensures { λ r. ⌜ left r (now (response .exit)) (now (numbers .exit))
-        ≡ showPlaced (answered (stored Columns (now (sheet .entry))) (now (command .entry)) (now (response .entry))) (now (numbers .entry)) ⌝ }
-{
-    let verdict = sheet::check(Layout::Columns, sheet);
-    if verdict.number != 0 {
-        tell2(numbers, 0, verdict.place as u64);
-        return verdict.number;
-    }
-    let answer = responder::respond_accepted(Layout::Columns, sheet, command, response);
-    let fault = answer.refusal;
-    tell2(numbers, answer.count as u64, fault.place as u64);
+    let trusted = responder::respond_accepted(layout_of(columns), sheet, command, response);
+    let fault = trusted.refusal;
+    *told = [trusted.count as u64, fault.place as u64];
     fault.number
 }
 
+// Lays a sheet out anew. Told: bytes of the sheet, the place of the profile or entry at fault.
 #[no_mangle]
-pub extern "C" fn gcf_respond_columns_accepted(
+pub extern "C" fn gcf_convert(
+    columns: bool,
     sheet: &[u8],
-    command: &[u8],
-    response: &mut [u8],
-    numbers: &mut [u64],
-) -> u8
-    ensures { λ r. ⌜ left r (now (response .exit)) (now (numbers .exit))
-        ≡ showMade (trustingCommand (stored Columns (now (sheet .entry))) (now (command .entry)) (now (response .entry))) (now (numbers .entry)) ⌝ }
-{
-    respond_laid_accepted(Layout::Columns, sheet, command, response, numbers)
-}
-
-// ---- a sheet in the other layout
-
-fn convert_laid(to: Layout, lay: Layout, sheet: &[u8], out: &mut [u8], numbers: &mut [u64]) -> u8
-    ensures { λ r. ⌜ left r (now (out .exit)) (now (numbers .exit))
-        ≡ showPlaced (converted to (stored lay (now (sheet .entry))) (now (out .entry))) (now (numbers .entry)) ⌝ }
-{
-    let laid = convert::convert(to, lay, sheet, out);
-    let fault = laid.refusal;
-    tell2(numbers, laid.count as u64, fault.place as u64);
-    fault.number
-}
-
-// Turns a sheet into columns. Numbers: bytes of the sheet, the place of the profile or entry at fault.
-#[no_mangle]
-pub extern "C" fn gcf_to_columns(sheet: &[u8], columns: &mut [u8], numbers: &mut [u64]) -> u8
-    ensures { λ r. ⌜ left r (now (columns .exit)) (now (numbers .exit))
-        ≡ showPlaced (converted Columns (stored Rows (now (sheet .entry))) (now (columns .entry))) (now (numbers .entry)) ⌝ }
-{
-    convert_laid(Layout::Columns, Layout::Rows, sheet, columns, numbers)
-}
-
-// Turns a sheet in columns into one in rows. Numbers: the same.
-#[no_mangle]
-pub extern "C" fn gcf_to_rows(sheet: &[u8], rows: &mut [u8], numbers: &mut [u64]) -> u8
-    ensures { λ r. ⌜ left r (now (rows .exit)) (now (numbers .exit))
-        ≡ showPlaced (converted Rows (stored Columns (now (sheet .entry))) (now (rows .entry))) (now (numbers .entry)) ⌝ }
-{
-    convert_laid(Layout::Rows, Layout::Columns, sheet, rows, numbers)
-}
-
-// ---- a medium goes in
-
-// The two lists stand as C lends them: a slice of a declared type is none that the prover walks by itself, so that include/gcf.h alone has the two types here.
-fn load_laid(
-    lay: Layout,
-    sheet: &[u8],
-    features: &[u16],
-    profiles: &[u16],
+    to: bool,
     out: &mut [u8],
-    numbers: &mut [u64],
+    told: &mut [u64; 2],
 ) -> u8
-    ensures { λ r. ⌜ left r (now (out .exit)) (now (numbers .exit))
-        ≡ showPlaced (loading (now (features .entry)) (now (profiles .entry)) (stored lay (now (sheet .entry))) (now (out .entry))) (now (numbers .entry)) ⌝ }
+    ensures { λ r. ⌜ left r (now (out .exit)) (now (told .exit))
+        ≡ showMade (converted (layoutOf to) (stored (layoutOf columns) (now (sheet .entry))) (now (out .entry))) ⌝ }
 {
-    let loaded = load::load(lay, sheet, features, profiles, out);
-    let fault = loaded.refusal;
-    tell2(numbers, loaded.count as u64, fault.place as u64);
+    let laid = convert::convert(layout_of(to), layout_of(columns), sheet, out);
+    let fault = laid.refusal;
+    *told = [laid.count as u64, fault.place as u64];
     fault.number
 }
 
-// The sheet as a medium leaves it that makes these features and these profiles current. Numbers: bytes of the sheet, the place of the profile or entry at fault.
+// The sheet as a medium leaves it that makes these features and these profiles current. Told: bytes of the sheet, the place of the profile or entry at fault. The two
+// lists stand as C lends them: a slice of a declared type is none that the prover walks by itself, so that include/gcf.h alone has the two types here.
 #[no_mangle]
 pub extern "C" fn gcf_load(
+    columns: bool,
     sheet: &[u8],
     features: &[u16],
     profiles: &[u16],
     loaded: &mut [u8],
-    numbers: &mut [u64],
+    told: &mut [u64; 2],
 ) -> u8
-    ensures { λ r. ⌜ left r (now (loaded .exit)) (now (numbers .exit))
-        ≡ showPlaced (loading (now (features .entry)) (now (profiles .entry)) (stored Rows (now (sheet .entry))) (now (loaded .entry))) (now (numbers .entry)) ⌝ }
+    ensures { λ r. ⌜ left r (now (loaded .exit)) (now (told .exit))
+        ≡ showMade (loading (now (features .entry)) (now (profiles .entry)) (stored (layoutOf columns) (now (sheet .entry))) (now (loaded .entry))) ⌝ }
 {
-    load_laid(Layout::Rows, sheet, features, profiles, loaded, numbers)
-}
-
-// The same of a sheet in columns.
-#[no_mangle]
-pub extern "C" fn gcf_load_columns(
-    sheet: &[u8],
-    features: &[u16],
-    profiles: &[u16],
-    loaded: &mut [u8],
-    numbers: &mut [u64],
-) -> u8
-    ensures { λ r. ⌜ left r (now (loaded .exit)) (now (numbers .exit))
-        ≡ showPlaced (loading (now (features .entry)) (now (profiles .entry)) (stored Columns (now (sheet .entry))) (now (loaded .entry))) (now (numbers .entry)) ⌝ }
-{
-    load_laid(Layout::Columns, sheet, features, profiles, loaded, numbers)
+    let leaves = load::load(layout_of(columns), sheet, features, profiles, loaded);
+    let fault = leaves.refusal;
+    *told = [leaves.count as u64, fault.place as u64];
+    fault.number
 }
 
 // ---- the box with an image in place of a sheet
 
-// The number of an image. Numbers: the place of the profile or entry at fault.
+// The number of an image. Told: the place of the profile or entry at fault.
 #[no_mangle]
-pub extern "C" fn gcf_check_image(image: &[u8], numbers: &mut [u64]) -> u8
-    ensures { λ r. ⌜ left r tt (now (numbers .exit)) ≡ showVerdict (captureFault (now (image .entry))) (now (numbers .entry)) ⌝ }
+pub extern "C" fn gcf_check_image(image: &[u8], told: &mut [u64; 1]) -> u8
+    ensures { λ r. ⌜ left r tt (now (told .exit)) ≡ showVerdict (captureFault (now (image .entry))) ⌝ }
 {
     let capture = capture::check(image);
     let fault = capture.refusal;
-    tell(numbers, 0, fault.place as u64);
+    *told = [fault.place as u64];
     fault.number
 }
 
-// Answers a command from any image. Numbers: bytes sent, the place of the profile or entry at fault.
+// Answers a command from any image. Told: bytes sent, the place of the profile or entry at fault.
 #[no_mangle]
 pub extern "C" fn gcf_respond_image(
     image: &[u8],
     command: &[u8],
     response: &mut [u8],
-    numbers: &mut [u64],
+    told: &mut [u64; 2],
 ) -> u8
-    ensures { λ r. ⌜ left r (now (response .exit)) (now (numbers .exit))
-        ≡ showPlaced (imageAnswered (now (image .entry)) (now (command .entry)) (now (response .entry))) (now (numbers .entry)) ⌝ }
+    ensures { λ r. ⌜ left r (now (response .exit)) (now (told .exit))
+        ≡ showMade (imageAnswered (now (image .entry)) (now (command .entry)) (now (response .entry))) ⌝ }
 {
     let sent = rom::respond(image, command, response);
     let fault = sent.refusal;
-    tell2(numbers, sent.count as u64, fault.place as u64);
+    *told = [sent.count as u64, fault.place as u64];
     fault.number
 }
 
-// Answers a command with no check of the image: what a box calls that has checked it once. Numbers: bytes sent.
+// Answers a command with no check of the image: what a box calls that has checked it once. Told: bytes sent, 0.
 #[no_mangle]
 pub extern "C" fn gcf_respond_image_accepted(
     image: &[u8],
     command: &[u8],
     response: &mut [u8],
-    numbers: &mut [u64],
+    told: &mut [u64; 2],
 ) -> u8
-    ensures { λ r. ⌜ left r (now (response .exit)) (now (numbers .exit))
-        ≡ showMade (imageCommanded (now (image .entry)) (now (command .entry)) (now (response .entry))) (now (numbers .entry)) ⌝ }
+    ensures { λ r. ⌜ left r (now (response .exit)) (now (told .exit))
+        ≡ showMade (imageCommanded (now (image .entry)) (now (command .entry)) (now (response .entry))) ⌝ }
 {
     let known = rom::respond_accepted(image, command, response);
     let fault = known.refusal;
-    tell(numbers, 0, known.count as u64);
+    *told = [known.count as u64, fault.place as u64];
     fault.number
 }
 
 // ---- the driver
 
-// Makes the command of so many bytes, 10 or 12, that asks for these. Numbers: bytes written.
+// Makes the command of so many bytes, 10 or 12, that asks for these. Told: bytes written, 0.
 #[no_mangle]
 pub extern "C" fn gcf_build_command(
     length: usize,
@@ -329,44 +201,65 @@ pub extern "C" fn gcf_build_command(
     sfn: Feature,
     allocation: u16,
     command: &mut [u8],
-    numbers: &mut [u64],
+    told: &mut [u64; 2],
 ) -> u8
-    ensures { λ r. ⌜ left r (now (command .exit)) (now (numbers .exit))
-        ≡ showMade (built length rt (sfn .0) allocation (now (command .entry))) (now (numbers .entry)) ⌝ }
+    ensures { λ r. ⌜ left r (now (command .exit)) (now (told .exit)) ≡ showMade (built length rt (sfn .0) allocation (now (command .entry))) ⌝ }
 {
     let built = Command::build(length, rt, sfn, allocation, command);
     let fault = built.refusal;
-    tell(numbers, 0, built.count as u64);
+    *told = [built.count as u64, fault.place as u64];
     fault.number
 }
 
-// Reads a response. Numbers: profile, Data Length, whole descriptors, the place behind the last, 1 if complete.
+// Reads a response. Told: profile, Data Length, whole descriptors, the place behind the last, 1 if complete.
 #[no_mangle]
-pub extern "C" fn gcf_read(rt: u8, sfn: Feature, response: &[u8], numbers: &mut [u64]) -> u8
-    ensures { λ r. ⌜ left r tt (now (numbers .exit)) ≡ showRead (reading returnLimit rt (sfn .0) (now (response .entry))) (now (numbers .entry)) ⌝ }
+pub extern "C" fn gcf_read(rt: u8, sfn: Feature, response: &[u8], told: &mut [u64; 5]) -> u8
+    ensures { λ r. ⌜ left r tt (now (told .exit)) ≡ showRead (reading returnLimit rt (sfn .0) (now (response .entry))) ⌝ }
 {
     let reading = reading::read(rt, sfn, response);
     let fault = reading.refusal;
-    tell_reading(numbers, reading);
+    let profile = reading.profile;
+    *told = [
+        profile.0 as u64,
+        reading.data_length as u64,
+        reading.count as u64,
+        reading.end as u64,
+        reading.complete as u64,
+    ];
     fault.number
 }
 
-// Where the reading of a response that may have at most so many bytes stops: the place of the first descriptor that is at fault or not whole. Numbers: the feature that
-// stands there.
+// The descriptor at a place of a response, if it stands there whole. Told: feature, flags, Version, Persistent, Current, the place and the length of its body, the
+// place of the next one.
 #[no_mangle]
-pub extern "C" fn gcf_stops(
-    most: usize,
-    rt: u8,
-    sfn: Feature,
-    response: &[u8],
-    numbers: &mut [u64],
-) -> usize
-    ensures { λ r. ⌜ left r tt (now (numbers .exit)) ≡ showStop (stopped most rt (sfn .0) (now (response .entry))) (now (numbers .entry)) ⌝ }
+pub extern "C" fn gcf_next(place: usize, response: &[u8], told: &mut [u64; 8]) -> bool
+    ensures { λ r. ⌜ (r, now (told .exit)) ≡ showNext (standsAt (now (response .entry)) place) ⌝ }
+{
+    let standing = descriptor::stands(response, place);
+    let number = standing.number;
+    let flags = standing.flags;
+    *told = [
+        number.0 as u64,
+        flags.0 as u64,
+        flags.version() as u64,
+        flags.persistent() as u64,
+        flags.current() as u64,
+        standing.body as u64,
+        standing.len as u64,
+        standing.next as u64,
+    ];
+    standing.whole
+}
+
+// Where the reading of a response that may have at most so many bytes stops. Told: the place of the first descriptor that is at fault or not whole, and the feature
+// that stands there.
+#[no_mangle]
+pub extern "C" fn gcf_stops(most: usize, rt: u8, sfn: Feature, response: &[u8], told: &mut [u64; 2])
+    ensures { λ _. ⌜ now (told .exit) ≡ showStop (stopped most rt (sfn .0) (now (response .entry))) ⌝ }
 {
     let stop = reading::stops(most, rt, sfn, response);
-    let found = stop.feature;
-    tell(numbers, 0, found.0 as u64);
-    stop.at
+    let feature = stop.feature;
+    *told = [stop.at as u64, feature.0 as u64];
 }
 
 // Where a feature's descriptor stands in a response to RT 0 from 0, or would stand.
@@ -425,129 +318,86 @@ pub extern "C" fn gcf_sweep_take(sweep: Sweep, response: &[u8], out: &mut [u8]) 
 
 // ---- the bench and the checks
 
-fn bench_laid(
-    lay: Layout,
+// A bench sweep of a sheet. Told: commands, bytes collected, the place of the profile or entry at fault.
+#[no_mangle]
+pub extern "C" fn gcf_bench(
+    columns: bool,
     sheet: &[u8],
     rt: u8,
     allocation: u16,
     response: &mut [u8],
     collected: &mut [u8],
     starts: &mut [u16],
-    numbers: &mut [u64],
+    told: &mut [u64; 3],
 ) -> u8
-    ensures { λ r. ⌜ left r (bench.buffers (now (response .exit)) (now (collected .exit)) (now (starts .exit))) (now (numbers .exit))
-        ≡ showBenched (bench.benched (stored lay (now (sheet .entry))) rt allocation (bench.buffers (now (response .entry)) (now (collected .entry)) (now (starts .entry)))) (now (numbers .entry)) ⌝ }
+    ensures { λ r. ⌜ left r (bench.buffers (now (response .exit)) (now (collected .exit)) (now (starts .exit))) (now (told .exit))
+        ≡ showBenched (bench.benched (stored (layoutOf columns) (now (sheet .entry))) rt allocation (bench.buffers (now (response .entry)) (now (collected .entry)) (now (starts .entry)))) ⌝ }
 {
-    let end = bench::bench(lay, sheet, rt, allocation, response, collected, starts);
+    let end = bench::bench(
+        layout_of(columns),
+        sheet,
+        rt,
+        allocation,
+        response,
+        collected,
+        starts,
+    );
     let fault = end.refusal;
-    tell3(
-        numbers,
+    *told = [
         end.commands as u64,
         end.collected as u64,
         fault.place as u64,
-    );
+    ];
     fault.number
 }
 
-// A bench sweep of a sheet. Numbers: commands, bytes collected, the place of the profile or entry at fault.
+// Checks the descriptors of a response. Told: the feature at fault.
 #[no_mangle]
-pub extern "C" fn gcf_bench(
-    sheet: &[u8],
-    rt: u8,
-    allocation: u16,
-    response: &mut [u8],
-    collected: &mut [u8],
-    starts: &mut [u16],
-    numbers: &mut [u64],
-) -> u8
-    ensures { λ r. ⌜ left r (bench.buffers (now (response .exit)) (now (collected .exit)) (now (starts .exit))) (now (numbers .exit))
-        ≡ showBenched (bench.benched (stored Rows (now (sheet .entry))) rt allocation (bench.buffers (now (response .entry)) (now (collected .entry)) (now (starts .entry)))) (now (numbers .entry)) ⌝ }
-{
-    bench_laid(
-        Layout::Rows,
-        sheet,
-        rt,
-        allocation,
-        response,
-        collected,
-        starts,
-        numbers,
-    )
-}
-
-// The same of a sheet in columns.
-#[no_mangle]
-pub extern "C" fn gcf_bench_columns(
-    sheet: &[u8],
-    rt: u8,
-    allocation: u16,
-    response: &mut [u8],
-    collected: &mut [u8],
-    starts: &mut [u16],
-    numbers: &mut [u64],
-) -> u8
-    ensures { λ r. ⌜ left r (bench.buffers (now (response .exit)) (now (collected .exit)) (now (starts .exit))) (now (numbers .exit))
-        ≡ showBenched (bench.benched (stored Columns (now (sheet .entry))) rt allocation (bench.buffers (now (response .entry)) (now (collected .entry)) (now (starts .entry)))) (now (numbers .entry)) ⌝ }
-{
-    bench_laid(
-        Layout::Columns,
-        sheet,
-        rt,
-        allocation,
-        response,
-        collected,
-        starts,
-        numbers,
-    )
-}
-
-// Checks the descriptors of a response. Numbers: the feature at fault.
-#[no_mangle]
-pub extern "C" fn gcf_check_descriptors(response: &[u8], numbers: &mut [u64]) -> u8
-    ensures { λ r. ⌜ left r tt (now (numbers .exit)) ≡ showFinding (checked (now (response .entry))) (now (numbers .entry)) ⌝ }
+pub extern "C" fn gcf_check_descriptors(response: &[u8], told: &mut [u64; 1]) -> u8
+    ensures { λ r. ⌜ left r tt (now (told .exit)) ≡ showFinding (checked (now (response .entry))) ⌝ }
 {
     let finding = checks::check_descriptors(response);
     let fault = finding.refusal;
     let feature = finding.feature;
-    tell(numbers, 0, feature.0 as u64);
+    *told = [feature.0 as u64];
     fault.number
 }
 
-// Mends a complete response in a copy, and lists the changes, each as place * 65536 + old byte * 256 + new byte. Numbers: bytes of the copy, changes.
+// Mends a complete response in a copy, and lists the changes, each as place * 65536 + old byte * 256 + new byte. Told: bytes of the copy, changes.
 #[no_mangle]
 pub extern "C" fn gcf_mend(
     response: &[u8],
     copy: &mut [u8],
     changes: &mut [u32],
-    numbers: &mut [u64],
+    told: &mut [u64; 2],
 ) -> u8
-    ensures { λ r. ⌜ left r (now (copy .exit), now (changes .exit)) (now (numbers .exit))
-        ≡ showMended (mend.mends (now (response .entry)) (now (copy .entry)) (now (changes .entry))) (now (numbers .entry)) ⌝ }
+    ensures { λ r. ⌜ left r (now (copy .exit), now (changes .exit)) (now (told .exit))
+        ≡ showMended (mend.mends (now (response .entry)) (now (copy .entry)) (now (changes .entry))) ⌝ }
 {
     let mended = mend::mend(response, copy, changes);
     let fault = mended.refusal;
-    tell2(numbers, mended.length as u64, mended.changes as u64);
+    *told = [mended.length as u64, mended.changes as u64];
     fault.number
 }
 
-// Whether a response has what a profile requires. Numbers: what is wrong with the lowest feature that breaks the profile, 0 if none does, and that feature.
+// Whether a response has what a profile requires. Told: what is wrong with the lowest feature that breaks the profile, 0 if none does, and that feature.
 #[no_mangle]
-pub extern "C" fn gcf_check_profile(profile: Profile, response: &[u8], numbers: &mut [u64]) -> u8
-    ensures { λ r. ⌜ left r tt (now (numbers .exit)) ≡ showJudged (needs.judged (profile .0) (now (response .entry))) (now (numbers .entry)) ⌝ }
+pub extern "C" fn gcf_check_profile(profile: Profile, response: &[u8], told: &mut [u64; 2]) -> u8
+    ensures { λ r. ⌜ left r tt (now (told .exit)) ≡ showJudged (needs.judged (profile .0) (now (response .entry))) ⌝ }
 {
     let judgement = needs::check_profile(profile, response);
     match judgement {
         Judgement::Conforms => {
-            tell2(numbers, 0, 0);
+            *told = [0, 0];
             0
         }
         Judgement::Broken(f, wrong) => {
             let number = wrong.number();
-            tell2(numbers, number as u64, f.0 as u64);
+            *told = [number as u64, f.0 as u64];
             0
         }
         Judgement::Refused(fault) => {
-            tell2(numbers, 0, 0);
+            *told = [0, 0];
             fault.number
         }
     }
@@ -555,15 +405,14 @@ pub extern "C" fn gcf_check_profile(profile: Profile, response: &[u8], numbers: 
 
 // ---- import
 
-// Turns a captured response to RT 0 from 0 into a drive sheet. Numbers: bytes of the sheet, the place of the profile or entry at fault.
+// Turns a captured response to RT 0 from 0 into a drive sheet in rows. Told: bytes of the sheet, the place of the profile or entry at fault.
 #[no_mangle]
-pub extern "C" fn gcf_import(response: &[u8], sheet: &mut [u8], numbers: &mut [u64]) -> u8
-    ensures { λ r. ⌜ left r (now (sheet .exit)) (now (numbers .exit))
-        ≡ showPlaced (imported (now (response .entry)) (now (sheet .entry))) (now (numbers .entry)) ⌝ }
+pub extern "C" fn gcf_import(response: &[u8], sheet: &mut [u8], told: &mut [u64; 2]) -> u8
+    ensures { λ r. ⌜ left r (now (sheet .exit)) (now (told .exit)) ≡ showMade (imported (now (response .entry)) (now (sheet .entry))) ⌝ }
 {
     let made = import::import(response, sheet);
     let fault = made.refusal;
-    tell2(numbers, made.count as u64, fault.place as u64);
+    *told = [made.count as u64, fault.place as u64];
     fault.number
 }
 
@@ -581,30 +430,30 @@ fn kind_number(kind: Kind) -> u64
     }
 }
 
-// Makes the sense data for a number that a command gave. Numbers: bytes written.
+// Makes the sense data for a number that a command gave. Told: bytes written, 0.
 #[no_mangle]
-pub extern "C" fn gcf_make_sense(number: u8, sense: &mut [u8], numbers: &mut [u64]) -> u8
-    ensures { λ r. ⌜ left r (now (sense .exit)) (now (numbers .exit)) ≡ showMade (made number (now (sense .entry))) (now (numbers .entry)) ⌝ }
+pub extern "C" fn gcf_make_sense(number: u8, sense: &mut [u8], told: &mut [u64; 2]) -> u8
+    ensures { λ r. ⌜ left r (now (sense .exit)) (now (told .exit)) ≡ showMade (made number (now (sense .entry))) ⌝ }
 {
     let written = sense::make(number, sense);
     let fault = written.refusal;
-    tell(numbers, 0, written.count as u64);
+    *told = [written.count as u64, fault.place as u64];
     fault.number
 }
 
-// What received sense data means. Numbers: the number of the kind, 0 where it is refused.
+// What received sense data means. Told: the number of the kind, 0 where it is refused.
 #[no_mangle]
-pub extern "C" fn gcf_read_sense(sense: &[u8], numbers: &mut [u64]) -> u8
-    ensures { λ r. ⌜ left r tt (now (numbers .exit)) ≡ showSensed (sensed (now (sense .entry))) (now (numbers .entry)) ⌝ }
+pub extern "C" fn gcf_read_sense(sense: &[u8], told: &mut [u64; 1]) -> u8
+    ensures { λ r. ⌜ left r tt (now (told .exit)) ≡ showSensed (sensed (now (sense .entry))) ⌝ }
 {
     let meaning = sense::read(sense);
     match meaning {
         Sense::Means(kind) => {
-            tell(numbers, 0, kind_number(kind));
+            *told = [kind_number(kind)];
             0
         }
         Sense::Refused(fault) => {
-            tell(numbers, 0, 0);
+            *told = [0];
             fault.number
         }
     }

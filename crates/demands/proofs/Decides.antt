@@ -1,6 +1,7 @@
 -- Each public function's own contract, as the toolchain generates it, asks nothing and decides the whole outcome: every returned field, where a returned part lies, and
 -- every byte of lent memory. One line a function; six of the theorems stand in the function's own crate, where an edit that weakens the contract is refused by them. Assumes nothing.
 use mathlib.Core.Path.{_≡_, refl, ap}
+use mathlib.Core.Bool.{Bool}
 use mathlib.Core.List.{List}
 use Prim.Native.Nat.{ℕ}
 use Rattle.base.proofs.Decided.{Decided, DecidedAs, seen, decides, joined, _&_}
@@ -75,6 +76,8 @@ use Rattle.reading.proofs.judge as judge
 use Rattle.reading.proofs.held as held
 use Rattle.text.proofs.most as most
 use Rattle.listing.proofs.list as list
+use Rattle.descriptor.proofs.stands as stands
+use Rattle.meanings.proofs.put_words as put-words
 use Rattle.sweep.specs.Sweep.{Turn}
 use Rattle.bench.specs.Bench as bench-specs
 use Rattle.bench.proofs.bench as bench
@@ -104,16 +107,15 @@ use Rattle.abi.specs.Left.{Left}
 use Rattle.rom.proofs.respond_accepted as rom-respond-accepted
 use Rattle.rom.proofs.respond as rom-respond
 use Rattle.abi.proofs.gcf_check_sheet as gcf-check-sheet
-use Rattle.abi.proofs.gcf_check_columns as gcf-check-columns
 use Rattle.abi.proofs.gcf_respond as gcf-respond
-use Rattle.abi.proofs.gcf_respond_columns as gcf-respond-columns
 use Rattle.abi.proofs.gcf_respond_accepted as gcf-respond-accepted
-use Rattle.abi.proofs.gcf_respond_columns_accepted as gcf-respond-columns-accepted
 use Rattle.abi.proofs.gcf_check_image as gcf-check-image
 use Rattle.abi.proofs.gcf_respond_image as gcf-respond-image
 use Rattle.abi.proofs.gcf_respond_image_accepted as gcf-respond-image-accepted
 use Rattle.abi.proofs.gcf_read as gcf-read
 use Rattle.abi.proofs.gcf_stops as gcf-stops
+use Rattle.abi.proofs.gcf_next as gcf-next
+use Rattle.abi.proofs.gcf_words as gcf-words
 use Rattle.abi.proofs.gcf_place as gcf-place
 use Rattle.abi.proofs.gcf_held as gcf-held
 use Rattle.abi.proofs.gcf_list as gcf-list
@@ -121,15 +123,12 @@ use Rattle.abi.proofs.gcf_most as gcf-most
 use Rattle.abi.proofs.gcf_sweep_start as gcf-sweep-start
 use Rattle.abi.proofs.gcf_sweep_take as gcf-sweep-take
 use Rattle.abi.proofs.gcf_bench as gcf-bench
-use Rattle.abi.proofs.gcf_bench_columns as gcf-bench-columns
 use Rattle.abi.proofs.gcf_check_descriptors as gcf-check-descriptors
 use Rattle.abi.proofs.gcf_check_profile as gcf-check-profile
 use Rattle.abi.proofs.gcf_mend as gcf-mend
 use Rattle.abi.proofs.gcf_import as gcf-import
-use Rattle.abi.proofs.gcf_to_rows as gcf-to-rows
-use Rattle.abi.proofs.gcf_to_columns as gcf-to-columns
+use Rattle.abi.proofs.gcf_convert as gcf-convert
 use Rattle.abi.proofs.gcf_load as gcf-load
-use Rattle.abi.proofs.gcf_load_columns as gcf-load-columns
 use Rattle.abi.proofs.gcf_build_command as gcf-build-command
 use Rattle.abi.proofs.gcf_make_sense as gcf-make-sense
 use Rattle.abi.proofs.gcf_read_sense as gcf-read-sense
@@ -361,6 +360,16 @@ take-response-decided x = decides (x .𝓤) (λ o o′ p q. (
 pub list-decided : Decided list.ended (λ M. list.clauses) (λ M. list.spec)
 list-decided x = decides (x .𝓤) (λ o o′ p q. (same p q .0, refl & same p q .1 & refl))
 
+-- ---- descriptor
+
+pub stands-decided : Decided stands.ended (λ M. stands.clauses) (λ M. stands.spec)
+stands-decided x = decides (x .𝓤) (λ o o′ p q. (joined p q, refl))
+
+-- ---- meanings
+
+pub put-words-decided : Decided put-words.ended (λ M. put-words.clauses) (λ M. put-words.spec)
+put-words-decided x = decides (x .𝓤) (λ o o′ p q. (same p q .0, refl & same p q .1 & refl))
+
 -- ---- bench
 
 response : {a b : bench-specs.Buffers} → a ≡ b → a .response ≡ b .response
@@ -446,7 +455,7 @@ sense-read-decided x = decides (x .𝓤) (λ o o′ p q. (heard-injective (o .0)
 pub hex-spell-decided : Decided hex-spell.ended (λ M. hex-spell.clauses) (λ M. hex-spell.spec)
 hex-spell-decided x = decides (x .𝓤) (λ o o′ p q. (ap (λ (z : hex.Outcome). z .told) (joined p q), refl & ap (λ (z : hex.Outcome). z .buffer) (joined p q) & refl))
 
--- ---- abi: what is left in the buffers and in the array of numbers
+-- ---- abi: what is left in the buffers, and what is told
 
 number : {B : Type 0} {a b : Left B} → a ≡ b → a .number ≡ b .number
 number {B} p = ap (λ (z : Left B). z .number) p
@@ -454,47 +463,44 @@ number {B} p = ap (λ (z : Left B). z .number) p
 buffers : {B : Type 0} {a b : Left B} → a ≡ b → a .buffers ≡ b .buffers
 buffers {B} p = ap (λ (z : Left B). z .buffers) p
 
-numbers : {B : Type 0} {a b : Left B} → a ≡ b → a .numbers ≡ b .numbers
-numbers {B} p = ap (λ (z : Left B). z .numbers) p
+told : {B : Type 0} {a b : Left B} → a ≡ b → a .told ≡ b .told
+told {B} p = ap (λ (z : Left B). z .told) p
 
 pub gcf-check-sheet-decided : Decided gcf-check-sheet.ended (λ M. gcf-check-sheet.clauses) (λ M. gcf-check-sheet.spec)
-gcf-check-sheet-decided x = decides (x .𝓤) (λ o o′ p q. (number (joined p q), refl & numbers (joined p q) & refl))
-
-pub gcf-check-columns-decided : Decided gcf-check-columns.ended (λ M. gcf-check-columns.clauses) (λ M. gcf-check-columns.spec)
-gcf-check-columns-decided x = decides (x .𝓤) (λ o o′ p q. (number (joined p q), refl & numbers (joined p q) & refl))
+gcf-check-sheet-decided x = decides (x .𝓤) (λ o o′ p q. (number (joined p q), refl & refl & told (joined p q) & refl))
 
 pub gcf-respond-decided : Decided gcf-respond.ended (λ M. gcf-respond.clauses) (λ M. gcf-respond.spec)
-gcf-respond-decided x = decides (x .𝓤) (λ o o′ p q. (number (joined p q), refl & refl & buffers (joined p q) & numbers (joined p q) & refl))
-
-pub gcf-respond-columns-decided : Decided gcf-respond-columns.ended (λ M. gcf-respond-columns.clauses) (λ M. gcf-respond-columns.spec)
-gcf-respond-columns-decided x = decides (x .𝓤) (λ o o′ p q. (number (joined p q), refl & refl & buffers (joined p q) & numbers (joined p q) & refl))
+gcf-respond-decided x = decides (x .𝓤) (λ o o′ p q. (number (joined p q), refl & refl & refl & buffers (joined p q) & told (joined p q) & refl))
 
 pub gcf-respond-accepted-decided : Decided gcf-respond-accepted.ended (λ M. gcf-respond-accepted.clauses) (λ M. gcf-respond-accepted.spec)
-gcf-respond-accepted-decided x = decides (x .𝓤) (λ o o′ p q. (number (joined p q), refl & refl & buffers (joined p q) & numbers (joined p q) & refl))
-
-pub gcf-respond-columns-accepted-decided : Decided gcf-respond-columns-accepted.ended (λ M. gcf-respond-columns-accepted.clauses) (λ M. gcf-respond-columns-accepted.spec)
-gcf-respond-columns-accepted-decided x = decides (x .𝓤) (λ o o′ p q. (number (joined p q), refl & refl & buffers (joined p q) & numbers (joined p q) & refl))
+gcf-respond-accepted-decided x = decides (x .𝓤) (λ o o′ p q. (number (joined p q), refl & refl & refl & buffers (joined p q) & told (joined p q) & refl))
 
 pub gcf-check-image-decided : Decided gcf-check-image.ended (λ M. gcf-check-image.clauses) (λ M. gcf-check-image.spec)
-gcf-check-image-decided x = decides (x .𝓤) (λ o o′ p q. (number (joined p q), refl & numbers (joined p q) & refl))
+gcf-check-image-decided x = decides (x .𝓤) (λ o o′ p q. (number (joined p q), refl & told (joined p q) & refl))
 
 pub gcf-respond-image-decided : Decided gcf-respond-image.ended (λ M. gcf-respond-image.clauses) (λ M. gcf-respond-image.spec)
-gcf-respond-image-decided x = decides (x .𝓤) (λ o o′ p q. (number (joined p q), refl & refl & buffers (joined p q) & numbers (joined p q) & refl))
+gcf-respond-image-decided x = decides (x .𝓤) (λ o o′ p q. (number (joined p q), refl & refl & buffers (joined p q) & told (joined p q) & refl))
 
 pub gcf-respond-image-accepted-decided : Decided gcf-respond-image-accepted.ended (λ M. gcf-respond-image-accepted.clauses) (λ M. gcf-respond-image-accepted.spec)
-gcf-respond-image-accepted-decided x = decides (x .𝓤) (λ o o′ p q. (number (joined p q), refl & refl & buffers (joined p q) & numbers (joined p q) & refl))
+gcf-respond-image-accepted-decided x = decides (x .𝓤) (λ o o′ p q. (number (joined p q), refl & refl & buffers (joined p q) & told (joined p q) & refl))
 
 pub gcf-read-decided : Decided gcf-read.ended (λ M. gcf-read.clauses) (λ M. gcf-read.spec)
-gcf-read-decided x = decides (x .𝓤) (λ o o′ p q. (number (joined p q), refl & refl & refl & numbers (joined p q) & refl))
+gcf-read-decided x = decides (x .𝓤) (λ o o′ p q. (number (joined p q), refl & refl & refl & told (joined p q) & refl))
 
 pub gcf-held-decided : Decided gcf-held.ended (λ M. gcf-held.clauses) (λ M. gcf-held.spec)
 gcf-held-decided x = decides (x .𝓤) (λ o o′ p q. (same p q .0, refl & refl & refl & same p q .1 & refl))
+
+pub gcf-words-decided : Decided gcf-words.ended (λ M. gcf-words.clauses) (λ M. gcf-words.spec)
+gcf-words-decided x = decides (x .𝓤) (λ o o′ p q. (same p q .0, refl & same p q .1 & refl))
 
 pub gcf-list-decided : Decided gcf-list.ended (λ M. gcf-list.clauses) (λ M. gcf-list.spec)
 gcf-list-decided x = decides (x .𝓤) (λ o o′ p q. (same p q .0, refl & same p q .1 & refl))
 
 pub gcf-stops-decided : Decided gcf-stops.ended (λ M. gcf-stops.clauses) (λ M. gcf-stops.spec)
-gcf-stops-decided x = decides (x .𝓤) (λ o o′ p q. (number (joined p q), refl & refl & refl & refl & numbers (joined p q) & refl))
+gcf-stops-decided x = decides (x .𝓤) (λ o o′ p q. (refl, refl & refl & refl & refl & joined p q & refl))
+
+pub gcf-next-decided : Decided gcf-next.ended (λ M. gcf-next.clauses) (λ M. gcf-next.spec)
+gcf-next-decided x = decides (x .𝓤) (λ o o′ p q. (ap (λ (z : Bool × List ℕ). z .0) (joined p q), refl & refl & ap (λ (z : Bool × List ℕ). z .1) (joined p q) & refl))
 
 pub gcf-place-decided : Decided gcf-place.ended (λ M. gcf-place.clauses) (λ M. gcf-place.spec)
 gcf-place-decided x = decides (x .𝓤) (λ o o′ p q. (joined p q, refl))
@@ -511,47 +517,35 @@ gcf-sweep-take-decided x = decides (x .𝓤) (λ o o′ p q. (ap (λ (z : Turn).
 pub gcf-bench-decided : Decided gcf-bench.ended (λ M. gcf-bench.clauses) (λ M. gcf-bench.spec)
 gcf-bench-decided x = decides (x .𝓤) (λ o o′ p q. (
   number (joined p q),
-  refl & refl & refl & response (buffers (joined p q)) & collected (buffers (joined p q)) & starts (buffers (joined p q)) & numbers (joined p q) & refl,
-))
-
-pub gcf-bench-columns-decided : Decided gcf-bench-columns.ended (λ M. gcf-bench-columns.clauses) (λ M. gcf-bench-columns.spec)
-gcf-bench-columns-decided x = decides (x .𝓤) (λ o o′ p q. (
-  number (joined p q),
-  refl & refl & refl & response (buffers (joined p q)) & collected (buffers (joined p q)) & starts (buffers (joined p q)) & numbers (joined p q) & refl,
+  refl & refl & refl & refl & response (buffers (joined p q)) & collected (buffers (joined p q)) & starts (buffers (joined p q)) & told (joined p q) & refl,
 ))
 
 pub gcf-check-descriptors-decided : Decided gcf-check-descriptors.ended (λ M. gcf-check-descriptors.clauses) (λ M. gcf-check-descriptors.spec)
-gcf-check-descriptors-decided x = decides (x .𝓤) (λ o o′ p q. (number (joined p q), refl & numbers (joined p q) & refl))
+gcf-check-descriptors-decided x = decides (x .𝓤) (λ o o′ p q. (number (joined p q), refl & told (joined p q) & refl))
 
 pub gcf-check-profile-decided : Decided gcf-check-profile.ended (λ M. gcf-check-profile.clauses) (λ M. gcf-check-profile.spec)
-gcf-check-profile-decided x = decides (x .𝓤) (λ o o′ p q. (number (joined p q), refl & refl & numbers (joined p q) & refl))
+gcf-check-profile-decided x = decides (x .𝓤) (λ o o′ p q. (number (joined p q), refl & refl & told (joined p q) & refl))
 
 pub gcf-mend-decided : Decided gcf-mend.ended (λ M. gcf-mend.clauses) (λ M. gcf-mend.spec)
 gcf-mend-decided x = decides (x .𝓤) (λ o o′ p q. (
   number (joined p q),
-  refl & ap (λ (z : List ℕ × List ℕ). z .0) (buffers (joined p q)) & ap (λ (z : List ℕ × List ℕ). z .1) (buffers (joined p q)) & numbers (joined p q) & refl,
+  refl & ap (λ (z : List ℕ × List ℕ). z .0) (buffers (joined p q)) & ap (λ (z : List ℕ × List ℕ). z .1) (buffers (joined p q)) & told (joined p q) & refl,
 ))
 
 pub gcf-import-decided : Decided gcf-import.ended (λ M. gcf-import.clauses) (λ M. gcf-import.spec)
-gcf-import-decided x = decides (x .𝓤) (λ o o′ p q. (number (joined p q), refl & buffers (joined p q) & numbers (joined p q) & refl))
+gcf-import-decided x = decides (x .𝓤) (λ o o′ p q. (number (joined p q), refl & buffers (joined p q) & told (joined p q) & refl))
 
-pub gcf-to-rows-decided : Decided gcf-to-rows.ended (λ M. gcf-to-rows.clauses) (λ M. gcf-to-rows.spec)
-gcf-to-rows-decided x = decides (x .𝓤) (λ o o′ p q. (number (joined p q), refl & buffers (joined p q) & numbers (joined p q) & refl))
-
-pub gcf-to-columns-decided : Decided gcf-to-columns.ended (λ M. gcf-to-columns.clauses) (λ M. gcf-to-columns.spec)
-gcf-to-columns-decided x = decides (x .𝓤) (λ o o′ p q. (number (joined p q), refl & buffers (joined p q) & numbers (joined p q) & refl))
+pub gcf-convert-decided : Decided gcf-convert.ended (λ M. gcf-convert.clauses) (λ M. gcf-convert.spec)
+gcf-convert-decided x = decides (x .𝓤) (λ o o′ p q. (number (joined p q), refl & refl & refl & buffers (joined p q) & told (joined p q) & refl))
 
 pub gcf-load-decided : Decided gcf-load.ended (λ M. gcf-load.clauses) (λ M. gcf-load.spec)
-gcf-load-decided x = decides (x .𝓤) (λ o o′ p q. (number (joined p q), refl & refl & refl & buffers (joined p q) & numbers (joined p q) & refl))
-
-pub gcf-load-columns-decided : Decided gcf-load-columns.ended (λ M. gcf-load-columns.clauses) (λ M. gcf-load-columns.spec)
-gcf-load-columns-decided x = decides (x .𝓤) (λ o o′ p q. (number (joined p q), refl & refl & refl & buffers (joined p q) & numbers (joined p q) & refl))
+gcf-load-decided x = decides (x .𝓤) (λ o o′ p q. (number (joined p q), refl & refl & refl & refl & buffers (joined p q) & told (joined p q) & refl))
 
 pub gcf-build-command-decided : Decided gcf-build-command.ended (λ M. gcf-build-command.clauses) (λ M. gcf-build-command.spec)
-gcf-build-command-decided x = decides (x .𝓤) (λ o o′ p q. (number (joined p q), refl & refl & refl & refl & buffers (joined p q) & numbers (joined p q) & refl))
+gcf-build-command-decided x = decides (x .𝓤) (λ o o′ p q. (number (joined p q), refl & refl & refl & refl & buffers (joined p q) & told (joined p q) & refl))
 
 pub gcf-make-sense-decided : Decided gcf-make-sense.ended (λ M. gcf-make-sense.clauses) (λ M. gcf-make-sense.spec)
-gcf-make-sense-decided x = decides (x .𝓤) (λ o o′ p q. (number (joined p q), refl & buffers (joined p q) & numbers (joined p q) & refl))
+gcf-make-sense-decided x = decides (x .𝓤) (λ o o′ p q. (number (joined p q), refl & buffers (joined p q) & told (joined p q) & refl))
 
 pub gcf-read-sense-decided : Decided gcf-read-sense.ended (λ M. gcf-read-sense.clauses) (λ M. gcf-read-sense.spec)
-gcf-read-sense-decided x = decides (x .𝓤) (λ o o′ p q. (number (joined p q), refl & numbers (joined p q) & refl))
+gcf-read-sense-decided x = decides (x .𝓤) (λ o o′ p q. (number (joined p q), refl & told (joined p q) & refl))

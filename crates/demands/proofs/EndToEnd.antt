@@ -38,7 +38,7 @@ use Rattle.convert.proofs.convert as convert
 use Rattle.sense.specs.Sense.{heard, kindOf, sensed}
 use Rattle.sense.proofs.make as sense-make
 use Rattle.sense.proofs.read as sense-read
-use Rattle.abi.specs.Left.{left, showPlaced}
+use Rattle.abi.specs.Left.{layoutOf, left, showMade}
 use Rattle.abi.proofs.gcf_respond as gcf-respond
 use Rattle.base.proofs.Promise.{by, beside, both}
 use Rattle.demands.proofs.Sending.{Answers, demand2}
@@ -209,8 +209,8 @@ module _ (x : Call gcf-respond.ended (λ M. gcf-respond.clauses)) (κs : Lfts (r
 
   pub gcf-respond-same : (o : Outcome gcf-respond.ended (λ M. gcf-respond.clauses) x) (p : Outcome respond.ended (λ M. respond.clauses) direct)
       → ent (x .𝓤) (conj (x .𝓤) (allowed gcf-respond.ended (λ M. gcf-respond.clauses) x o) (allowed respond.ended (λ M. respond.clauses) direct p)) (fact (x .𝓤) (
-      saying x o (λ _ sheet command response numbers r _ _ response′ numbers′.
+      saying x o (λ _ columns sheet command response told r _ _ _ response′ told′.
       saying direct p (λ _ lay₂ s₂ command₂ out₂ r₂ _ _ _ out₂′.
-      stored lay₂ (now s₂) ≡ stored Rows (now sheet) → now command₂ ≡ now command → now out₂ ≡ now response
-      → left r response′ numbers′ ≡ showPlaced (maker.outcome r₂ out₂′) (now numbers)))))
-  gcf-respond-same o p = both (x .𝓤) (λ e f a b c. e ∙ ap (λ (w : maker.Outcome). showPlaced w (x .args .1 .1 .1 .0 .now)) (sym (rw (← a, ← b, ← c) f)))
+      stored lay₂ (now s₂) ≡ stored (layoutOf columns) (now sheet) → now command₂ ≡ now command → now out₂ ≡ now response
+      → left r response′ told′ ≡ showMade (maker.outcome r₂ out₂′)))))
+  gcf-respond-same o p = both (x .𝓤) (λ e f a b c. e ∙ ap showMade (sym (rw (← a, ← b, ← c) f)))

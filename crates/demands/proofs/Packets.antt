@@ -27,7 +27,6 @@ use Rattle.command.proofs.Promised.{Commands, commands, Understood, understood,
 use Rattle.command.proofs.Command.fault as command-fault
 use Rattle.command.proofs.Command.read as command-read
 use Rattle.command.proofs.Command.build as command-build
-use Rattle.layout.specs.declared.Layout.the-variants.{Rows, Columns}
 use Rattle.layout.specs.Layout.{Sheet, stored}
 use Rattle.sheet.specs.Check.{verdict}
 use Rattle.sheet.specs.Meaning.{meaning}
@@ -42,11 +41,9 @@ use Rattle.rom.specs.Rom.{imageAnswered}
 use Rattle.rom.specs.Image.{imageRequested, imageCommanded}
 use Rattle.rom.proofs.respond as rom-respond
 use Rattle.rom.proofs.respond_accepted as rom-respond-accepted
-use Rattle.abi.specs.Left.{left, showMade, showPlaced}
+use Rattle.abi.specs.Left.{layoutOf, Left, left, showMade}
 use Rattle.abi.proofs.gcf_respond as gcf-respond
-use Rattle.abi.proofs.gcf_respond_columns as gcf-respond-columns
 use Rattle.abi.proofs.gcf_respond_accepted as gcf-respond-accepted
-use Rattle.abi.proofs.gcf_respond_columns_accepted as gcf-respond-columns-accepted
 use Rattle.abi.proofs.gcf_respond_image as gcf-respond-image
 use Rattle.abi.proofs.gcf_respond_image_accepted as gcf-respond-image-accepted
 use Rattle.demands.proofs.Sending.{Answers, demand2}
@@ -115,40 +112,30 @@ pub rom-respond-accepted-alike : Twice rom-respond-accepted.ended (λ M. rom-res
     Alike (now image) (now image₂) (now command) (now command₂) (now out) (now out₂) (maker.outcome r out′) (maker.outcome r₂ out₂′))))
 rom-respond-accepted-alike x κs args g o p = both (x .𝓤) (alike imageCommanded (λ same. same-image-accepted same _ _))
 
--- the same of the exported functions, with the array of numbers
-told-alike : {S L : Type 0} {s s′ : S} {c c′ d d′ n n′ : List ℕ} {o o′ : L} (show : maker.Outcome → List ℕ → L) (f : S → List ℕ → List ℕ → maker.Outcome) → (SameAsked c c′ → f s′ c d′ ≡ f s′ c′ d′)
-    → o ≡ show (f s c d) n → o′ ≡ show (f s′ c′ d′) n′ → n ≡ n′ → Alike s s′ c c′ d d′ o o′
-told-alike {n′ = n′} show f same e e′ is-n is-s is-c is-d = e ∙ rw (is-n, is-s, is-d) (ap (λ (z : maker.Outcome). show z n′) (same is-c)) ∙ sym e′
+-- the same of the exported functions, with what they tell
+told-alike : {S : Type 0} {s s′ : S} {c c′ d d′ : List ℕ} {o o′ : Left (List ℕ)} (f : S → List ℕ → List ℕ → maker.Outcome) → (SameAsked c c′ → f s′ c d′ ≡ f s′ c′ d′)
+    → o ≡ showMade (f s c d) → o′ ≡ showMade (f s′ c′ d′) → Alike s s′ c c′ d d′ o o′
+told-alike f same e e′ is-s is-c is-d = e ∙ rw (is-s, is-d) (ap showMade (same is-c)) ∙ sym e′
 
 pub gcf-respond-alike : Twice gcf-respond.ended (λ M. gcf-respond.clauses)
-    (λ x o y p. saying x o (λ _ sheet command response numbers r _ _ response′ numbers′. saying y p (λ _ sheet₂ command₂ response₂ numbers₂ r₂ _ _ response₂′ numbers₂′.
-    now numbers ≡ now numbers₂ → Alike (now sheet) (now sheet₂) (now command) (now command₂) (now response) (now response₂) (left r response′ numbers′) (left r₂ response₂′ numbers₂′))))
-gcf-respond-alike x κs args g o p = both (x .𝓤) (told-alike showPlaced (λ s. answered (stored Rows s)) (λ same. same-answered same _ _))
-
-pub gcf-respond-columns-alike : Twice gcf-respond-columns.ended (λ M. gcf-respond-columns.clauses)
-    (λ x o y p. saying x o (λ _ sheet command response numbers r _ _ response′ numbers′. saying y p (λ _ sheet₂ command₂ response₂ numbers₂ r₂ _ _ response₂′ numbers₂′.
-    now numbers ≡ now numbers₂ → Alike (now sheet) (now sheet₂) (now command) (now command₂) (now response) (now response₂) (left r response′ numbers′) (left r₂ response₂′ numbers₂′))))
-gcf-respond-columns-alike x κs args g o p = both (x .𝓤) (told-alike showPlaced (λ s. answered (stored Columns s)) (λ same. same-answered same _ _))
+    (λ x o y p. saying x o (λ _ columns sheet command response told r _ _ _ response′ told′. saying y p (λ _ columns₂ sheet₂ command₂ response₂ told₂ r₂ _ _ _ response₂′ told₂′.
+    Alike (stored (layoutOf columns) (now sheet)) (stored (layoutOf columns₂) (now sheet₂)) (now command) (now command₂) (now response) (now response₂) (left r response′ told′) (left r₂ response₂′ told₂′))))
+gcf-respond-alike x κs args g o p = both (x .𝓤) (told-alike answered (λ same. same-answered same _ _))
 
 pub gcf-respond-accepted-alike : Twice gcf-respond-accepted.ended (λ M. gcf-respond-accepted.clauses)
-    (λ x o y p. saying x o (λ _ sheet command response numbers r _ _ response′ numbers′. saying y p (λ _ sheet₂ command₂ response₂ numbers₂ r₂ _ _ response₂′ numbers₂′.
-    now numbers ≡ now numbers₂ → Alike (now sheet) (now sheet₂) (now command) (now command₂) (now response) (now response₂) (left r response′ numbers′) (left r₂ response₂′ numbers₂′))))
-gcf-respond-accepted-alike x κs args g o p = both (x .𝓤) (told-alike showMade (λ s. trustingCommand (stored Rows s)) (λ same. same-trusted same _ _))
-
-pub gcf-respond-columns-accepted-alike : Twice gcf-respond-columns-accepted.ended (λ M. gcf-respond-columns-accepted.clauses)
-    (λ x o y p. saying x o (λ _ sheet command response numbers r _ _ response′ numbers′. saying y p (λ _ sheet₂ command₂ response₂ numbers₂ r₂ _ _ response₂′ numbers₂′.
-    now numbers ≡ now numbers₂ → Alike (now sheet) (now sheet₂) (now command) (now command₂) (now response) (now response₂) (left r response′ numbers′) (left r₂ response₂′ numbers₂′))))
-gcf-respond-columns-accepted-alike x κs args g o p = both (x .𝓤) (told-alike showMade (λ s. trustingCommand (stored Columns s)) (λ same. same-trusted same _ _))
+    (λ x o y p. saying x o (λ _ columns sheet command response told r _ _ _ response′ told′. saying y p (λ _ columns₂ sheet₂ command₂ response₂ told₂ r₂ _ _ _ response₂′ told₂′.
+    Alike (stored (layoutOf columns) (now sheet)) (stored (layoutOf columns₂) (now sheet₂)) (now command) (now command₂) (now response) (now response₂) (left r response′ told′) (left r₂ response₂′ told₂′))))
+gcf-respond-accepted-alike x κs args g o p = both (x .𝓤) (told-alike trustingCommand (λ same. same-trusted same _ _))
 
 pub gcf-respond-image-alike : Twice gcf-respond-image.ended (λ M. gcf-respond-image.clauses)
-    (λ x o y p. saying x o (λ _ image command response numbers r _ _ response′ numbers′. saying y p (λ _ image₂ command₂ response₂ numbers₂ r₂ _ _ response₂′ numbers₂′.
-    now numbers ≡ now numbers₂ → Alike (now image) (now image₂) (now command) (now command₂) (now response) (now response₂) (left r response′ numbers′) (left r₂ response₂′ numbers₂′))))
-gcf-respond-image-alike x κs args g o p = both (x .𝓤) (told-alike showPlaced imageAnswered (λ same. same-image same _ _))
+    (λ x o y p. saying x o (λ _ image command response told r _ _ response′ told′. saying y p (λ _ image₂ command₂ response₂ told₂ r₂ _ _ response₂′ told₂′.
+    Alike (now image) (now image₂) (now command) (now command₂) (now response) (now response₂) (left r response′ told′) (left r₂ response₂′ told₂′))))
+gcf-respond-image-alike x κs args g o p = both (x .𝓤) (told-alike imageAnswered (λ same. same-image same _ _))
 
 pub gcf-respond-image-accepted-alike : Twice gcf-respond-image-accepted.ended (λ M. gcf-respond-image-accepted.clauses)
-    (λ x o y p. saying x o (λ _ image command response numbers r _ _ response′ numbers′. saying y p (λ _ image₂ command₂ response₂ numbers₂ r₂ _ _ response₂′ numbers₂′.
-    now numbers ≡ now numbers₂ → Alike (now image) (now image₂) (now command) (now command₂) (now response) (now response₂) (left r response′ numbers′) (left r₂ response₂′ numbers₂′))))
-gcf-respond-image-accepted-alike x κs args g o p = both (x .𝓤) (told-alike showMade imageCommanded (λ same. same-image-accepted same _ _))
+    (λ x o y p. saying x o (λ _ image command response told r _ _ response′ told′. saying y p (λ _ image₂ command₂ response₂ told₂ r₂ _ _ response₂′ told₂′.
+    Alike (now image) (now image₂) (now command) (now command₂) (now response) (now response₂) (left r response′ told′) (left r₂ response₂′ told₂′))))
+gcf-respond-image-accepted-alike x κs args g o p = both (x .𝓤) (told-alike imageCommanded (λ same. same-image-accepted same _ _))
 
 pair : {φ ψ : Type 0} → φ → ψ → φ × ψ
 pair f g = (f, g)

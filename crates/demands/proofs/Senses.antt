@@ -42,11 +42,9 @@ use Rattle.rom.specs.Rom.{imageAnswered}
 use Rattle.rom.specs.Image.{imageRequested, imageCommanded}
 use Rattle.rom.proofs.respond as rom-respond
 use Rattle.rom.proofs.respond_accepted as rom-respond-accepted
-use Rattle.abi.specs.Left.{Left, showMade, showPlaced}
+use Rattle.abi.specs.Left.{Left, showMade}
 use Rattle.abi.proofs.gcf_respond as gcf-respond
-use Rattle.abi.proofs.gcf_respond_columns as gcf-respond-columns
 use Rattle.abi.proofs.gcf_respond_accepted as gcf-respond-accepted
-use Rattle.abi.proofs.gcf_respond_columns_accepted as gcf-respond-columns-accepted
 use Rattle.abi.proofs.gcf_respond_image as gcf-respond-image
 use Rattle.abi.proofs.gcf_respond_image_accepted as gcf-respond-image-accepted
 use Rattle.sense.specs.declared.Kind.{Kind}
@@ -207,13 +205,9 @@ answered-taken s c d =
 pub respond-taken : Promised respond.ended (λ M. respond.clauses) (λ M. respond.spec) (named (λ _ lay s command out r _ _ _ _. Taken (r .refusal .number)))
 respond-taken x = promises (x .𝓤) (λ o. by (λ (z : Outcome). Taken (z .made .refusal .number)) (answered-taken _ _ _))
 
-pub gcf-respond-taken : Promised gcf-respond.ended (λ M. gcf-respond.clauses) (λ M. gcf-respond.spec) (named (λ _ sheet command response numbers r _ _ _ _. Taken r))
-unfolding showPlaced
+pub gcf-respond-taken : Promised gcf-respond.ended (λ M. gcf-respond.clauses) (λ M. gcf-respond.spec) (named (λ _ columns sheet command response told r _ _ _ _ _. Taken r))
+unfolding showMade
 gcf-respond-taken x = promises (x .𝓤) (λ o. by (λ (z : Left (List ℕ)). Taken (z .number)) (answered-taken _ _ _))
-
-pub gcf-respond-columns-taken : Promised gcf-respond-columns.ended (λ M. gcf-respond-columns.clauses) (λ M. gcf-respond-columns.spec) (named (λ _ sheet command response numbers r _ _ _ _. Taken r))
-unfolding showPlaced
-gcf-respond-columns-taken x = promises (x .𝓤) (λ o. by (λ (z : Left (List ℕ)). Taken (z .number)) (answered-taken _ _ _))
 
 -- a refusal that is taken, and then whatever is
 unless-taken : (r : Refusal) (d : List ℕ) (o : Outcome) → Taken (r .number) → Taken (o .made .refusal .number) → Taken (unless r (refusing d) o .made .refusal .number)
@@ -232,13 +226,9 @@ trusted-taken s c d = unless-taken (commandFault c) d _ (command-taken c) (unles
 pub respond-accepted-taken : Promised respond-accepted.ended (λ M. respond-accepted.clauses) (λ M. respond-accepted.spec) (named (λ _ lay s command out r _ _ _ _. Taken (r .refusal .number)))
 respond-accepted-taken x = promises (x .𝓤) (λ o. by (λ (z : Outcome). Taken (z .made .refusal .number)) (trusted-taken _ _ _))
 
-pub gcf-respond-accepted-taken : Promised gcf-respond-accepted.ended (λ M. gcf-respond-accepted.clauses) (λ M. gcf-respond-accepted.spec) (named (λ _ sheet command response numbers r _ _ _ _. Taken r))
+pub gcf-respond-accepted-taken : Promised gcf-respond-accepted.ended (λ M. gcf-respond-accepted.clauses) (λ M. gcf-respond-accepted.spec) (named (λ _ columns sheet command response told r _ _ _ _ _. Taken r))
 unfolding showMade
 gcf-respond-accepted-taken x = promises (x .𝓤) (λ o. by (λ (z : Left (List ℕ)). Taken (z .number)) (trusted-taken _ _ _))
-
-pub gcf-respond-columns-accepted-taken : Promised gcf-respond-columns-accepted.ended (λ M. gcf-respond-columns-accepted.clauses) (λ M. gcf-respond-columns-accepted.spec) (named (λ _ sheet command response numbers r _ _ _ _. Taken r))
-unfolding showMade
-gcf-respond-columns-accepted-taken x = promises (x .𝓤) (λ o. by (λ (z : Left (List ℕ)). Taken (z .number)) (trusted-taken _ _ _))
 
 -- The same of a box with an image: import's numbers but 42, and those that it shares.
 pub image-taken : (i c d : List ℕ) → Taken (imageAnswered i c d .made .refusal .number)
@@ -252,8 +242,8 @@ image-taken i c d =
 pub rom-respond-taken : Promised rom-respond.ended (λ M. rom-respond.clauses) (λ M. rom-respond.spec) (named (λ _ image command out r _ _ _. Taken (r .refusal .number)))
 rom-respond-taken x = promises (x .𝓤) (λ o. by (λ (z : Outcome). Taken (z .made .refusal .number)) (image-taken _ _ _))
 
-pub gcf-respond-image-taken : Promised gcf-respond-image.ended (λ M. gcf-respond-image.clauses) (λ M. gcf-respond-image.spec) (named (λ _ image command response numbers r _ _ _ _. Taken r))
-unfolding showPlaced
+pub gcf-respond-image-taken : Promised gcf-respond-image.ended (λ M. gcf-respond-image.clauses) (λ M. gcf-respond-image.spec) (named (λ _ image command response told r _ _ _ _. Taken r))
+unfolding showMade
 gcf-respond-image-taken x = promises (x .𝓤) (λ o. by (λ (z : Left (List ℕ)). Taken (z .number)) (image-taken _ _ _))
 
 -- and from an image that was checked once
@@ -265,7 +255,7 @@ image-once-taken i c d =
 pub rom-respond-accepted-taken : Promised rom-respond-accepted.ended (λ M. rom-respond-accepted.clauses) (λ M. rom-respond-accepted.spec) (named (λ _ image command out r _ _ _. Taken (r .refusal .number)))
 rom-respond-accepted-taken x = promises (x .𝓤) (λ o. by (λ (z : Outcome). Taken (z .made .refusal .number)) (image-once-taken _ _ _))
 
-pub gcf-respond-image-accepted-taken : Promised gcf-respond-image-accepted.ended (λ M. gcf-respond-image-accepted.clauses) (λ M. gcf-respond-image-accepted.spec) (named (λ _ image command response numbers r _ _ _ _. Taken r))
+pub gcf-respond-image-accepted-taken : Promised gcf-respond-image-accepted.ended (λ M. gcf-respond-image-accepted.clauses) (λ M. gcf-respond-image-accepted.spec) (named (λ _ image command response told r _ _ _ _. Taken r))
 unfolding showMade
 gcf-respond-image-accepted-taken x = promises (x .𝓤) (λ o. by (λ (z : Left (List ℕ)). Taken (z .number)) (image-once-taken _ _ _))
 

@@ -28,6 +28,8 @@ use Rattle.reading.proofs.Stopped.{Stops, stops-so}
 use Rattle.reading.proofs.Rest.{Stood, stood-so}
 use Rattle.reading.specs.declared.Stop.{Stop}
 use Rattle.reading.proofs.stops as stops
+use Rattle.descriptor.proofs.Promised.{Steps, steps}
+use Rattle.descriptor.proofs.stands as stands
 use Rattle.reading.proofs.place_of as place-of
 use Rattle.reading.proofs.read as read
 use Rattle.reading.proofs.held as held
@@ -122,6 +124,9 @@ scan-tied x = promises (x .𝓤) (λ o. by (Scans _ _ _ _) (scans _ _ _ _))
 
 pub read-tied : Promised read.ended (λ M. read.clauses) (λ M. read.spec) (named (λ _ rt sfn s r _ _ _. Reads 65534 rt (sfn .0) (now s) r))
 read-tied x = promises (x .𝓤) (λ o. by (Reads _ _ _ _) (reads _ _ _ _))
+
+pub stands-tied : Promised stands.ended (λ M. stands.clauses) (λ M. stands.spec) (named (λ _ s at r _ _. Steps (now s) at r))
+stands-tied x = promises (x .𝓤) (λ o. by (Steps _ _) (steps _ _))
 
 pub stops-tied : Promised stops.ended (λ M. stops.clauses) (λ M. stops.spec)
     (named (λ _ limit rt sfn s r _ _ _ _. Stops limit rt (sfn .0) (now s) (r .at) (r .feature .0)))

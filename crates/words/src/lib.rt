@@ -1,71 +1,15 @@
-// What each number means, in words: one table from which every program prints.
+// What each number means, said in the words of the one table.
 use refusal::Refusal;
 
 fn say(fd: i32, what: &[u8]) {
     streams::say_to(fd, what);
 }
 
-// Says what a refusal means: the line of its number, in decimal.
+// Says what a refusal means: the sentence of its number.
 pub fn say_meaning(fd: i32, refusal: Refusal) {
-    let meaning = tables::text_of(
-        b"0 accepted\n\
-        1 the sheet has under 4 bytes, or under 4 + 8n + 4p\n\
-        2 the sheet has more than 63 profiles\n\
-        3 a profile's number is 0 or listed before, its third byte is over 1 or its last is not 0\n\
-        4 a feature number is 0, or not above the one before\n\
-        5 a reserved bit of a feature's flags is not 0\n\
-        6 a body length is no multiple of 4\n\
-        7 a body offset is not the end of the body before\n\
-        8 the sheet does not end where the last body ends\n\
-        9 the command has neither 10 nor 12 bytes\n\
-        10 the command's first byte is not 46h\n\
-        11 RT 3 is reserved\n\
-        12 the response buffer is too short\n\
-        13 a reading with RT over 2\n\
-        14 the response has under 8 or over 65,534 bytes\n\
-        15 Data Length is under 4 or no multiple of 4\n\
-        16 more bytes than Data Length + 4 were received\n\
-        17 an Additional Length is no multiple of 4\n\
-        18 a feature number is not above the one before\n\
-        19 a feature is not current\n\
-        20 a descriptor ends beyond Data Length + 4\n\
-        21 a sweep with RT over 1\n\
-        22 a sweep with an allocation length under 8\n\
-        23 the response is cut and has no whole descriptor\n\
-        24 there is no room for the collected descriptors\n\
-        25 there is no room for another start\n\
-        26 the sweep had ended\n\
-        27 the response is cut after feature FFFF\n\
-        28 the response is cut, and shorter than was asked for\n\
-        29 the response is cut\n\
-        30 every response has to report it, and it is missing\n\
-        31 its body has not the length that it must have\n\
-        32 Persistent and Current are not both 1\n\
-        33 a reserved flag bit is not 0\n\
-        34 Persistent is 1 and Current is 0\n\
-        35 Persistent is 1, and feature 0003 is reported\n\
-        36 a reserved body bit or a pad byte is not 0\n\
-        37 SAO is 0 and the cue sheet length is not 0\n\
-        39 a profile number is 0\n\
-        40 no table for this profile\n\
-        41 feature 0 is missing or its flags are not 03h, header bytes 4-5 are not 0, or Current Profile is not the first current one listed\n\
-        42 the sheet buffer is too short\n\
-        44 a feature is Persistent and not Current\n\
-        45 another Current Profile than the first response had\n\
-        46 the sense data has not 18 bytes\n\
-        47 the response code is not 70h\n\
-        48 the box does not write such sense data\n\
-        49 the buffer for the mended copy is too short\n\
-        50 the list of changes is too short\n\
-        51 a list does not ascend, or has a repeat\n\
-        52 the sheet lacks a listed feature or profile\n\
-        53 the buffer for the loaded sheet is too short\n\
-        54 no command gives this number\n\
-        55 the buffer for sense data has under 18 bytes",
-        false,
-        refusal.number as u32,
-    );
-    say(fd, meaning);
+    let mut text = [0; meanings::LONGEST];
+    let count = meanings::put_words(refusal.number, &mut text);
+    say(fd, fields::part(&text, 0, count));
 }
 
 // An upper-case hexadecimal digit.

@@ -1,5 +1,7 @@
 //! Memory that is handed to both sides, with guards around it.
 
+use gcf::raw;
+
 /// Cells of guard on each side; an odd number, so that bytes also stand at odd addresses.
 const GUARD: usize = 33;
 
@@ -56,6 +58,44 @@ impl<T: Cell> Lent<T> {
     }
 }
 
+/// A struct of further results between two guards.
+#[repr(C)]
+struct Guarded<T> {
+    before: [u64; 3],
+    told: T,
+    behind: [u64; 3],
+}
+
+/// What a call tells: a number for each field of its struct, with the guards around it.
+#[derive(Clone, PartialEq, Eq)]
+pub struct Numbers(Vec<u64>);
+
+impl Numbers {
+    /// What stands in three cells of guard.
+    const GUARD: [u64; 3] = [u64::BEFORE; 3];
+
+    /// Hands a struct over between guards, and keeps what they hold then.
+    pub fn by<T: raw::Told, R>(&mut self, call: impl FnOnce(&mut T) -> R) -> R {
+        let mut lent =
+            Guarded { before: Numbers::GUARD, told: T::filled(u64::BEFORE), behind: Numbers::GUARD };
+        let answer = call(&mut lent.told);
+        self.0 = [&lent.before, lent.told.numbers(), &lent.behind].concat();
+        answer
+    }
+
+    /// As where these were told.
+    pub fn give(&mut self, results: &[u64]) {
+        self.0 = [&Numbers::GUARD, results, &Numbers::GUARD].concat();
+    }
+
+    /// The first place, counted from the first field, where two differ, and what stands there.
+    pub fn difference(&self, other: &Numbers) -> Option<(isize, u64, u64)> {
+        let mut pairs = self.0.iter().zip(&other.0).enumerate();
+        let (at, (one, two)) = pairs.find(|(_, (one, two))| one != two)?;
+        Some((at as isize - Numbers::GUARD.len() as isize, *one, *two))
+    }
+}
+
 /// All memory that a call may change.
 #[derive(Clone, PartialEq, Eq)]
 pub struct Memory {
@@ -63,7 +103,7 @@ pub struct Memory {
     pub second: Lent<u8>,
     pub starts: Lent<u16>,
     pub changes: Lent<u32>,
-    pub numbers: Lent<u64>,
+    pub told: Numbers,
 }
 
 impl Memory {
@@ -74,16 +114,11 @@ impl Memory {
             second: Lent::none(),
             starts: Lent::none(),
             changes: Lent::none(),
-            numbers: Lent::none(),
+            told: Numbers(Vec::new()),
         }
     }
 
-    /// An array for the numbers.
-    pub fn numbers(count: usize) -> Memory {
-        Memory { numbers: Lent::new(count), ..Memory::none() }
-    }
-
-    /// With a buffer of bytes too.
+    /// With a buffer of bytes.
     pub fn with_buffer(self, length: usize) -> Memory {
         Memory { first: Lent::new(length), ..self }
     }
@@ -103,20 +138,17 @@ impl Memory {
         Memory { changes: Lent::new(length), ..self }
     }
 
-    /// Writes as many of the results as the array of numbers has room for.
-    pub fn give(&mut self, results: &[u64]) {
-        for (cell, result) in self.numbers.part().iter_mut().zip(results) {
-            *cell = *result;
-        }
-    }
-
-    /// Puts back what stood in the buffers and in the first of the numbers; what is left of a call is then outside.
-    pub fn forget(&mut self, results: usize) {
+    /// Puts back what stood in the buffers, and forgets what was told; what is left of a call is then outside.
+    pub fn forget(&mut self) {
         self.first.part().fill(u8::BEFORE);
         self.second.part().fill(u8::BEFORE);
         self.starts.part().fill(u16::BEFORE);
         self.changes.part().fill(u32::BEFORE);
-        self.give(&vec![u64::BEFORE; results]);
+        let fields = self.told.0.len().saturating_sub(2 * Numbers::GUARD.len());
+        self.told.0.drain(Numbers::GUARD.len()..Numbers::GUARD.len() + fields);
+        if self.told.0 == [Numbers::GUARD; 2].concat() {
+            self.told.0.clear();
+        }
     }
 }
 

@@ -113,20 +113,14 @@ impl Run {
         told
     }
 
-    /// Calls the proved side only, where it may write anything between the guards and to the first of the numbers.
-    pub fn only_returns(
-        &mut self,
-        inputs: &[Input],
-        memory: Memory,
-        results: usize,
-        proved: impl FnOnce(&mut Memory) -> u8,
-    ) {
+    /// Calls the proved side only, where it may write anything between the guards.
+    pub fn only_returns(&mut self, inputs: &[Input], memory: Memory, proved: impl FnOnce(&mut Memory) -> u8) {
         if self.failure.is_some() {
             return;
         }
         let mut left = memory.clone();
         proved(&mut left);
-        left.forget(results);
+        left.forget();
         self.cases += 1;
         if left != memory || !unchanged(inputs) {
             self.fail(format!(
@@ -193,7 +187,9 @@ fn differences(left: &Memory, right: &Memory, inputs: &[Input]) -> String {
     text += &difference("second buffer", &left.second, &right.second);
     text += &difference("starts", &left.starts, &right.starts);
     text += &difference("changes", &left.changes, &right.changes);
-    text += &difference("numbers", &left.numbers, &right.numbers);
+    if let Some((at, proved, plain)) = left.told.difference(&right.told) {
+        text += &format!("told at {at}: proved {proved:#X?}, plain {plain:#X?}\n");
+    }
     if !unchanged(inputs) {
         text += "an input was changed\n";
     }

@@ -1,6 +1,4 @@
--- `abi::gcf_build_command` meets its contract: the command that is made, and its count told. Assumes nothing.
-use denote.Ref.{now}
-use Rattle.abi.proofs.Laws.{leaves}
+-- `abi::gcf_build_command` meets its contract: the command that is made, its count and its place told. Assumes nothing.
 use Rattle.abi.specs.Left.{showMade}
 use mathlib.Core.Path.{ap}
 use borrow.Author.Needs.{needs}
@@ -9,8 +7,7 @@ use Rattle.abi.proofs.gcf_build_command.Tie as tie
 
 returns : tie.Need-returns
 unfolding showMade
-returns c = leaves (c .before .before .tell .ensures) (ap (λ x. showMade x (now (c .before .before .before .before .before .before .before .before .before .before .before .args .numbers))) (c .before .before .before .before .before .before .before .build .ensures))
+returns c = ap showMade (c .before .before .before .before .before .build .ensures)
 
 pub gcf-build-command-spec : {M : Type 1} → statement M
-gcf-build-command-spec =
-    tie.close (tie.spec (λ c κs. search needs) (λ c κs. search needs) (λ c. search needs) (λ c. search needs) returns)
+gcf-build-command-spec = tie.close (tie.spec (λ c κs. search needs) (λ c. search needs) (λ c. search needs) returns)

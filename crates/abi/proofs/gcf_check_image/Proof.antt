@@ -1,6 +1,4 @@
 -- `abi::gcf_check_image` meets its contract: what the check answers, and its place told. Assumes nothing.
-use denote.Ref.{now}
-use Rattle.abi.proofs.Laws.{leaves}
 use Rattle.abi.specs.Left.{showVerdict}
 use mathlib.Core.Path.{ap}
 use Rattle.capture.proofs.Checked.{capture-refusal}
@@ -10,9 +8,7 @@ use Rattle.abi.proofs.gcf_check_image.Tie as tie
 
 returns : tie.Need-returns
 unfolding showVerdict
-returns c = leaves (c .before .before .tell .ensures) (ap (λ x. showVerdict x (now (c .before .before .before .before .before .before .before .before .before .args .numbers))) (capture-refusal _ _ (c .before .before .before .before .before .before .check .ensures)))
+returns c = ap showVerdict (capture-refusal _ _ (c .before .before .before .check .ensures))
 
 pub gcf-check-image-spec : {M : Type 1} → statement M
-gcf-check-image-spec =
-    tie.close
-    (tie.spec (λ c κs. search needs) (λ c. search needs) (λ c κs. search needs) (λ c. search needs) returns)
+gcf-check-image-spec = tie.close (tie.spec (λ c κs. search needs) (λ c. search needs) returns)

@@ -1,17 +1,13 @@
 -- `abi::gcf_respond_image` meets its contract: what the box with an image answers, its count and its place told. Assumes nothing.
-use denote.Ref.{now}
-use Rattle.abi.proofs.Laws.{leaves}
-use Rattle.abi.specs.Left.{showPlaced}
+use Rattle.abi.specs.Left.{showMade}
 use mathlib.Core.Path.{ap}
 use borrow.Author.Needs.{needs}
 use Rattle.abi.proofs.gcf_respond_image.Statement.{statement}
 use Rattle.abi.proofs.gcf_respond_image.Tie as tie
 
 returns : tie.Need-returns
-unfolding showPlaced
-returns c = leaves (c .before .before .tell2 .ensures) (ap (λ x. showPlaced x (now (c .before .before .before .before .before .before .before .before .before .before .before .before .before .before .args .numbers))) (c .before .before .before .before .before .before .before .before .respond .ensures))
+unfolding showMade
+returns c = ap showMade (c .before .before .before .before .before .respond .ensures)
 
 pub gcf-respond-image-spec : {M : Type 1} → statement M
-gcf-respond-image-spec =
-    tie.close
-    (tie.spec (λ c κs. search needs) (λ c. search needs) (λ c κs. search needs) (λ c. search needs) (λ c. search needs) returns)
+gcf-respond-image-spec = tie.close (tie.spec (λ c κs. search needs) (λ c. search needs) (λ c. search needs) returns)

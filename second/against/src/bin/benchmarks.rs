@@ -29,12 +29,8 @@ const USAGE: &str = "usage: benchmarks [--rounds N] [--milliseconds N] [--only W
   --milliseconds N   how long one timing takes at least (0.5 if not given): short, so that most are not interrupted
   --only WORDS       only the cases with these words in their names";
 
-/// Answers a command from a sheet that was accepted before: the exported function of a layout, and the plain Rust for it.
-type Proved = fn(&[u8], &[u8], &mut [u8], &mut [u64]) -> u8;
 type Plain = fn(&[u8], &[u8], &mut [u8]) -> Result<usize, u8>;
 
-/// Loads a medium: likewise.
-type ProvedLoad = fn(&[u8], &[gcf::Feature], &[gcf::Profile], &mut [u8], &mut [u64]) -> u8;
 type PlainLoad = fn(&[u8], &[Feature], &[Profile], &mut [u8]) -> Result<usize, Refusal>;
 
 /// What the command line asks for.
@@ -127,6 +123,12 @@ fn commands(run: &Run) {
     }
 }
 
+/// A call's number and one of the further results that it tells, added up.
+fn told_by<T: Default>(call: impl FnOnce(&mut T) -> u8, result: impl FnOnce(&T) -> u64) -> usize {
+    let mut told = T::default();
+    usize::from(call(&mut told)) + result(&told) as usize
+}
+
 /// Times a command to a sheet that is checked.
 fn time_checked(run: &Run, name: &str, sheet: &[u8], command: [u8; 10], pieces: Option<usize>) {
     run.time(Case {
@@ -136,8 +138,7 @@ fn time_checked(run: &Run, name: &str, sheet: &[u8], command: [u8; 10], pieces: 
         bytes: respond(sheet, &command, &mut vec![0; MOST]).unwrap_or(0),
         pieces,
         proved: Box::new(|sheet, out| {
-            let mut numbers = [0; 2];
-            usize::from(raw::respond(sheet, &command, out, &mut numbers)) + numbers[0] as usize
+            told_by(|sent: &mut raw::Made| raw::respond(false, sheet, &command, out, sent), |sent| sent.bytes)
         }),
         plain: Box::new(|sheet, out| respond(sheet, &command, out).unwrap_or(0)),
     });
@@ -152,8 +153,10 @@ fn time_accepted(run: &Run, name: &str, sheet: &[u8], command: [u8; 10], pieces:
         bytes: respond(sheet, &command, &mut vec![0; MOST]).unwrap_or(0),
         pieces,
         proved: Box::new(|sheet, out| {
-            let mut numbers = [0];
-            usize::from(raw::respond_accepted(sheet, &command, out, &mut numbers)) + numbers[0] as usize
+            told_by(
+                |sent: &mut raw::Made| raw::respond_accepted(false, sheet, &command, out, sent),
+                |sent| sent.bytes,
+            )
         }),
         plain: Box::new(|sheet, out| respond_checked(sheet, &command, out).unwrap_or(0)),
     });
@@ -209,8 +212,7 @@ fn images(run: &Run) {
             bytes: image.len(),
             pieces: None,
             proved: Box::new(|image, _| {
-                let mut numbers = [0];
-                usize::from(raw::check_image(image, &mut numbers)) + numbers[0] as usize
+                told_by(|check: &mut raw::Check| raw::check_image(image, check), |check| check.place)
             }),
             plain: Box::new(|image, _| {
                 let (number, place) = told(&rom::check(image));
@@ -229,8 +231,10 @@ fn time_image(run: &Run, name: &str, image: &[u8], command: [u8; 10], pieces: Op
         bytes: rom::respond(image, &command, &mut vec![0; MOST]).unwrap_or(0),
         pieces,
         proved: Box::new(|image, out| {
-            let mut numbers = [0];
-            usize::from(raw::respond_image_accepted(image, &command, out, &mut numbers)) + numbers[0] as usize
+            told_by(
+                |sent: &mut raw::Made| raw::respond_image_accepted(image, &command, out, sent),
+                |sent| sent.bytes,
+            )
         }),
         plain: Box::new(|image, out| rom::respond_checked(image, &command, out).unwrap_or(0)),
     });
@@ -245,8 +249,7 @@ fn time_checked_image(run: &Run, name: &str, image: &[u8], command: [u8; 10]) {
         bytes: rom::respond(image, &command, &mut vec![0; MOST]).unwrap_or(0),
         pieces: None,
         proved: Box::new(|image, out| {
-            let mut numbers = [0; 2];
-            usize::from(raw::respond_image(image, &command, out, &mut numbers)) + numbers[0] as usize
+            told_by(|sent: &mut raw::Made| raw::respond_image(image, &command, out, sent), |sent| sent.bytes)
         }),
         plain: Box::new(|image, out| rom::respond(image, &command, out).unwrap_or(0)),
     });
@@ -268,8 +271,7 @@ fn checks_of_sheets(run: &Run) {
             bytes: 4 + 8 * usize::from(u16::from_be_bytes([sheet[0], sheet[1]])) + 4 * usize::from(sheet[3]),
             pieces: None,
             proved: Box::new(|sheet, _| {
-                let mut numbers = [0];
-                usize::from(raw::check_sheet(sheet, &mut numbers)) + numbers[0] as usize
+                told_by(|check: &mut raw::Check| raw::check_sheet(false, sheet, check), |check| check.place)
             }),
             plain: Box::new(|sheet, _| {
                 let (number, place) = told(&check(sheet));
@@ -292,8 +294,10 @@ fn readings(run: &Run) {
             bytes: MOST,
             pieces: None,
             proved: Box::new(|response, _| {
-                let mut numbers = [0; 5];
-                usize::from(raw::read(0, gcf::Feature(0), response, &mut numbers)) + numbers[2] as usize
+                told_by(
+                    |reading: &mut raw::Reading| raw::read(0, gcf::Feature(0), response, reading),
+                    |reading| reading.count,
+                )
             }),
             plain: Box::new(|response, _| read(0, Feature(0), response, None).count),
         });
@@ -338,9 +342,12 @@ fn time_sweep(run: &Run, name: &str, sheet: &[u8], rt: u8, allocation: u16, room
         pieces: None,
         proved: Box::new(move |sheet, out| {
             let (response, collected) = out.split_at_mut(room);
-            let mut numbers = [0; 3];
-            let answer = raw::bench(sheet, rt, allocation, response, collected, &mut starts, &mut numbers);
-            usize::from(answer) + numbers[0] as usize
+            told_by(
+                |swept: &mut raw::Swept| {
+                    raw::bench(false, sheet, rt, allocation, response, collected, &mut starts, swept)
+                },
+                |swept| swept.commands,
+            )
         }),
         plain: Box::new(move |sheet, out| {
             let (response, collected) = out.split_at_mut(room);
@@ -366,9 +373,10 @@ fn sheets_in_columns(run: &Run) {
             bytes: respond(&rows, &command, &mut vec![0; MOST]).unwrap_or(0),
             pieces: None,
             proved: Box::new(move |sheet, out| {
-                let mut numbers = [0];
-                let answer = raw::respond_columns_accepted(sheet, &command, out, &mut numbers);
-                usize::from(answer) + numbers[0] as usize
+                told_by(
+                    |sent: &mut raw::Made| raw::respond_accepted(true, sheet, &command, out, sent),
+                    |sent| sent.bytes,
+                )
             }),
             plain: Box::new(move |sheet, out| columns::respond_checked(sheet, &command, out).unwrap_or(0)),
         });
@@ -381,8 +389,7 @@ fn sheets_in_columns(run: &Run) {
             bytes: 4 + 8 * usize::from(u16::from_be_bytes([rows[0], rows[1]])) + 4 * usize::from(rows[3]),
             pieces: None,
             proved: Box::new(|sheet, _| {
-                let mut numbers = [0];
-                usize::from(raw::check_columns(sheet, &mut numbers)) + numbers[0] as usize
+                told_by(|check: &mut raw::Check| raw::check_sheet(true, sheet, check), |check| check.place)
             }),
             plain: Box::new(|sheet, _| {
                 let (number, place) = told(&columns::check(sheet));
@@ -402,11 +409,9 @@ fn sheets_in_columns(run: &Run) {
 fn searches(run: &Run) {
     let parts: Vec<Part> = (1..=32_767).map(|half| (2 * half, 3, body(0))).collect();
     let rows = sheet_of(&profiles(2, 1), &parts);
-    let sides: [(&str, Layout, Proved, Plain); 2] = [
-        ("", Layout::Rows, raw::respond_accepted, respond_checked),
-        (", in columns", Layout::Columns, raw::respond_columns_accepted, columns::respond_checked),
-    ];
-    for (where_it_stands, layout, proved, plain) in sides {
+    let sides: [(&str, Layout, Plain); 2] =
+        [("", Layout::Rows, respond_checked), (", in columns", Layout::Columns, columns::respond_checked)];
+    for (where_it_stands, layout, plain) in sides {
         let (mut turn, mut other_turn) = (0, 0);
         run.time(Case {
             name: format!("search among 32,767 features, RT 2{where_it_stands}"),
@@ -415,9 +420,11 @@ fn searches(run: &Run) {
             bytes: 8,
             pieces: None,
             proved: Box::new(move |sheet, out| {
-                let mut numbers = [0];
-                let answer = proved(sheet, &odd_one(&mut turn), out, &mut numbers);
-                usize::from(answer) + numbers[0] as usize
+                let (laid, command) = (layout == Layout::Columns, odd_one(&mut turn));
+                told_by(
+                    |sent: &mut raw::Made| raw::respond_accepted(laid, sheet, &command, out, sent),
+                    |sent| sent.bytes,
+                )
             }),
             plain: Box::new(move |sheet, out| plain(sheet, &odd_one(&mut other_turn), out).unwrap_or(0)),
         });
@@ -442,10 +449,12 @@ fn time_sweep_in_columns(run: &Run, sheet: &[u8], rt: u8, allocation: u16, bytes
         pieces: None,
         proved: Box::new(move |sheet, out| {
             let (response, collected) = out.split_at_mut(room);
-            let mut numbers = [0; 3];
-            let answer =
-                raw::bench_columns(sheet, rt, allocation, response, collected, &mut starts, &mut numbers);
-            usize::from(answer) + numbers[0] as usize
+            told_by(
+                |swept: &mut raw::Swept| {
+                    raw::bench(true, sheet, rt, allocation, response, collected, &mut starts, swept)
+                },
+                |swept| swept.commands,
+            )
         }),
         plain: Box::new(move |sheet, out| {
             let (response, collected) = out.split_at_mut(room);
@@ -469,10 +478,8 @@ fn media(run: &Run) {
 
 /// Times a loading in both layouts.
 fn time_load(run: &Run, name: &str, rows: &[u8], features: &[u16], profiles: &[u16]) {
-    let sides: [(&str, Layout, ProvedLoad, PlainLoad); 2] = [
-        ("", Layout::Rows, raw::load, load),
-        (", in columns", Layout::Columns, raw::load_columns, load_columns),
-    ];
+    let sides: [(&str, Layout, PlainLoad); 2] =
+        [("", Layout::Rows, load), (", in columns", Layout::Columns, load_columns)];
     let (proved_features, proved_profiles): (Vec<_>, Vec<_>) = (
         features.iter().map(|&number| gcf::Feature(number)).collect(),
         profiles.iter().map(|&number| gcf::Profile(number)).collect(),
@@ -481,7 +488,7 @@ fn time_load(run: &Run, name: &str, rows: &[u8], features: &[u16], profiles: &[u
         features.iter().map(|&number| Feature(number)).collect(),
         profiles.iter().map(|&number| Profile(number)).collect(),
     );
-    for (where_it_stands, layout, proved, plain) in sides {
+    for (where_it_stands, layout, plain) in sides {
         run.time(Case {
             name: format!("{name}{where_it_stands}"),
             input: &rearranged(layout, Layout::Rows, rows),
@@ -489,9 +496,12 @@ fn time_load(run: &Run, name: &str, rows: &[u8], features: &[u16], profiles: &[u
             bytes: rows.len(),
             pieces: None,
             proved: Box::new(|sheet, out| {
-                let mut numbers = [0; 2];
-                let answer = proved(sheet, &proved_features, &proved_profiles, out, &mut numbers);
-                usize::from(answer) + numbers[0] as usize
+                let (laid, features, profiles) =
+                    (layout == Layout::Columns, &proved_features, &proved_profiles);
+                told_by(
+                    |made: &mut raw::Made| raw::load(laid, sheet, features, profiles, out, made),
+                    |made| made.bytes,
+                )
             }),
             plain: Box::new(|sheet, out| plain(sheet, &plain_features, &plain_profiles, out).unwrap_or(0)),
         });
@@ -523,8 +533,10 @@ fn mendings(run: &Run) {
             bytes: response.len(),
             pieces: None,
             proved: Box::new(move |response, out| {
-                let mut numbers = [0; 2];
-                usize::from(raw::mend(response, out, &mut list, &mut numbers)) + numbers[1] as usize
+                told_by(
+                    |mended: &mut raw::Mended| raw::mend(response, out, &mut list, mended),
+                    |mended| mended.changes,
+                )
             }),
             plain: Box::new(move |response, out| mend(response, out, &mut other).map_or(0, |made| made.1)),
         });
@@ -554,8 +566,10 @@ fn checks_of_responses(run: &Run) {
             bytes: response.len(),
             pieces: None,
             proved: Box::new(|response, _| {
-                let mut numbers = [0; 2];
-                usize::from(raw::check_descriptors(response, &mut numbers)) + numbers[0] as usize
+                told_by(
+                    |finding: &mut raw::Finding| raw::check_descriptors(response, finding),
+                    |finding| finding.feature,
+                )
             }),
             plain: Box::new(|response, _| {
                 let (number, feature) = check_descriptors(response);
@@ -570,9 +584,10 @@ fn checks_of_responses(run: &Run) {
                 bytes: response.len(),
                 pieces: None,
                 proved: Box::new(move |response, _| {
-                    let mut numbers = [0; 2];
-                    usize::from(raw::check_profile(gcf::Profile(profile), response, &mut numbers))
-                        + numbers[1] as usize
+                    told_by(
+                        |said: &mut raw::Judgement| raw::check_profile(gcf::Profile(profile), response, said),
+                        |said| said.feature,
+                    )
                 }),
                 plain: Box::new(move |response, _| {
                     let (number, _, feature) = check_profile(Profile(profile), response).fields();
@@ -605,8 +620,7 @@ fn imports(run: &Run) {
             bytes: capture.len(),
             pieces: *pieces,
             proved: Box::new(|capture, sheet| {
-                let mut numbers = [0; 2];
-                usize::from(raw::import(capture, sheet, &mut numbers)) + numbers[0] as usize
+                told_by(|made: &mut raw::Made| raw::import(capture, sheet, made), |made| made.bytes)
             }),
             plain: Box::new(|capture, sheet| import(capture, sheet).unwrap_or(0)),
         });

@@ -1,9 +1,9 @@
 //! What an operation is on either side.
 
 use super::{Case, Numbers, Outcome};
-use crate::kinds::{fields as record_fields, handed, proved as step_fields};
+use crate::kinds::{columns, fields as record_fields, handed, next_fields, proved as step_fields, sentence};
 use crate::run::told;
-use gcf::raw;
+use gcf::raw::{self, Told};
 use second::command::Request;
 use second::refusal::Refusal;
 use second::sheet::{Layout, Sheet};
@@ -46,7 +46,7 @@ fn layout(columns: u64) -> Layout {
 
 /// A number of a call and what it told beside it, as the numbers of a case.
 fn with(number: u8, further: &[u64]) -> Numbers {
-    let mut numbers = [0; 8];
+    let mut numbers = Numbers::default();
     numbers[0] = u64::from(number);
     numbers[1..=further.len()].copy_from_slice(further);
     numbers
@@ -103,75 +103,71 @@ fn mended(
     Some(numbers)
 }
 
+/// A number of a call, and the fields of the struct that it filled, as the numbers of a case.
+fn telling<T: Told + Default>(call: impl FnOnce(&mut T) -> u8) -> Numbers {
+    let mut told = T::default();
+    let number = call(&mut told);
+    with(number, told.numbers())
+}
+
 /// The archive's side.
 fn proved(case: &Case, out: &mut [u8]) -> Option<Numbers> {
     let (given, first, second) = (case.given, &case.first[..], &case.second[..]);
-    let mut numbers = [0; 5];
-    let told = &mut numbers[..];
-    let number = match (case.operation.as_str(), layout(given[0])) {
-        ("sheet", Layout::Rows) => raw::check_sheet(first, told),
-        ("sheet", Layout::Columns) => raw::check_columns(first, told),
-        ("respond", Layout::Rows) => raw::respond(first, second, out, told),
-        ("respond", Layout::Columns) => raw::respond_columns(first, second, out, told),
-        ("accepted", Layout::Rows) => raw::respond_accepted(first, second, out, told),
-        ("accepted", Layout::Columns) => raw::respond_columns_accepted(first, second, out, told),
-        ("convert", Layout::Rows) => raw::to_columns(first, out, told),
-        ("convert", Layout::Columns) => raw::to_rows(first, out, told),
-        ("load", laid) => {
+    let laid = columns(layout(given[0]));
+    Some(match case.operation.as_str() {
+        "words" => one(raw::words(given[0] as u8, out)),
+        "sheet" => telling(|told| raw::check_sheet(laid, first, told)),
+        "respond" => telling(|told| raw::respond(laid, first, second, out, told)),
+        "accepted" => telling(|told| raw::respond_accepted(laid, first, second, out, told)),
+        "convert" => telling(|told| raw::convert(laid, first, !laid, out, told)),
+        "load" => {
             let (features, profiles) = lists(second, given[1]);
             let features: Vec<_> = features.into_iter().map(gcf::Feature).collect();
             let profiles: Vec<_> = profiles.into_iter().map(gcf::Profile).collect();
-            let load = if laid == Layout::Rows { raw::load } else { raw::load_columns };
-            load(first, &features, &profiles, out, told)
+            telling(|told| raw::load(laid, first, &features, &profiles, out, told))
         }
-        ("build", _) => {
+        "build" => {
             let (rt, sfn) = (given[1] as u8, gcf::Feature(given[2] as u16));
-            raw::build_command(given[0] as usize, rt, sfn, given[3] as u16, out, told)
+            telling(|told| raw::build_command(given[0] as usize, rt, sfn, given[3] as u16, out, told))
         }
-        ("mend", _) => {
-            return mended(out, given[0] as usize, |copy, list| {
-                let mut told = [0; 2];
-                with(raw::mend(first, copy, list, &mut told), &told)
-            });
+        "mend" => {
+            let mend = |copy: &mut [u8], list: &mut [u32]| telling(|told| raw::mend(first, copy, list, told));
+            return mended(out, given[0] as usize, mend);
         }
-        ("import", _) => raw::import(first, out, told),
-        ("read", _) => raw::read(given[0] as u8, gcf::Feature(given[1] as u16), first, told),
-        ("stops", _) => {
-            let [most, rt, sfn] = [given[0], given[1], given[2]];
-            let mut feature = [0];
-            let place = raw::stops(most as usize, rt as u8, gcf::Feature(sfn as u16), first, &mut feature);
-            return Some(two(place, feature[0]));
+        "import" => telling(|told| raw::import(first, out, told)),
+        "read" => telling(|told| raw::read(given[0] as u8, gcf::Feature(given[1] as u16), first, told)),
+        "next" => telling(|told| u8::from(raw::next(given[0] as usize, first, told))),
+        "stops" => {
+            let ([most, rt, sfn], mut stop) = ([given[0], given[1], given[2]], raw::Stop::default());
+            raw::stops(most as usize, rt as u8, gcf::Feature(sfn as u16), first, &mut stop);
+            two(stop.place as usize, stop.feature)
         }
-        ("place", _) => return Some(one(raw::place(gcf::Feature(given[0] as u16), first))),
-        ("descriptors", _) => raw::check_descriptors(first, told),
-        ("profile", _) => {
-            let mut said = [0; 2];
+        "place" => one(raw::place(gcf::Feature(given[0] as u16), first)),
+        "descriptors" => telling(|told| raw::check_descriptors(first, told)),
+        "profile" => {
+            let mut said = raw::Judgement::default();
             let number = raw::check_profile(gcf::Profile(given[0] as u16), first, &mut said);
-            let [wrong, feature] = said;
-            told[..3].copy_from_slice(&[u64::from(number == 0 && wrong == 0), feature, wrong]);
-            number
+            with(number, &[u64::from(number == 0 && said.wrong == 0), said.feature, said.wrong])
         }
-        ("held", _) => return Some(one(raw::held(gcf::Feature(given[0] as u16), first, second, out))),
-        ("list", _) => return Some(one(raw::list(first, out))),
-        ("most", _) => return Some(one(raw::most(given[0] as u16))),
-        ("start", _) => {
+        "held" => one(raw::held(gcf::Feature(given[0] as u16), first, second, out)),
+        "list" => one(raw::list(first, out)),
+        "most" => one(raw::most(given[0] as u16)),
+        "start" => {
             let step = raw::sweep_start(given[0] as u8, given[1] as u16);
-            return Some(after(step.refusal.number, step_fields(step)));
+            after(step.refusal.number, step_fields(step))
         }
-        ("take", _) => {
+        "take" => {
             let step = raw::sweep_take(handed(record(given)), first, out);
-            return Some(after(step.refusal.number, step_fields(step)));
+            after(step.refusal.number, step_fields(step))
         }
-        ("bench", _) => {
-            let bench = if given[2] == 1 { raw::bench_columns } else { raw::bench };
+        "bench" => {
+            let (laid, rt, allocation) = (columns(layout(given[2])), given[0] as u8, given[1] as u16);
             return benched(out, |response, collected, starts| {
-                let number = bench(first, given[0] as u8, given[1] as u16, response, collected, starts, told);
-                with(number, told)
+                telling(|told| raw::bench(laid, first, rt, allocation, response, collected, starts, told))
             });
         }
         _ => return None,
-    };
-    Some(with(number, &numbers))
+    })
 }
 
 /// The features of a medium, so many of the numbers that bytes hold, and its profiles, the others.
@@ -184,12 +180,14 @@ fn lists(bytes: &[u8], features: u64) -> (Vec<u16>, Vec<u16>) {
 
 /// A count alone.
 fn one(count: usize) -> Numbers {
-    [count as u64, 0, 0, 0, 0, 0, 0, 0]
+    two(count, 0)
 }
 
 /// A place, and what stands there.
 fn two(place: usize, feature: u64) -> Numbers {
-    [place as u64, feature, 0, 0, 0, 0, 0, 0]
+    let mut numbers = Numbers::default();
+    numbers[..2].copy_from_slice(&[place as u64, feature]);
+    numbers
 }
 
 /// A count or a refusal, with its place.
@@ -203,6 +201,7 @@ fn plain(case: &Case, out: &mut [u8]) -> Option<Numbers> {
     let (given, first, second) = (case.given, &case.first[..], &case.second[..]);
     let laid = layout(given[0]);
     Some(match case.operation.as_str() {
+        "words" => one(copied(sentence(given[0] as u8).as_bytes(), out)),
         "sheet" => {
             let (number, place) = told(&second::sheet::check(laid, first));
             with(number, &[place as u64])
@@ -241,9 +240,14 @@ fn plain(case: &Case, out: &mut [u8]) -> Option<Numbers> {
             let [profile, length, count] = fields;
             with(reading.number, &[profile, length, count, reading.end as u64, u64::from(reading.complete)])
         }
+        "next" => {
+            let (stands, fields) = next_fields(given[0] as usize, first);
+            with(u8::from(stands), &fields)
+        }
         "stops" => {
             let [most, rt, sfn] = [given[0], given[1], given[2]];
-            let (place, feature) = second::reading::stops(most as usize, rt as u8, Feature(sfn as u16), first);
+            let (place, feature) =
+                second::reading::stops(most as usize, rt as u8, Feature(sfn as u16), first);
             two(place, u64::from(feature.0))
         }
         "place" => one(second::find::place(Feature(given[0] as u16), first)),

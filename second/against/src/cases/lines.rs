@@ -44,11 +44,11 @@ fn case(line: &str, names: &Names) -> Option<Case> {
     let (title, rest) = line.split_once(" | ")?;
     let mut words = Words(rest);
     let operation = words.next()?.to_string();
-    let (given, _) = words.numbers(8);
+    let (given, _) = words.numbers(9);
     let first = words.field(names)?;
     let second = words.field(names)?;
     words.pass("=")?;
-    let (numbers, count) = words.numbers(8);
+    let (numbers, count) = words.numbers(9);
     let buffer = words.field(names)?;
     words.end()?;
     let wanted = Outcome { numbers, buffer };
@@ -88,7 +88,7 @@ impl<'a> Words<'a> {
 
     /// The numbers from here on, at most so many, and how many there are.
     fn numbers(&mut self, most: usize) -> (Numbers, usize) {
-        let (mut numbers, mut count) = ([0; 8], 0);
+        let (mut numbers, mut count) = (Numbers::default(), 0);
         while let Some(value) = self.peek().and_then(number).filter(|_| count < most) {
             numbers[count] = value;
             count += 1;

@@ -26,6 +26,7 @@
 //! The operations, their numbers, and what comes back beside the buffer:
 //!
 //! ```text
+//! words NUMBER = count; the sentence is copied to the buffer
 //! sheet C | SHEET = refusal, place; here and below C is 1 where the sheet is in columns
 //! respond C | SHEET | COMMAND = refusal, count, place
 //! accepted C | SHEET | COMMAND = refusal, count: the same with no check of the sheet
@@ -35,6 +36,7 @@
 //! mend N | RESPONSE = refusal, count, changes; the buffer is N bytes for the copy, then the list of changes, four bytes each
 //! import | RESPONSE = refusal, count, place
 //! read RT SFN | RESPONSE = refusal, profile, Data Length, whole descriptors, the place behind the last, 1 if complete
+//! next PLACE | RESPONSE = 1 if a descriptor stands there whole, its feature, flags, Version, Persistent, Current, the place and length of its body, the next place
 //! stops MOST RT SFN | RESPONSE = the place where the reading stops, the feature there
 //! place FEATURE | RESPONSE = where its descriptor stands
 //! held FEATURE | FRESH | KEPT = count; the descriptor is copied to the buffer
@@ -54,7 +56,7 @@ pub use calls::{Side, SIDES};
 pub use lines::{read, Line, Names};
 
 /// As many numbers as a case can have on either side of its `=`.
-pub type Numbers = [u64; 8];
+pub type Numbers = [u64; 9];
 
 /// A case.
 pub struct Case {

@@ -1,6 +1,6 @@
-//! gcf_bench and gcf_bench_columns.
+//! gcf_bench.
 
-use super::{laid_as, SHEET};
+use super::{columns, laid_as, LAYOUTS, SHEET};
 use crate::lent::{Given, Memory};
 use crate::made::damage::damage;
 use crate::made::faults::{
@@ -13,18 +13,11 @@ use crate::run::{told, Input, Kind, Run, Told};
 use gcf::raw;
 use second::sheet::Layout;
 
-pub const ROWS: Kind = Kind {
+pub const KIND: Kind = Kind {
     name: "gcf_bench",
     answers,
-    fixed: |run| fixed(run, Layout::Rows),
-    random: |run, made| random(run, Layout::Rows, made),
-};
-
-pub const COLUMNS: Kind = Kind {
-    name: "gcf_bench_columns",
-    answers,
-    fixed: |run| fixed(run, Layout::Columns),
-    random: |run, made| random(run, Layout::Columns, made),
+    fixed: |run| LAYOUTS.into_iter().for_each(|layout| fixed(run, layout)),
+    random: |run, made| LAYOUTS.into_iter().for_each(|layout| random(run, layout, made)),
 };
 
 /// The sheet's, the start's, and of a round's those that an accepted sheet's own responses can cause.
@@ -32,13 +25,12 @@ fn answers() -> Vec<u64> {
     SHEET.into_iter().chain([12, 21, 22, 23, 24, 25]).collect()
 }
 
-/// How long the lent buffers are: for the response, the bytes collected, the starts and the numbers.
+/// How long the lent buffers are: for the response, the bytes collected and the starts.
 #[derive(Clone, Copy)]
 struct Rooms {
     response: usize,
     collected: usize,
     starts: usize,
-    numbers: usize,
 }
 
 /// Compares one bench sweep of a sheet in rows, as it stands in a layout.
@@ -66,24 +58,12 @@ fn compare_count(
             Input::Number("room for the bytes collected", rooms.collected as u64),
             Input::Number("room for starts", rooms.starts as u64),
         ],
-        Memory::numbers(rooms.numbers)
-            .with_buffer(rooms.response)
-            .with_second(rooms.collected)
-            .with_starts(rooms.starts),
+        Memory::none().with_buffer(rooms.response).with_second(rooms.collected).with_starts(rooms.starts),
         |memory| {
-            let proved = match layout {
-                Layout::Rows => raw::bench,
-                Layout::Columns => raw::bench_columns,
-            };
-            proved(
-                sheet.proved(),
-                rt,
-                allocation,
-                memory.first.part(),
-                memory.second.part(),
-                memory.starts.part(),
-                memory.numbers.part(),
-            )
+            let Memory { first, second, starts, told, .. } = memory;
+            let (response, collected, starts) = (first.part(), second.part(), starts.part());
+            let (columns, sheet) = (columns(layout), sheet.proved());
+            told.by(|swept| raw::bench(columns, sheet, rt, allocation, response, collected, starts, swept))
         },
         |memory| {
             let outcome = second::bench::bench(
@@ -97,7 +77,7 @@ fn compare_count(
             );
             let told = told(&outcome);
             let (commands, collected) = outcome.map_or((0, 0), |done| (done.commands, done.collected));
-            memory.give(&[count(commands) as u64, collected as u64, told.1 as u64]);
+            memory.told.give(&[count(commands) as u64, collected as u64, told.1 as u64]);
             told
         },
     )
@@ -118,12 +98,7 @@ fn each_allocation(run: &mut Run, layout: Layout) {
         let full = length_to_send(&sheet, 0, 0);
         for rt in 0..2 {
             for allocation in (0..=full + 9).chain([65_533, 65_534, 65_535]) {
-                let rooms = Rooms {
-                    response: allocation + allocation % 5,
-                    collected: full,
-                    starts: 160,
-                    numbers: allocation % 5,
-                };
+                let rooms = Rooms { response: allocation + allocation % 5, collected: full, starts: 160 };
                 compare(run, layout, &given, rt, allocation as u16, rooms);
             }
         }
@@ -139,7 +114,7 @@ fn each_list(run: &mut Run, layout: Layout) {
         let sheet = sheet_of(&profiles(sizes as u16 % 3, 1), &parts);
         let given = Given::new(&sheet);
         for room in [3, 4, 8, 11, 12, 16, 24] {
-            let rooms = Rooms { response: 8 + room, collected: 64, starts: 6, numbers: 3 };
+            let rooms = Rooms { response: 8 + room, collected: 64, starts: 6 };
             for rt in 0..2 {
                 let allocation = 8 + room as u16;
                 compare_count(run, layout, &given, rt, allocation, rooms, |_| {
@@ -157,14 +132,7 @@ fn each_room(run: &mut Run, layout: Layout) {
         for collected in 0..40 {
             for response in [0, 19, 20, 21, 30] {
                 for allocation in [20, 19, 43] {
-                    compare(
-                        run,
-                        layout,
-                        &given,
-                        0,
-                        allocation,
-                        Rooms { response, collected, starts, numbers: 3 },
-                    );
+                    compare(run, layout, &given, 0, allocation, Rooms { response, collected, starts });
                 }
             }
         }
@@ -199,16 +167,14 @@ fn each_two_faults(run: &mut Run, layout: Layout) {
     faults.push(fault(25, |asked: &mut Asked| asked.rooms.starts = 1));
     faults.push(fault(23, |asked: &mut Asked| asked.allocation = 263));
     faults.push(fault(24, |asked: &mut Asked| asked.rooms.collected = 271));
-    let rooms = Rooms { response: 264, collected: 320, starts: 9, numbers: 3 };
+    let rooms = Rooms { response: 264, collected: 320, starts: 9 };
     let good = Asked { sheet: good_sheet(), rt: 0, allocation: 264, rooms };
     let told = compare(run, layout, &Given::new(&good.sheet), good.rt, good.allocation, good.rooms);
     run.expect_told(told, (0, 0));
     each_pair(&good, &faults, &mut |asked, wanted| {
-        for numbers in 0..5 {
-            let rooms = Rooms { numbers, ..asked.rooms };
-            let told = compare(run, layout, &Given::new(&asked.sheet), asked.rt, asked.allocation, rooms);
-            run.expect_told(told, wanted);
-        }
+        let sheet = Given::new(&asked.sheet);
+        let told = compare(run, layout, &sheet, asked.rt, asked.allocation, asked.rooms);
+        run.expect_told(told, wanted);
     });
 }
 
@@ -217,7 +183,7 @@ fn each_two_faults(run: &mut Run, layout: Layout) {
 fn at_the_limit(run: &mut Run, layout: Layout) {
     let (mut every_sheet, mut long_sheet) = (every_feature(), longest());
     let every = Given::new(&every_sheet);
-    let rooms = Rooms { response: 3_000, collected: 262_160, starts: 65_540, numbers: 3 };
+    let rooms = Rooms { response: 3_000, collected: 262_160, starts: 65_540 };
     for (rt, allocation) in [(0, 20), (0, 1_000), (1, 3_000)] {
         let told = compare(run, layout, &every, rt, allocation, rooms);
         run.expect_told(told, (0, 0));
@@ -225,12 +191,12 @@ fn at_the_limit(run: &mut Run, layout: Layout) {
     let told = compare(run, layout, &every, 0, 20, Rooms { starts: 20_000, ..rooms });
     run.expect_told(told, (25, 0));
     let long = Given::new(&long_sheet);
-    let rooms = Rooms { response: 65_534, collected: 17_000_000, starts: 300, numbers: 3 };
+    let rooms = Rooms { response: 65_534, collected: 17_000_000, starts: 300 };
     for rt in 0..2 {
         let told = compare(run, layout, &long, rt, 65_535, rooms);
         run.expect_told(told, (0, 0));
     }
-    let rooms = Rooms { response: 300, collected: 300, starts: 300, numbers: 3 };
+    let rooms = Rooms { response: 300, collected: 300, starts: 300 };
     for sheet in [&mut every_sheet, &mut long_sheet] {
         each_last_fault(sheet, &mut |sheet, wanted| {
             let told = compare(run, layout, &Given::new(sheet), 0, 300, rooms);
@@ -258,7 +224,6 @@ fn random(run: &mut Run, layout: Layout, random: &mut Random) {
             response: (usize::from(allocation) + random.below(40)).saturating_sub(1),
             collected: if random.once_in(4) { random.below(full) } else { full },
             starts: if random.once_in(4) { random.below(6) } else { 70 },
-            numbers: random.below(6),
         };
         compare(run, layout, &given, rt, allocation, rooms);
     }

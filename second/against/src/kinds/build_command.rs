@@ -1,5 +1,6 @@
 //! gcf_build_command.
 
+use super::{columns, laid, LAYOUTS};
 use crate::lent::{Given, Memory};
 use crate::made::captures::example;
 use crate::made::sheets::{starts_for, E};
@@ -13,7 +14,7 @@ use second::wire::Feature;
 pub const KIND: Kind = Kind { name: "gcf_build_command", answers: || vec![0, 9, 11, 12], fixed, random };
 
 /// Compares one making.
-fn compare(run: &mut Run, length: usize, request: Request, room: usize, numbers: usize) -> u64 {
+fn compare(run: &mut Run, length: usize, request: Request, room: usize) -> u64 {
     let Request { rt, sfn, allocation } = request;
     run.compare(
         &[
@@ -23,14 +24,14 @@ fn compare(run: &mut Run, length: usize, request: Request, room: usize, numbers:
             Input::Number("allocation", u64::from(allocation)),
             Input::Number("room", room as u64),
         ],
-        Memory::numbers(numbers).with_buffer(room),
+        Memory::none().with_buffer(room),
         |memory| {
-            let (command, numbers) = (memory.first.part(), memory.numbers.part());
-            u64::from(raw::build_command(length, rt, gcf::Feature(sfn.0), allocation, command, numbers))
+            let (command, sfn) = (memory.first.part(), gcf::Feature(sfn.0));
+            u64::from(memory.told.by(|made| raw::build_command(length, rt, sfn, allocation, command, made)))
         },
         |memory| {
             let built = request.build(length, memory.first.part());
-            memory.give(&[built.unwrap_or(0) as u64]);
+            memory.told.give(&[built.unwrap_or(0) as u64, 0]);
             u64::from(built.err().unwrap_or(0))
         },
     )
@@ -43,7 +44,7 @@ fn fixed(run: &mut Run) {
         for rt in 0..=255 {
             for room in 0..=16 {
                 let request = Request { rt, sfn: Feature(0x0105), allocation: 0xFFFE };
-                let answer = compare(run, length, request, room, room % 3);
+                let answer = compare(run, length, request, room);
                 let wanted = match (length, rt) {
                     (10 | 12, 0..=2) if room >= length => 0,
                     (10 | 12, 0..=2) => 12,
@@ -57,7 +58,7 @@ fn fixed(run: &mut Run) {
     for length in [10, 12] {
         for bit in 0..16 {
             let request = Request { rt: 0, sfn: Feature(1 << bit), allocation: 1 << (15 - bit) };
-            let answer = compare(run, length, request, 12, 1);
+            let answer = compare(run, length, request, 12);
             run.expect(answer, 0);
         }
         for rt in 0..3 {
@@ -74,26 +75,23 @@ fn fixed(run: &mut Run) {
 /// response as an image, answer as the plain one does.
 fn is_answered(run: &mut Run, length: usize, request: Request) {
     let Request { rt, sfn, allocation } = request;
-    let mut command = vec![0xA5; length];
-    let made = raw::build_command(length, rt, gcf::Feature(sfn.0), allocation, &mut command, &mut []);
+    let (mut command, mut told) = (vec![0xA5; length], raw::Made::default());
+    let made = raw::build_command(length, rt, gcf::Feature(sfn.0), allocation, &mut command, &mut told);
     let mut holds = made == 0 && Request::parse(&command) == Ok(request);
     let mut wanted = [0xA5; 64];
     let count =
         second::command::respond(Layout::Rows, &E, &request.bytes(), &mut wanted).unwrap_or(99) as u64;
-    let columns = second::convert::rearranged(Layout::Columns, Layout::Rows, &E);
-    let answers: [fn(&[u8], &[u8], &mut [u8], &mut [u64]) -> u8; 6] = [
-        raw::respond,
-        raw::respond_accepted,
-        raw::respond_columns,
-        raw::respond_columns_accepted,
-        raw::respond_image,
-        raw::respond_image_accepted,
-    ];
-    for (answer, from) in answers.iter().zip([&E[..], &E, &columns, &columns, &example(), &example()]) {
-        let (mut response, mut numbers) = ([0xA5; 64], [99]);
-        holds &= answer(from, &command, &mut response, &mut numbers) == 0;
-        holds &= numbers == [count] && response == wanted;
+    let mut see = |answer: &dyn Fn(&mut [u8], &mut raw::Made) -> u8| {
+        let (mut response, mut sent) = ([0xA5; 64], raw::Made::default());
+        holds &= answer(&mut response, &mut sent) == 0 && sent.bytes == count && response == wanted;
+    };
+    for layout in LAYOUTS {
+        let (columns, sheet) = (columns(layout), laid(layout, &E));
+        see(&|response, sent| raw::respond(columns, &sheet, &command, response, sent));
+        see(&|response, sent| raw::respond_accepted(columns, &sheet, &command, response, sent));
     }
+    see(&|response, sent| raw::respond_image(&example(), &command, response, sent));
+    see(&|response, sent| raw::respond_image_accepted(&example(), &command, response, sent));
     let given = Given::new(&command);
     run.holds(holds, "a built command is answered as another", &[Input::Bytes("command", &given)]);
 }
@@ -102,7 +100,7 @@ fn random(run: &mut Run, random: &mut Random) {
     let length = if random.once_in(4) { random.below(40) } else { random.one_of(&[10, 12]) };
     let rt = if random.once_in(4) { random.byte() } else { random.one_of(&[0, 1, 2]) };
     let request = Request { rt, sfn: Feature(random.near(65_535)), allocation: random.near(65_535) };
-    compare(run, length, request, random.below(24), random.below(3));
+    compare(run, length, request, random.below(24));
     if [10, 12].contains(&length) && rt < 3 {
         is_answered(run, length, Request { allocation: request.allocation % 61, ..request });
     }

@@ -20,15 +20,15 @@ fn answers() -> Vec<u64> {
 }
 
 /// Compares one check.
-fn compare(run: &mut Run, response: &[u8], numbers: usize) -> u64 {
+fn compare(run: &mut Run, response: &[u8]) -> u64 {
     let response = Given::new(response);
     run.compare(
         &[Input::Bytes("response", &response)],
-        Memory::numbers(numbers),
-        |memory| u64::from(raw::check_descriptors(response.proved(), memory.numbers.part())),
+        Memory::none(),
+        |memory| u64::from(memory.told.by(|finding| raw::check_descriptors(response.proved(), finding))),
         |memory| {
             let (number, feature) = second::checks::check_descriptors(response.plain());
-            memory.give(&[u64::from(feature.0)]);
+            memory.told.give(&[u64::from(feature.0)]);
             u64::from(number)
         },
     )
@@ -36,10 +36,8 @@ fn compare(run: &mut Run, response: &[u8], numbers: usize) -> u64 {
 
 fn fixed(run: &mut Run) {
     each_two_faults(run);
-    let mut numbers = 0;
     let mut see = |response: &[u8]| {
-        numbers = (numbers + 1) % 4;
-        compare(run, response, numbers);
+        compare(run, response);
     };
     each_faulty_response(&mut see);
     each_short(&mut see);
@@ -81,7 +79,7 @@ fn of_part(number: u8, feature: u16, bend: impl Fn(&mut Part) + 'static) -> Faul
 /// Each two faults, of the response and of its descriptors in their order.
 fn each_two_faults(run: &mut Run) {
     let good = Checked { parts: ruled_parts(), damage: vec![] };
-    let answer = compare(run, &good.response(), 1);
+    let answer = compare(run, &good.response());
     run.expect(answer, 0);
     let mut faults = vec![
         of_bytes(14, |bytes| bytes.truncate(7)),
@@ -107,7 +105,7 @@ fn each_two_faults(run: &mut Run) {
         part_faults(feature, &mut faults);
     }
     each_pair(&good, &faults, &mut |checked, (number, _)| {
-        let answer = compare(run, &checked.response(), 1);
+        let answer = compare(run, &checked.response());
         run.expect(answer, u64::from(number));
     });
 }
@@ -164,11 +162,11 @@ fn each_bit(run: &mut Run) {
     let mut bytes = response_of(0x0012, &ruled_parts());
     for bit in 0..8 * bytes.len() {
         bytes[bit / 8] ^= 1 << (bit % 8);
-        compare(run, &bytes, 1);
+        compare(run, &bytes);
         // Persistent is also wrong where 0003h is reported.
         for other in (0..8 * bytes.len()).step_by(97) {
             bytes[other / 8] ^= 1 << (other % 8);
-            compare(run, &bytes, 2);
+            compare(run, &bytes);
             bytes[other / 8] ^= 1 << (other % 8);
         }
         bytes[bit / 8] ^= 1 << (bit % 8);
@@ -183,7 +181,7 @@ fn each_length(run: &mut Run) {
             for byte in [0, 0xFF] {
                 let mut changed = parts.clone();
                 changed[at].2 = vec![byte; length];
-                compare(run, &response_of(0, &changed), 1);
+                compare(run, &response_of(0, &changed));
             }
         }
     }
@@ -223,7 +221,7 @@ fn each_version(run: &mut Run) {
                     let mut body = vec![byte; length];
                     body.iter_mut().skip(3).take(1).for_each(|count| *count = 5);
                     changed[at] = (feature, flags | version << 2, body);
-                    let answer = compare(run, &response_of(0, &changed), 1);
+                    let answer = compare(run, &response_of(0, &changed));
                     if version > 0 {
                         run.expect(answer, newer_told(feature, flags, length));
                     }
@@ -243,12 +241,12 @@ fn each_count_of_link_sizes(run: &mut Run) {
             if length >= 4 {
                 parts[7].2[3] = count;
             }
-            compare(run, &response_of(0, &parts), 1);
+            compare(run, &response_of(0, &parts));
             for back in 1..=4 {
                 if length >= 4 + back {
                     let mut bent = parts.clone();
                     bent[7].2[length - back] = 1;
-                    compare(run, &response_of(0, &bent), 1);
+                    compare(run, &response_of(0, &bent));
                 }
             }
         }
@@ -258,11 +256,11 @@ fn each_count_of_link_sizes(run: &mut Run) {
 fn random(run: &mut Run, random: &mut Random) {
     for _ in 0..8 {
         let response = random_ruled(random);
-        compare(run, &response, random.below(4));
+        compare(run, &response);
     }
     let mut made = random_response(random, 0).bytes;
     if random.once_in(2) {
         damage(random, &mut made);
     }
-    compare(run, &made, random.below(4));
+    compare(run, &made);
 }

@@ -15,43 +15,37 @@ use gcf::raw;
 pub const KIND: Kind = Kind { name: "gcf_check_image", answers: || IMAGE.to_vec(), fixed, random };
 
 /// Compares one check, and sees that the proved import refuses alike, with room enough.
-fn compare(run: &mut Run, image: &[u8], numbers: usize) -> Told {
+fn compare(run: &mut Run, image: &[u8]) -> Told {
     let image = Given::new(image);
     let told = run.compare_told(
         &[Input::Bytes("image", &image)],
-        Memory::numbers(numbers),
-        |memory| raw::check_image(image.proved(), memory.numbers.part()),
+        Memory::none(),
+        |memory| memory.told.by(|check| raw::check_image(image.proved(), check)),
         |memory| {
             let told = told(&second::rom::check(image.plain()));
-            memory.give(&[told.1 as u64]);
+            memory.told.give(&[told.1 as u64]);
             told
         },
     );
-    let (mut sheet, mut place) = (vec![0; 2 * image.proved().len().min(65_535) + 8], [0; 2]);
-    let number = raw::import(image.proved(), &mut sheet, &mut place);
-    let holds = (number, place[1] as usize) == told;
+    let (mut sheet, mut made) = (vec![0; 2 * image.proved().len().min(65_535) + 8], raw::Made::default());
+    let number = raw::import(image.proved(), &mut sheet, &mut made);
+    let holds = (number, made.place as usize) == told;
     run.holds(holds, "import refuses otherwise", &[Input::Bytes("image", &image)]);
     told
 }
 
 fn fixed(run: &mut Run) {
     let good = good_import();
-    for numbers in 0..4 {
-        let told = compare(run, &good.capture, numbers);
-        run.expect_told(told, (0, 0));
-    }
+    let told = compare(run, &good.capture);
+    run.expect_told(told, (0, 0));
     let mut faults = import_faults();
     faults.retain(|fault| fault.told.0 != 42);
     each_pair(&good, &faults, &mut |import, wanted| {
-        for numbers in [1, 0, 3] {
-            let told = compare(run, &import.capture, numbers);
-            run.expect_told(told, wanted);
-        }
+        let told = compare(run, &import.capture);
+        run.expect_told(told, wanted);
     });
-    let mut numbers = 0;
     let mut see = |image: &[u8]| {
-        numbers = (numbers + 1) % 3;
-        compare(run, image, numbers);
+        compare(run, image);
     };
     each_faulty_response(&mut see);
     each_short(&mut see);
@@ -93,7 +87,7 @@ fn each_two_bits(see: &mut dyn FnMut(&[u8])) {
 fn random(run: &mut Run, random: &mut Random) {
     let most = if random.once_in(100) { 16_380 } else { random.one_of(&[0, 3, 12, 12, 40, 300]) };
     let image = random_capture(random, most);
-    let told = compare(run, &image, random.below(3));
+    let told = compare(run, &image);
     run.expect_told(told, (0, 0));
     for _ in 0..6 {
         let mut bytes = image.clone();
@@ -104,7 +98,7 @@ fn random(run: &mut Run, random: &mut Random) {
                 spoil(random, &mut bytes);
             }
         }
-        compare(run, &bytes, random.below(3));
+        compare(run, &bytes);
     }
-    compare(run, &random_response(random, 0).bytes, random.below(3));
+    compare(run, &random_response(random, 0).bytes);
 }

@@ -25,17 +25,19 @@ fn answers() -> Vec<u64> {
 const JUDGED: [u16; 7] = [0x0000, 0x0002, 0x0008, 0x0009, 0x0010, 0x0012, 0xFFFF];
 
 /// Compares one check.
-fn compare(run: &mut Run, profile: u16, response: &Given, numbers: usize) -> u64 {
+fn compare(run: &mut Run, profile: u16, response: &Given) -> u64 {
     run.compare(
         &[Input::Number("profile", u64::from(profile)), Input::Bytes("response", response)],
-        Memory::numbers(numbers),
+        Memory::none(),
         |memory| {
-            u64::from(raw::check_profile(gcf::Profile(profile), response.proved(), memory.numbers.part()))
+            let judge =
+                |judgement: &mut _| raw::check_profile(gcf::Profile(profile), response.proved(), judgement);
+            u64::from(memory.told.by(judge))
         },
         |memory| {
             let (number, wrong, feature) =
                 second::checks::check_profile(Profile(profile), response.plain()).fields();
-            memory.give(&[u64::from(wrong), u64::from(feature.0)]);
+            memory.told.give(&[u64::from(wrong), u64::from(feature.0)]);
             u64::from(number)
         },
     )
@@ -44,14 +46,12 @@ fn compare(run: &mut Run, profile: u16, response: &Given, numbers: usize) -> u64
 fn fixed(run: &mut Run) {
     let example = Given::new(&sent(&E, 0, 0, 65_535));
     for profile in 0..=65_535 {
-        compare(run, profile, &example, 2);
+        compare(run, profile, &example);
     }
-    let mut numbers = 0;
     let mut see = |response: &[u8]| {
         let given = Given::new(response);
         for profile in JUDGED {
-            numbers = (numbers + 1) % 5;
-            compare(run, profile, &given, numbers);
+            compare(run, profile, &given);
         }
     };
     each_faulty_response(&mut see);
@@ -88,7 +88,7 @@ fn each_feature_missing(run: &mut Run) {
 fn see_all(run: &mut Run, parts: &[Part]) {
     let given = Given::new(&response_of(0x0012, parts));
     for profile in JUDGED {
-        compare(run, profile, &given, 2);
+        compare(run, profile, &given);
     }
 }
 
@@ -150,14 +150,14 @@ fn each_random_readable(run: &mut Run) {
     for length in (0..=252).step_by(4) {
         for byte in [0, 0xFF] {
             parts[4].2 = vec![byte; length];
-            compare(run, 0x0012, &Given::new(&response_of(0, &parts)), 2);
+            compare(run, 0x0012, &Given::new(&response_of(0, &parts)));
         }
     }
     for length in [8, 12] {
         for bit in 0..8 * length {
             parts[4].2 = vec![0; length];
             parts[4].2[bit / 8] = 1 << (bit % 8);
-            compare(run, 0x0012, &Given::new(&response_of(0, &parts)), 2);
+            compare(run, 0x0012, &Given::new(&response_of(0, &parts)));
         }
     }
 }
@@ -173,7 +173,7 @@ fn random(run: &mut Run, random: &mut Random) {
         for _ in 0..2 {
             let profile =
                 random.one_of(&[0x0000, 0x0000, 0x0002, 0x0008, 0x0010, 0x0012, 0xFFFF, 0x0009, 0x1200]);
-            compare(run, profile, &given, random.below(5));
+            compare(run, profile, &given);
         }
     }
 }

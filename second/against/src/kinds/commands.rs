@@ -15,8 +15,8 @@ use crate::run::{Run, Told};
 use second::command::Request;
 use second::wire::Feature;
 
-/// Compares one command: sheet or image, command, room for the response, room for the numbers.
-pub type Compare = fn(&mut Run, &Given, &[u8], usize, usize) -> Told;
+/// Compares one command: sheet or image, command, room for the response.
+pub type Compare = fn(&mut Run, &Given, &[u8], usize) -> Told;
 
 /// A command's bytes.
 pub fn command(rt: u8, sfn: u16, allocation: u16) -> [u8; 10] {
@@ -55,11 +55,10 @@ fn each_allocation(run: &mut Run, compare: Compare) {
 
 /// A command with more room than it needs, with just enough, and with one byte too little.
 pub fn each_room(run: &mut Run, compare: Compare, asked: &Given, command: &[u8], needed: usize) {
-    let numbers = needed % 4;
-    compare(run, asked, command, needed + 1 + needed % 9, numbers);
-    compare(run, asked, command, needed, 1);
+    compare(run, asked, command, needed + 1 + needed % 9);
+    compare(run, asked, command, needed);
     if needed > 0 {
-        compare(run, asked, command, needed - 1, numbers);
+        compare(run, asked, command, needed - 1);
     }
 }
 
@@ -88,17 +87,15 @@ fn each_two_faults(run: &mut Run, compare: Compare) {
     faults.push(fault(12, |asked: &mut Asked| asked.room = 99));
     let good = Asked { sheet: good_sheet(), command: command(0, 0, 100).to_vec(), room: 100 };
     each_pair(&good, &faults, &mut |asked, wanted| {
-        for numbers in 0..4 {
-            let told = compare(run, &Given::new(&asked.sheet), &asked.command, asked.room, numbers);
-            run.expect_told(told, wanted);
-        }
+        let told = compare(run, &Given::new(&asked.sheet), &asked.command, asked.room);
+        run.expect_told(told, wanted);
     });
 }
 
 /// Commands of every length up to 20, every first byte, and every second byte with all reserved bits set behind, in packets too.
 pub fn commands_that_are_none(run: &mut Run, compare: Compare, asked: &Given) {
     for length in (0..20).chain([10 + 0x100, 12 + 0x100, 10 + 0x1_0000, 12 + 0x1_0000]) {
-        let told = compare(run, asked, &vec![0x46; length], 100, 2);
+        let told = compare(run, asked, &vec![0x46; length], 100);
         if ![10, 12].contains(&length) {
             run.expect_told(told, (9, 0));
         }
@@ -106,12 +103,12 @@ pub fn commands_that_are_none(run: &mut Run, compare: Compare, asked: &Given) {
     for byte in 0..=255 {
         let mut first = command(0, 0, 44);
         first[0] = byte;
-        compare(run, asked, &first, 44, 1);
+        compare(run, asked, &first, 44);
         let mut second = [0xFF; 10];
         second[..4].copy_from_slice(&[0x46, byte, 0, 1]);
         second[7..9].copy_from_slice(&[0, 100]);
-        let told = compare(run, asked, &second, 100, 1);
-        let packet = compare(run, asked, &[&second[..], &[byte, 0xFF]].concat(), 100, 1);
+        let told = compare(run, asked, &second, 100);
+        let packet = compare(run, asked, &[&second[..], &[byte, 0xFF]].concat(), 100);
         run.expect_told(packet, told);
     }
 }
@@ -140,11 +137,11 @@ fn at_the_limit(run: &mut Run, compare: Compare) {
         let given = Given::new(&sheet);
         for (rt, sfn) in [(0, 0), (0, 0xFFFF), (0, 0x8000), (1, 1), (1, 0xFFFE), (2, 0x1234), (2, 0xFFFF)] {
             for allocation in [65_535, 300] {
-                compare(run, &given, &command(rt, sfn, allocation), 65_540, 1);
+                compare(run, &given, &command(rt, sfn, allocation), 65_540);
             }
         }
         each_last_fault(&mut sheet, &mut |sheet, wanted| {
-            let told = compare(run, &Given::new(sheet), &command(0, 0, 300), 300, 2);
+            let told = compare(run, &Given::new(sheet), &command(0, 0, 300), 300);
             run.expect_told(told, wanted);
         });
     }
@@ -192,7 +189,7 @@ pub fn made_up_commands(
         } else {
             (needed + random.below(11)).saturating_sub(2)
         };
-        compare(run, given, &asked, room, random.below(4));
+        compare(run, given, &asked, room);
     }
 }
 

@@ -1,6 +1,6 @@
-//! gcf_to_columns and gcf_to_rows.
+//! gcf_convert.
 
-use super::{laid, SHEET};
+use super::{columns, laid, LAYOUTS, SHEET};
 use crate::lent::{Given, Memory};
 use crate::made::damage::damage;
 use crate::made::faults::{each_last_fault, each_pair, fault, fault_at, good_sheet, sheet_faults, Fault};
@@ -10,31 +10,16 @@ use crate::run::{told, Input, Kind, Run, Told};
 use gcf::raw;
 use second::sheet::Layout;
 
-pub const TO_COLUMNS: Kind = Kind {
-    name: "gcf_to_columns",
+pub const KIND: Kind = Kind {
+    name: "gcf_convert",
     answers,
-    fixed: |run| fixed(run, Layout::Rows),
-    random: |run, made| random(run, Layout::Rows, made),
-};
-
-pub const TO_ROWS: Kind = Kind {
-    name: "gcf_to_rows",
-    answers,
-    fixed: |run| fixed(run, Layout::Columns),
-    random: |run, made| random(run, Layout::Columns, made),
+    fixed: |run| LAYOUTS.into_iter().for_each(|layout| fixed(run, layout)),
+    random: |run, made| LAYOUTS.into_iter().for_each(|layout| random(run, layout, made)),
 };
 
 /// The sheet's, and 42.
 fn answers() -> Vec<u64> {
     SHEET.into_iter().chain([42]).collect()
-}
-
-/// The conversion of the proved side from a layout.
-fn proved(layout: Layout) -> fn(&[u8], &mut [u8], &mut [u64]) -> u8 {
-    match layout {
-        Layout::Rows => raw::to_columns,
-        Layout::Columns => raw::to_rows,
-    }
 }
 
 /// The other layout.
@@ -45,17 +30,25 @@ fn other(layout: Layout) -> Layout {
     }
 }
 
-/// Compares one conversion of a sheet in rows, as it stands in a layout.
-fn compare(run: &mut Run, layout: Layout, rows: &[u8], room: usize, numbers: usize) -> Told {
+/// Compares the conversions of a sheet in rows, as it stands in a layout, to the same layout and to the other.
+fn compare(run: &mut Run, layout: Layout, rows: &[u8], room: usize) -> Told {
+    compare_to(run, layout, layout, rows, room);
+    compare_to(run, layout, other(layout), rows, room)
+}
+
+fn compare_to(run: &mut Run, layout: Layout, to: Layout, rows: &[u8], room: usize) -> Told {
     let sheet = Given::new(&laid(layout, rows));
     run.compare_told(
         &[Input::Bytes("sheet", &sheet), Input::Number("room", room as u64)],
-        Memory::numbers(numbers).with_buffer(room),
-        |memory| proved(layout)(sheet.proved(), memory.first.part(), memory.numbers.part()),
+        Memory::none().with_buffer(room),
         |memory| {
-            let made = second::convert::convert(other(layout), layout, sheet.plain(), memory.first.part());
+            let (from, to, out) = (columns(layout), columns(to), memory.first.part());
+            memory.told.by(|made| raw::convert(from, sheet.proved(), to, out, made))
+        },
+        |memory| {
+            let made = second::convert::convert(to, layout, sheet.plain(), memory.first.part());
             let told = told(&made);
-            memory.give(&[made.unwrap_or(0) as u64, told.1 as u64]);
+            memory.told.give(&[made.unwrap_or(0) as u64, told.1 as u64]);
             told
         },
     )
@@ -64,9 +57,11 @@ fn compare(run: &mut Run, layout: Layout, rows: &[u8], room: usize, numbers: usi
 /// Sees that the proved side's two conversions undo each other on an accepted sheet.
 fn come_back(run: &mut Run, layout: Layout, rows: &[u8]) {
     let sheet = Given::new(&laid(layout, rows));
-    let (mut there, mut back, mut numbers) = (vec![0xA5; rows.len()], vec![0xA5; rows.len()], [0; 2]);
-    let first = proved(layout)(sheet.proved(), &mut there, &mut numbers);
-    let second = proved(other(layout))(&there, &mut back, &mut numbers);
+    let (mut there, mut back, mut made) =
+        (vec![0xA5; rows.len()], vec![0xA5; rows.len()], raw::Made::default());
+    let (from, to) = (columns(layout), columns(other(layout)));
+    let first = raw::convert(from, sheet.proved(), to, &mut there, &mut made);
+    let second = raw::convert(to, &there, from, &mut back, &mut made);
     let holds = first == 0 && second == 0 && back == sheet.proved();
     run.holds(holds, "the conversions do not undo each other", &[Input::Bytes("sheet", &sheet)]);
 }
@@ -84,18 +79,18 @@ fn fixed(run: &mut Run, layout: Layout) {
         each_room(run, layout, &sheet);
         come_back(run, layout, &sheet);
         for cut in 0..sheet.len() {
-            compare(run, layout, &sheet[..cut], sheet.len(), 2);
+            compare(run, layout, &sheet[..cut], sheet.len());
         }
     }
     for mut sheet in [longest(), every_feature()] {
         for less in 0..2 {
-            let told = compare(run, layout, &sheet, sheet.len() - less, 2);
+            let told = compare(run, layout, &sheet, sheet.len() - less);
             run.expect_told(told, if less == 0 { (0, 0) } else { (42, 0) });
         }
         come_back(run, layout, &sheet);
         let room = sheet.len();
         each_last_fault(&mut sheet, &mut |sheet, wanted| {
-            let told = compare(run, layout, sheet, room, 2);
+            let told = compare(run, layout, sheet, room);
             run.expect_told(told, wanted);
         });
     }
@@ -111,17 +106,15 @@ fn each_two_faults(run: &mut Run, layout: Layout) {
     faults.push(fault(42, |asked: &mut Asked| asked.room = asked.sheet.len().saturating_sub(1)));
     let good = Asked { room: good_sheet().len(), sheet: good_sheet() };
     each_pair(&good, &faults, &mut |asked, wanted| {
-        for numbers in 0..4 {
-            let told = compare(run, layout, &asked.sheet, asked.room, numbers);
-            run.expect_told(told, wanted);
-        }
+        let told = compare(run, layout, &asked.sheet, asked.room);
+        run.expect_told(told, wanted);
     });
 }
 
 /// A sheet with each room from none to more than enough.
 fn each_room(run: &mut Run, layout: Layout, sheet: &[u8]) {
     for room in 0..=sheet.len() + 9 {
-        let told = compare(run, layout, sheet, room, room % 4);
+        let told = compare(run, layout, sheet, room);
         run.expect_told(told, if room < sheet.len() { (42, 0) } else { (0, 0) });
     }
 }
@@ -136,6 +129,6 @@ fn random(run: &mut Run, layout: Layout, random: &mut Random) {
             damage(random, &mut damaged);
         }
         let room = (damaged.len() + random.below(9)).saturating_sub(2);
-        compare(run, layout, &damaged, room, random.below(4));
+        compare(run, layout, &damaged, room);
     }
 }

@@ -1,5 +1,6 @@
 //! Commands to an image, for the two functions that answer one, and the same commands to image and imported sheet.
 
+use super::columns;
 use super::commands::{command, commands_that_are_none, each_room, made_up_commands, Compare};
 use crate::lent::Given;
 use crate::made::captures::{
@@ -12,6 +13,7 @@ use crate::made::responses::{sent, MOST};
 use crate::random::Random;
 use crate::run::{Input, Run};
 use gcf::raw;
+use second::sheet::Layout;
 
 /// The length of the response with the longest allocation length, by the plain side, for any bytes.
 fn length_to_send(image: &[u8], rt: u8, sfn: u16) -> usize {
@@ -69,11 +71,9 @@ fn each_two_faults(run: &mut Run, compare: Compare) {
     faults.push(fault(12, |asked: &mut Asked| asked.room = 0));
     faults.push(fault(12, |asked: &mut Asked| asked.room = 39));
     let good = Asked { import: good_import(), command: command(0, 0, 40).to_vec(), room: 40 };
-    let mut numbers = 0;
     each_pair(&good, &faults, &mut |asked, wanted| {
-        numbers = (numbers + 1) % 4;
         let image = Given::new(&asked.import.capture);
-        let told = compare(run, &image, &asked.command, asked.room, numbers);
+        let told = compare(run, &image, &asked.command, asked.room);
         run.expect_told(told, wanted);
     });
 }
@@ -88,7 +88,7 @@ fn the_longest(run: &mut Run, compare: Compare) {
             for sfn in [0, 1, 0x0080, 0x00FF, 0x0100, 0x2000, 0x3FFC, 0xFFFE, 0xFFFF] {
                 for rt in 0..3 {
                     for allocation in [300, 65_531, 65_532, 65_535] {
-                        compare(run, &given, &command(rt, sfn, allocation), MOST + 6, 2);
+                        compare(run, &given, &command(rt, sfn, allocation), MOST + 6);
                     }
                 }
             }
@@ -106,7 +106,7 @@ fn each_spoilt(run: &mut Run, compare: Compare) {
                 turn += 1;
                 let sfn = starts[turn % starts.len()];
                 let allocation = if turn % 5 == 0 { turn % 64 } else { 4_000 };
-                compare(run, &given, &command(rt, sfn, allocation as u16), 4_000, 2);
+                compare(run, &given, &command(rt, sfn, allocation as u16), 4_000);
             }
         };
         for cut in 0..image.len() {
@@ -178,13 +178,13 @@ pub fn side_by_side(run: &mut Run, image: &[u8], sheet: &[u8]) {
             let command = command(rt, sfn, allocation as u16);
             let room = if turn % 9 == 0 { turn % 50 } else { image.len() + 2 };
             let (mut one, mut two) = (vec![0xA5; room], vec![0xA5; room]);
-            let (mut of_sheet, mut of_image, mut of_accepted) = ([9; 2], [9; 2], [9; 1]);
-            let number = raw::respond(sheet, &command, &mut one, &mut of_sheet);
+            let (mut of_sheet, mut of_image) = (raw::Made::default(), raw::Made::default());
+            let number = raw::respond(columns(Layout::Rows), sheet, &command, &mut one, &mut of_sheet);
             let other = raw::respond_image(image, &command, &mut two, &mut of_image);
             let mut holds = number == other && of_sheet == of_image && one == two;
             two.fill(0xA5);
-            let other = raw::respond_image_accepted(image, &command, &mut two, &mut of_accepted);
-            holds &= number == other && of_sheet[0] == of_accepted[0] && one == two;
+            let other = raw::respond_image_accepted(image, &command, &mut two, &mut of_image);
+            holds &= number == other && of_sheet.bytes == of_image.bytes && one == two;
             let (given, asked) = (Given::new(image), Given::new(&command));
             let inputs = [
                 Input::Bytes("image", &given),

@@ -1,6 +1,6 @@
 //! gcf_import.
 
-use super::{images, READING};
+use super::{columns, images, READING};
 use crate::lent::{Given, Memory};
 use crate::made::captures::{
     capture_of, example, full_sheets, good_import, import_faults, put_current, random_capture,
@@ -15,6 +15,7 @@ use crate::random::Random;
 use crate::run::{told, Input, Kind, Run, Told};
 use gcf::raw;
 use second::command::Request;
+use second::sheet::Layout;
 use second::wire::Feature;
 
 pub const KIND: Kind = Kind { name: "gcf_import", answers, fixed, random };
@@ -28,18 +29,18 @@ fn answers() -> Vec<u64> {
 }
 
 /// Compares one import.
-fn compare(run: &mut Run, response: &Given, room: usize, numbers: usize) -> Told {
+fn compare(run: &mut Run, response: &Given, room: usize) -> Told {
     run.compare_told(
         &[Input::Bytes("response", response), Input::Number("room", room as u64)],
-        Memory::numbers(numbers).with_buffer(room),
+        Memory::none().with_buffer(room),
         |memory| {
-            let (sheet, numbers) = (memory.first.part(), memory.numbers.part());
-            raw::import(response.proved(), sheet, numbers)
+            let sheet = memory.first.part();
+            memory.told.by(|made| raw::import(response.proved(), sheet, made))
         },
         |memory| {
             let made = second::import::import(response.plain(), memory.first.part());
             let told = told(&made);
-            memory.give(&[made.unwrap_or(0) as u64, told.1 as u64]);
+            memory.told.give(&[made.unwrap_or(0) as u64, told.1 as u64]);
             told
         },
     )
@@ -51,11 +52,11 @@ fn sheet_length(response: &[u8]) -> Option<usize> {
 }
 
 /// Compares with room enough, for a response that may be refused.
-fn compare_roomy(run: &mut Run, response: &[u8], numbers: usize) -> Told {
+fn compare_roomy(run: &mut Run, response: &[u8], more: usize) -> Told {
     let given = Given::new(response);
     match sheet_length(response) {
-        Some(length) => compare(run, &given, length + numbers % 3, numbers),
-        None => compare(run, &given, response.len() % 2_048, numbers),
+        Some(length) => compare(run, &given, length + more),
+        None => compare(run, &given, response.len() % 2_048),
     }
 }
 
@@ -63,22 +64,22 @@ fn compare_roomy(run: &mut Run, response: &[u8], numbers: usize) -> Told {
 fn each_room(run: &mut Run, response: &[u8]) {
     let given = Given::new(response);
     let length = sheet_length(response).unwrap_or(0);
-    for (more, numbers) in [(0, 1), (1, 0), (2, 2), (3, 3), (9, 1), (300, 4)] {
-        let told = compare(run, &given, length + more, numbers);
+    for more in [0, 1, 2, 3, 9, 300] {
+        let told = compare(run, &given, length + more);
         run.expect_told(told, (0, 0));
     }
     for less in [1, 2, 3, 4, 5, 8, length / 2, length - 1, length] {
-        let told = compare(run, &given, length - less.min(length), less % 4);
+        let told = compare(run, &given, length - less.min(length));
         run.expect_told(told, (42, 0));
     }
 }
 
 fn fixed(run: &mut Run) {
     each_two_faults(run);
-    let mut numbers = 0;
+    let mut more = 0;
     let mut see = |response: &[u8]| {
-        numbers = (numbers + 1) % 4;
-        compare_roomy(run, response, numbers);
+        more = (more + 1) % 3;
+        compare_roomy(run, response, more);
     };
     each_faulty_response(&mut see);
     each_short(&mut see);
@@ -100,31 +101,29 @@ fn fixed(run: &mut Run) {
 /// Each fault and each two, in the order of the numbers.
 fn each_two_faults(run: &mut Run) {
     let good = good_import();
-    let told = compare(run, &Given::new(&good.capture), good.room, 1);
+    let told = compare(run, &Given::new(&good.capture), good.room);
     run.expect_told(told, (0, 0));
     come_back(run, &good.capture);
     each_pair(&good, &import_faults(), &mut |import, wanted| {
-        for numbers in [2, 0, 1, 3] {
-            let told = compare(run, &Given::new(&import.capture), import.room, numbers);
-            run.expect_told(told, wanted);
-        }
+        let told = compare(run, &Given::new(&import.capture), import.room);
+        run.expect_told(told, wanted);
     });
 }
 
 /// What the proved box sends to RT 0 from 0 into so much room, with the longest allocation length.
 fn proved_response(sheet: &[u8], room: usize) -> Vec<u8> {
     let command = Request { rt: 0, sfn: Feature(0), allocation: 65_535 }.bytes();
-    let (mut response, mut numbers) = (vec![0xA5; room], [0]);
-    raw::respond(sheet, &command, &mut response, &mut numbers);
-    response.truncate(numbers[0] as usize);
+    let (mut response, mut sent) = (vec![0xA5; room], raw::Made::default());
+    raw::respond(columns(Layout::Rows), sheet, &command, &mut response, &mut sent);
+    response.truncate(sent.bytes as usize);
     response
 }
 
 /// What the proved import makes, with room enough.
 fn proved_sheet(response: &[u8]) -> Vec<u8> {
-    let (mut sheet, mut numbers) = (vec![0xA5; 2 * response.len() + 8], [0]);
-    raw::import(response, &mut sheet, &mut numbers);
-    sheet.truncate(numbers[0] as usize);
+    let (mut sheet, mut made) = (vec![0xA5; 2 * response.len() + 8], raw::Made::default());
+    raw::import(response, &mut sheet, &mut made);
+    sheet.truncate(made.bytes as usize);
     sheet
 }
 
@@ -142,15 +141,15 @@ fn round_trip(run: &mut Run, sheet: &[u8]) {
 /// sheet does.
 fn come_back(run: &mut Run, capture: &[u8]) {
     let sheet = proved_sheet(capture);
-    let holds =
-        raw::check_sheet(&sheet, &mut []) == 0 && proved_response(&sheet, capture.len() + 1) == capture;
+    let accepted = raw::check_sheet(columns(Layout::Rows), &sheet, &mut raw::Check::default()) == 0;
+    let holds = accepted && proved_response(&sheet, capture.len() + 1) == capture;
     run.holds(holds, "a capture does not come back", &[Input::Bytes("capture", &Given::new(capture))]);
     images::side_by_side(run, capture, &sheet);
 }
 
 /// Compares, and sees that a capture comes back if it is accepted.
-fn compare_and_back(run: &mut Run, capture: &[u8], numbers: usize) -> Told {
-    let told = compare_roomy(run, capture, numbers);
+fn compare_and_back(run: &mut Run, capture: &[u8], more: usize) -> Told {
+    let told = compare_roomy(run, capture, more);
     if told.0 == 0 {
         come_back(run, capture);
     }
@@ -301,8 +300,8 @@ fn random(run: &mut Run, random: &mut Random) {
     run.expect_told(told, (0, 0));
     let length = sheet_length(&capture).unwrap_or(0);
     let given = Given::new(&capture);
-    compare(run, &given, random.below(length + 9), random.below(4));
-    compare(run, &given, (length + random.below(9)).saturating_sub(4), random.below(4));
+    compare(run, &given, random.below(length + 9));
+    compare(run, &given, (length + random.below(9)).saturating_sub(4));
     for _ in 0..8 {
         damaged(run, random, &capture);
     }
@@ -322,6 +321,6 @@ fn damaged(run: &mut Run, random: &mut Random, capture: &[u8]) {
     let told = compare_and_back(run, &bytes, random.below(4));
     // With too little room all but an accepted one get the same number.
     let room = random.below(bytes.len() + 1);
-    let short = compare(run, &Given::new(&bytes), room, random.below(4));
+    let short = compare(run, &Given::new(&bytes), room);
     run.holds(short == told || told.0 == 0 && short == (42, 0), "the room changes a refusal", &[]);
 }

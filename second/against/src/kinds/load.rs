@@ -1,6 +1,6 @@
-//! gcf_load and gcf_load_columns.
+//! gcf_load.
 
-use super::{laid, SHEET};
+use super::{columns, laid, LAYOUTS, SHEET};
 use crate::lent::{Given, Memory};
 use crate::made::damage::damage;
 use crate::made::faults::{each_last_fault, each_pair, fault, fault_at, good_sheet, sheet_faults, Fault};
@@ -13,18 +13,11 @@ use gcf::raw;
 use second::sheet::{Layout, Sheet};
 use second::wire::{Feature, Profile};
 
-pub const ROWS: Kind = Kind {
+pub const KIND: Kind = Kind {
     name: "gcf_load",
     answers,
-    fixed: |run| fixed(run, Layout::Rows),
-    random: |run, made| random(run, Layout::Rows, made),
-};
-
-pub const COLUMNS: Kind = Kind {
-    name: "gcf_load_columns",
-    answers,
-    fixed: |run| fixed(run, Layout::Columns),
-    random: |run, made| random(run, Layout::Columns, made),
+    fixed: |run| LAYOUTS.into_iter().for_each(|layout| fixed(run, layout)),
+    random: |run, made| LAYOUTS.into_iter().for_each(|layout| random(run, layout, made)),
 };
 
 /// The sheet's, and 51 to 53.
@@ -63,17 +56,14 @@ fn profiles_in(sheet: &[u8]) -> Vec<u16> {
 }
 
 /// Loads a medium by the proved side.
-fn proved(layout: Layout, sheet: &[u8], medium: &Medium, out: &mut [u8], numbers: &mut [u64]) -> u8 {
+fn proved(layout: Layout, sheet: &[u8], medium: &Medium, out: &mut [u8], made: &mut raw::Made) -> u8 {
     let features: Vec<_> = medium.features.iter().map(|&number| gcf::Feature(number)).collect();
     let profiles: Vec<_> = medium.profiles.iter().map(|&number| gcf::Profile(number)).collect();
-    match layout {
-        Layout::Rows => raw::load(sheet, &features, &profiles, out, numbers),
-        Layout::Columns => raw::load_columns(sheet, &features, &profiles, out, numbers),
-    }
+    raw::load(columns(layout), sheet, &features, &profiles, out, made)
 }
 
 /// Compares one loading of a medium into a sheet in rows, as it stands in a layout.
-fn compare(run: &mut Run, layout: Layout, rows: &[u8], medium: &Medium, room: usize, numbers: usize) -> Told {
+fn compare(run: &mut Run, layout: Layout, rows: &[u8], medium: &Medium, room: usize) -> Told {
     let sheet = Given::new(&laid(layout, rows));
     let features: Vec<_> = medium.features.iter().map(|&number| Feature(number)).collect();
     let profiles: Vec<_> = medium.profiles.iter().map(|&number| Profile(number)).collect();
@@ -85,12 +75,15 @@ fn compare(run: &mut Run, layout: Layout, rows: &[u8], medium: &Medium, room: us
             Input::Bytes("profiles", &of_profiles),
             Input::Number("room", room as u64),
         ],
-        Memory::numbers(numbers).with_buffer(room),
-        |memory| proved(layout, sheet.proved(), medium, memory.first.part(), memory.numbers.part()),
+        Memory::none().with_buffer(room),
+        |memory| {
+            let out = memory.first.part();
+            memory.told.by(|made| proved(layout, sheet.proved(), medium, out, made))
+        },
         |memory| {
             let made = second::load::load(layout, sheet.plain(), &features, &profiles, memory.first.part());
             let told = told(&made);
-            memory.give(&[made.unwrap_or(0) as u64, told.1 as u64]);
+            memory.told.give(&[made.unwrap_or(0) as u64, told.1 as u64]);
             told
         },
     )
@@ -101,10 +94,11 @@ fn last_counts(run: &mut Run, layout: Layout, rows: &[u8], first: &Medium, secon
     let sheet = Given::new(&laid(layout, rows));
     let (mut one, mut behind, mut alone) =
         (vec![0xA5; rows.len()], vec![0xA5; rows.len()], vec![0xA5; rows.len()]);
-    let accepted = proved(layout, sheet.proved(), first, &mut one, &mut []);
+    let made = &mut raw::Made::default();
+    let accepted = proved(layout, sheet.proved(), first, &mut one, made);
     let numbers = (
-        proved(layout, &one, second, &mut behind, &mut []),
-        proved(layout, sheet.proved(), second, &mut alone, &mut []),
+        proved(layout, &one, second, &mut behind, made),
+        proved(layout, sheet.proved(), second, &mut alone, made),
     );
     let holds = accepted == 0 && numbers == (0, 0) && behind == alone;
     run.holds(holds, "the medium before makes a difference", &[Input::Bytes("sheet", &sheet)]);
@@ -124,7 +118,7 @@ fn fixed(run: &mut Run, layout: Layout) {
     for sheet in short_sheets() {
         each_room(run, layout, &sheet);
         for cut in 0..sheet.len() {
-            compare(run, layout, &sheet[..cut], &Medium::of_all(&sheet), sheet.len(), 2);
+            compare(run, layout, &sheet[..cut], &Medium::of_all(&sheet), sheet.len());
         }
         let (all, none) = (Medium::of_all(&sheet), Medium::default());
         last_counts(run, layout, &sheet, &all, &none);
@@ -152,10 +146,8 @@ fn each_two_faults(run: &mut Run, layout: Layout) {
     faults.push(fault(53, |asked: &mut Asked| asked.room = asked.sheet.len().saturating_sub(1)));
     let good = Asked { room: good_sheet().len(), sheet: good_sheet(), medium: Medium::new(&[2], &[1]) };
     each_pair(&good, &faults, &mut |asked, wanted| {
-        for numbers in 0..4 {
-            let told = compare(run, layout, &asked.sheet, &asked.medium, asked.room, numbers);
-            run.expect_told(told, wanted);
-        }
+        let told = compare(run, layout, &asked.sheet, &asked.medium, asked.room);
+        run.expect_told(told, wanted);
     });
 }
 
@@ -174,7 +166,7 @@ fn each_list(run: &mut Run, layout: Layout) {
     }
     for list in &lists {
         for medium in [Medium::new(list, &[]), Medium::new(&[], list), Medium::new(list, list)] {
-            let told = compare(run, layout, &sheet, &medium, sheet.len(), 2);
+            let told = compare(run, layout, &sheet, &medium, sheet.len());
             if told == (0, 0) {
                 last_counts(run, layout, &sheet, &medium, &Medium::new(&[1, 0x10], &[2]));
             }
@@ -190,7 +182,7 @@ fn lists_of(count: usize) -> usize {
 /// A sheet with each room from none to more than enough.
 fn each_room(run: &mut Run, layout: Layout, sheet: &[u8]) {
     for room in 0..=sheet.len() + 9 {
-        let told = compare(run, layout, sheet, &Medium::of_all(sheet), room, room % 4);
+        let told = compare(run, layout, sheet, &Medium::of_all(sheet), room);
         run.expect_told(told, if room < sheet.len() { (53, 0) } else { (0, 0) });
     }
 }
@@ -200,13 +192,13 @@ fn long_lists(run: &mut Run, layout: Layout) {
     let many = sheet_of(&profiles(63, 7), &in_a_row(2, 4));
     let profiles: Vec<u16> = (1..=63).collect();
     for (list, wanted) in with_faults(&profiles, 64) {
-        let told = compare(run, layout, &many, &Medium::new(&[], &list), many.len(), 2);
+        let told = compare(run, layout, &many, &Medium::new(&[], &list), many.len());
         run.expect_told(told, (wanted, 0));
     }
     let almost = sheet_of(&[], &in_a_row(65_534, 0));
     let numbers = numbers_in(&almost);
     for (list, wanted) in with_faults(&numbers, 65_535) {
-        let told = compare(run, layout, &almost, &Medium::new(&list, &[]), almost.len(), 2);
+        let told = compare(run, layout, &almost, &Medium::new(&list, &[]), almost.len());
         run.expect_told(told, (wanted, 0));
     }
     for mut sheet in [longest(), every_feature()] {
@@ -214,14 +206,14 @@ fn long_lists(run: &mut Run, layout: Layout) {
         let second = Medium::new(&all.features.iter().copied().step_by(2).collect::<Vec<u16>>(), &[2]);
         for medium in [&all, &second, &Medium::default()] {
             for less in 0..2 {
-                let told = compare(run, layout, &sheet, medium, sheet.len() - less, 2);
+                let told = compare(run, layout, &sheet, medium, sheet.len() - less);
                 run.expect_told(told, if less == 0 { (0, 0) } else { (53, 0) });
             }
         }
         last_counts(run, layout, &sheet, &all, &second);
         let room = sheet.len();
         each_last_fault(&mut sheet, &mut |sheet, wanted| {
-            let told = compare(run, layout, sheet, &second, room, 2);
+            let told = compare(run, layout, sheet, &second, room);
             run.expect_told(told, wanted);
         });
     }
@@ -273,8 +265,8 @@ fn random(run: &mut Run, layout: Layout, random: &mut Random) {
     for _ in 0..4 {
         let medium = some(random);
         let room = (sheet.len() + random.below(9)).saturating_sub(2);
-        compare(run, layout, &sheet, &medium, room, random.below(4));
-        let told = compare(run, layout, &sheet, &medium, sheet.len(), 2);
+        compare(run, layout, &sheet, &medium, room);
+        let told = compare(run, layout, &sheet, &medium, sheet.len());
         if told == (0, 0) && accepted {
             last_counts(run, layout, &sheet, &before, &medium);
         }
@@ -283,5 +275,5 @@ fn random(run: &mut Run, layout: Layout, random: &mut Random) {
     }
     let mut damaged = sheet.clone();
     damage(random, &mut damaged);
-    compare(run, layout, &damaged, &some(random), damaged.len(), 2);
+    compare(run, layout, &damaged, &some(random), damaged.len());
 }

@@ -15,17 +15,17 @@ fn answers() -> Vec<u64> {
 const GIVEN: [u8; 22] = [0, 1, 2, 3, 4, 5, 6, 7, 8, 9, 10, 11, 12, 14, 15, 16, 17, 18, 20, 29, 41, 44];
 
 /// Compares one making.
-fn compare(run: &mut Run, number: u8, room: usize, numbers: usize) -> u64 {
+fn compare(run: &mut Run, number: u8, room: usize) -> u64 {
     run.compare(
         &[Input::Number("number", u64::from(number)), Input::Number("room", room as u64)],
-        Memory::numbers(numbers).with_buffer(room),
+        Memory::none().with_buffer(room),
         |memory| {
-            let (sense, numbers) = (memory.first.part(), memory.numbers.part());
-            u64::from(raw::make_sense(number, sense, numbers))
+            let sense = memory.first.part();
+            u64::from(memory.told.by(|made| raw::make_sense(number, sense, made)))
         },
         |memory| {
             let made = second::sense::make(number, memory.first.part());
-            memory.give(&[made.unwrap_or(0) as u64]);
+            memory.told.give(&[made.unwrap_or(0) as u64, 0]);
             u64::from(made.err().unwrap_or(0))
         },
     )
@@ -35,7 +35,7 @@ fn compare(run: &mut Run, number: u8, room: usize, numbers: usize) -> u64 {
 fn fixed(run: &mut Run) {
     for number in 0..=255 {
         for room in 0..=40 {
-            let answer = compare(run, number, room, room % 3);
+            let answer = compare(run, number, room);
             let wanted = match (GIVEN.contains(&number), room) {
                 (false, _) => 54,
                 (true, 0..=17) => 55,
@@ -49,8 +49,8 @@ fn fixed(run: &mut Run) {
 
 /// What the proved maker makes, its reader takes for the kind of that number.
 fn come_back(run: &mut Run, number: u8) {
-    let (mut sense, mut kind) = ([0xA5; 18], [0]);
-    if raw::make_sense(number, &mut sense, &mut []) != 0 {
+    let (mut sense, mut meaning) = ([0xA5; 18], raw::Meaning::default());
+    if raw::make_sense(number, &mut sense, &mut raw::Made::default()) != 0 {
         return;
     }
     let wanted = match number {
@@ -59,11 +59,11 @@ fn come_back(run: &mut Run, number: u8) {
         11 => 3,
         _ => 4,
     };
-    let holds = raw::read_sense(&sense, &mut kind) == 0 && kind == [wanted];
+    let holds = raw::read_sense(&sense, &mut meaning) == 0 && meaning.kind == wanted;
     run.holds(holds, "a kind does not come back", &[Input::Number("number", u64::from(number))]);
 }
 
 fn random(run: &mut Run, random: &mut Random) {
     let number = if random.once_in(2) { random.one_of(&GIVEN) } else { random.byte() };
-    compare(run, number, random.below(64), random.below(3));
+    compare(run, number, random.below(64));
 }

@@ -20,12 +20,11 @@ fn answers() -> Vec<u64> {
     READING.into_iter().chain([29, 49, 50]).collect()
 }
 
-/// How long the lent buffers are: for the copy, the list and the numbers.
+/// How long the lent buffers are: for the copy and the list.
 #[derive(Clone, Copy)]
 struct Rooms {
     copy: usize,
     list: usize,
-    numbers: usize,
 }
 
 /// Compares one mending.
@@ -37,15 +36,15 @@ fn compare(run: &mut Run, response: &[u8], rooms: Rooms) -> u64 {
             Input::Number("room for the copy", rooms.copy as u64),
             Input::Number("room for changes", rooms.list as u64),
         ],
-        Memory::numbers(rooms.numbers).with_buffer(rooms.copy).with_changes(rooms.list),
+        Memory::none().with_buffer(rooms.copy).with_changes(rooms.list),
         |memory| {
             let (copy, list) = (memory.first.part(), memory.changes.part());
-            u64::from(raw::mend(response.proved(), copy, list, memory.numbers.part()))
+            u64::from(memory.told.by(|mended| raw::mend(response.proved(), copy, list, mended)))
         },
         |memory| {
             let made = second::mend::mend(response.plain(), memory.first.part(), memory.changes.part());
             let (length, changes) = made.unwrap_or((0, 0));
-            memory.give(&[length as u64, changes as u64]);
+            memory.told.give(&[length as u64, changes as u64]);
             u64::from(made.err().unwrap_or(0))
         },
     )
@@ -54,7 +53,7 @@ fn compare(run: &mut Run, response: &[u8], rooms: Rooms) -> u64 {
 /// Compares a mending with room enough, and sees by the proved side alone what is promised of it.
 fn see(run: &mut Run, response: &[u8]) {
     let length = response.len();
-    let answer = compare(run, response, Rooms { copy: length, list: length, numbers: 2 });
+    let answer = compare(run, response, Rooms { copy: length, list: length });
     if answer == 0 {
         promised(run, response);
     }
@@ -64,14 +63,15 @@ fn see(run: &mut Run, response: &[u8]) {
 /// a list without a place to spare is enough.
 fn promised(run: &mut Run, response: &[u8]) {
     let (mut copy, mut again) = (vec![0xA5; response.len()], vec![0xA5; response.len()]);
-    let (mut list, mut numbers) = (vec![0; response.len()], [0; 2]);
-    raw::mend(response, &mut copy, &mut list, &mut numbers);
-    let listed: Vec<Change> = list[..numbers[1] as usize].iter().map(|&line| Change::of(line)).collect();
-    let second = raw::mend(&copy, &mut again, &mut [], &mut numbers);
-    let (before, after) = (raw::check_descriptors(response, &mut []), raw::check_descriptors(&copy, &mut []));
+    let (mut list, mut mended) = (vec![0; response.len()], raw::Mended::default());
+    raw::mend(response, &mut copy, &mut list, &mut mended);
+    let listed: Vec<Change> = list[..mended.changes as usize].iter().map(|&line| Change::of(line)).collect();
+    let second = raw::mend(&copy, &mut again, &mut [], &mut mended);
+    let found = |response: &[u8]| raw::check_descriptors(response, &mut raw::Finding::default());
+    let (before, after) = (found(response), found(&copy));
     let holds = listed == changes(response, &copy)
         && undo(&listed, &copy) == response
-        && (second, numbers) == (0, [response.len() as u64, 0])
+        && (second, mended) == (0, raw::Mended { bytes: response.len() as u64, changes: 0 })
         && again == copy
         && [0, 30, 31, 39].contains(&after)
         && (before != 0 || copy == response);
@@ -127,10 +127,8 @@ fn each_two_faults(run: &mut Run) {
     ];
     let good = Asked { copy: bytes.len(), list: stray.len(), bytes };
     each_pair(&good, &faults, &mut |asked, (number, _)| {
-        for numbers in 0..4 {
-            let answer = compare(run, &asked.bytes, Rooms { copy: asked.copy, list: asked.list, numbers });
-            run.expect(answer, u64::from(number));
-        }
+        let answer = compare(run, &asked.bytes, Rooms { copy: asked.copy, list: asked.list });
+        run.expect(answer, u64::from(number));
     });
 }
 
@@ -141,7 +139,7 @@ fn each_room(run: &mut Run) {
     let (bytes, count) = (response_of(0x0012, &stray), stray.len());
     for copy in 0..bytes.len() + 9 {
         for list in [0, count - 1, count, count + 5] {
-            let answer = compare(run, &bytes, Rooms { copy, list, numbers: copy % 4 });
+            let answer = compare(run, &bytes, Rooms { copy, list });
             let wanted = if copy < bytes.len() {
                 49
             } else if list < count {
@@ -153,7 +151,7 @@ fn each_room(run: &mut Run) {
         }
     }
     for list in 0..count + 5 {
-        let answer = compare(run, &bytes, Rooms { copy: bytes.len(), list, numbers: 2 });
+        let answer = compare(run, &bytes, Rooms { copy: bytes.len(), list });
         run.expect(answer, if list < count { 50 } else { 0 });
     }
 }
@@ -242,11 +240,8 @@ fn random(run: &mut Run, random: &mut Random) {
     for _ in 0..8 {
         let mut response = random_ruled(random);
         see(run, &response);
-        let rooms = Rooms {
-            copy: (response.len() + random.below(5)).saturating_sub(2),
-            list: random.below(8),
-            numbers: random.below(4),
-        };
+        let rooms =
+            Rooms { copy: (response.len() + random.below(5)).saturating_sub(2), list: random.below(8) };
         compare(run, &response, rooms);
         damage(random, &mut response);
         see(run, &response);

@@ -17,6 +17,7 @@ mod load;
 mod make_sense;
 mod mend;
 mod most;
+mod next;
 mod place;
 mod read;
 mod read_sense;
@@ -27,6 +28,10 @@ mod respond_image_accepted;
 mod stops;
 mod sweep_start;
 mod sweep_take;
+mod words;
+
+pub(crate) use next::next_fields;
+pub(crate) use words::sentence;
 
 use std::borrow::Cow;
 
@@ -40,21 +45,18 @@ use second::wire::{Feature, Profile};
 
 /// Every function.
 pub const KINDS: &[Kind] = &[
-    check_sheet::ROWS,
-    respond::ROWS,
-    respond_accepted::ROWS,
-    check_sheet::COLUMNS,
-    respond::COLUMNS,
-    respond_accepted::COLUMNS,
-    convert::TO_COLUMNS,
-    convert::TO_ROWS,
-    load::ROWS,
-    load::COLUMNS,
+    words::KIND,
+    check_sheet::KIND,
+    respond::KIND,
+    respond_accepted::KIND,
+    convert::KIND,
+    load::KIND,
     check_image::KIND,
     respond_image::KIND,
     respond_image_accepted::KIND,
     build_command::KIND,
     read::KIND,
+    next::KIND,
     stops::KIND,
     place::KIND,
     held::KIND,
@@ -62,8 +64,7 @@ pub const KINDS: &[Kind] = &[
     most::KIND,
     sweep_start::KIND,
     sweep_take::KIND,
-    bench::ROWS,
-    bench::COLUMNS,
+    bench::KIND,
     check_descriptors::KIND,
     check_profile::KIND,
     mend::KIND,
@@ -71,6 +72,14 @@ pub const KINDS: &[Kind] = &[
     make_sense::KIND,
     read_sense::KIND,
 ];
+
+/// Both layouts.
+const LAYOUTS: [Layout; 2] = [Layout::Rows, Layout::Columns];
+
+/// A layout as the proved side takes it.
+pub(crate) fn columns(layout: Layout) -> bool {
+    layout == Layout::Columns
+}
 
 /// A sheet in rows, good or damaged, as it stands in a layout.
 fn laid(layout: Layout, rows: &[u8]) -> Cow<'_, [u8]> {
@@ -109,7 +118,7 @@ pub(crate) fn handed(record: Record) -> raw::Sweep {
         allocation: record.allocation,
         next: gcf::Feature(record.next.0),
         commands: record.commands,
-        collected: record.collected,
+        collected: record.collected as u64,
         ended: record.ended,
         profile: gcf::Profile(record.profile.0),
     }
@@ -123,7 +132,7 @@ pub(crate) fn proved(step: raw::Step) -> [u64; 8] {
         allocation: sweep.allocation,
         next: Feature(sweep.next.0),
         commands: sweep.commands,
-        collected: sweep.collected,
+        collected: sweep.collected as usize,
         ended: sweep.ended,
         profile: Profile(sweep.profile.0),
     };

@@ -11,7 +11,8 @@ use gcf::raw;
 use second::wire::Feature;
 
 /// It answers a place; of sheet E's response each of these.
-pub const KIND: Kind = Kind { name: "gcf_place", answers: || [8, 20, 28, 36, 40, 44].into_iter().collect(), fixed, random };
+pub const KIND: Kind =
+    Kind { name: "gcf_place", answers: || [8, 20, 28, 36, 40, 44].into_iter().collect(), fixed, random };
 
 /// Compares one place.
 fn compare(run: &mut Run, feature: u16, response: &Given) -> u64 {

@@ -24,15 +24,15 @@ fn made(number: u8) -> Vec<u8> {
 }
 
 /// Compares one reading.
-fn compare(run: &mut Run, bytes: &[u8], numbers: usize) -> u64 {
+fn compare(run: &mut Run, bytes: &[u8]) -> u64 {
     let given = Given::new(bytes);
     run.compare(
         &[Input::Bytes("sense", &given)],
-        Memory::numbers(numbers),
-        |memory| u64::from(raw::read_sense(given.proved(), memory.numbers.part())),
+        Memory::none(),
+        |memory| u64::from(memory.told.by(|meaning| raw::read_sense(given.proved(), meaning))),
         |memory| {
             let read = sense::read(given.plain());
-            memory.give(&[read.map_or(0, |kind| kind as u64 + 1)]);
+            memory.told.give(&[read.map_or(0, |kind| kind as u64 + 1)]);
             u64::from(read.err().unwrap_or(0))
         },
     )
@@ -41,10 +41,8 @@ fn compare(run: &mut Run, bytes: &[u8], numbers: usize) -> u64 {
 fn fixed(run: &mut Run) {
     for number in EACH {
         let bytes = made(number);
-        for numbers in 0..3 {
-            let answer = compare(run, &bytes, numbers);
-            run.expect(answer, 0);
-        }
+        let answer = compare(run, &bytes);
+        run.expect(answer, 0);
         each_length(run, &bytes);
         each_value(run, &bytes);
         each_two_bits(run, bytes);
@@ -56,7 +54,7 @@ fn each_length(run: &mut Run, bytes: &[u8]) {
     let mut longer = bytes.to_vec();
     longer.resize(40, 0);
     for length in 0..=40 {
-        let answer = compare(run, &longer[..length], length % 3);
+        let answer = compare(run, &longer[..length]);
         run.expect(answer, if length == 18 { 0 } else { 46 });
     }
 }
@@ -67,7 +65,7 @@ fn each_value(run: &mut Run, bytes: &[u8]) {
         for value in 0..=255 {
             let mut changed = bytes.to_vec();
             changed[at] = value;
-            compare(run, &changed, 1);
+            compare(run, &changed);
         }
     }
 }
@@ -76,10 +74,10 @@ fn each_value(run: &mut Run, bytes: &[u8]) {
 fn each_two_bits(run: &mut Run, mut bytes: Vec<u8>) {
     for one in 0..8 * bytes.len() {
         bytes[one / 8] ^= 1 << (one % 8);
-        compare(run, &bytes, 1);
+        compare(run, &bytes);
         for two in 0..one {
             bytes[two / 8] ^= 1 << (two % 8);
-            compare(run, &bytes, 1);
+            compare(run, &bytes);
             bytes[two / 8] ^= 1 << (two % 8);
         }
         bytes[one / 8] ^= 1 << (one % 8);
@@ -92,9 +90,9 @@ fn random(run: &mut Run, random: &mut Random) {
         let at = random.below(bytes.len());
         bytes[at] = random.byte();
     }
-    compare(run, &bytes, random.below(3));
+    compare(run, &bytes);
     damage(random, &mut bytes);
-    compare(run, &bytes, random.below(3));
+    compare(run, &bytes);
     let length = random.below(41);
-    compare(run, &random.bytes(length), random.below(3));
+    compare(run, &random.bytes(length));
 }

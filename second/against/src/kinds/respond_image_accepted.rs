@@ -13,7 +13,7 @@ pub const KIND: Kind = Kind {
 };
 
 /// Compares one command, whether the image is accepted or not; gives what the image is refused with, if it is.
-fn compare(run: &mut Run, image: &Given, command: &[u8], room: usize, numbers: usize) -> Told {
+fn compare(run: &mut Run, image: &Given, command: &[u8], room: usize) -> Told {
     let command = Given::new(command);
     let told = run.compare_told(
         &[
@@ -21,14 +21,16 @@ fn compare(run: &mut Run, image: &Given, command: &[u8], room: usize, numbers: u
             Input::Bytes("command", &command),
             Input::Number("room", room as u64),
         ],
-        Memory::numbers(numbers).with_buffer(room),
+        Memory::none().with_buffer(room),
         |memory| {
-            let (response, numbers) = (memory.first.part(), memory.numbers.part());
-            raw::respond_image_accepted(image.proved(), command.proved(), response, numbers)
+            let response = memory.first.part();
+            memory
+                .told
+                .by(|sent| raw::respond_image_accepted(image.proved(), command.proved(), response, sent))
         },
         |memory| {
             let sent = second::rom::respond_checked(image.plain(), command.plain(), memory.first.part());
-            memory.give(&[sent.unwrap_or(0) as u64]);
+            memory.told.give(&[sent.unwrap_or(0) as u64, 0]);
             (sent.err().unwrap_or(0), 0)
         },
     );

@@ -13,15 +13,15 @@ pub const KIND: Kind = Kind { name: "gcf_sweep_start", answers: || vec![0, 21, 2
 fn compare(run: &mut Run, rt: u8, allocation: u16) -> u64 {
     run.compare(
         &[Input::Number("rt", u64::from(rt)), Input::Number("allocation", u64::from(allocation))],
-        Memory::numbers(8),
+        Memory::none(),
         |memory| {
             let step = raw::sweep_start(rt, allocation);
-            memory.give(&proved(step));
+            memory.told.give(&proved(step));
             u64::from(step.refusal.number)
         },
         |memory| {
             let (number, record) = Record::start(rt, allocation);
-            memory.give(&fields(record, 0));
+            memory.told.give(&fields(record, 0));
             u64::from(number)
         },
     )

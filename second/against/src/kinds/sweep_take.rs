@@ -39,15 +39,15 @@ fn compare(run: &mut Run, record: Record, response: &Given, room: usize) -> (u64
             Input::Bytes("response", response),
             Input::Number("room", room as u64),
         ],
-        Memory::numbers(8).with_buffer(room),
+        Memory::none().with_buffer(room),
         |memory| {
             let step = raw::sweep_take(handed(record), response.proved(), memory.first.part());
-            memory.give(&proved(step));
+            memory.told.give(&proved(step));
             u64::from(step.refusal.number)
         },
         |memory| {
             let (number, next) = record.take(response.plain(), memory.first.part());
-            memory.give(&fields(next, 0));
+            memory.told.give(&fields(next, 0));
             after = next;
             u64::from(number)
         },

@@ -4,7 +4,10 @@ use second::command::{full_length, most_bytes, send, Request};
 use second::sheet::{Layout, Sheet};
 use second::wire::Feature;
 
-use super::sheets::{at_edges, body, profiles, random_parts, random_sheet, sheet_of, starts_for, E};
+use super::damage::damage;
+use super::sheets::{
+    at_edges, body, profiles, random_parts, random_sheet, sheet_of, short_sheets, starts_for, E,
+};
 use super::{put32, Part};
 use crate::random::Random;
 
@@ -247,5 +250,34 @@ fn bend(random: &mut Random, part: &mut Part) {
             let at = random.below(body.len());
             body[at] ^= 1 << random.below(8);
         }
+    }
+}
+
+/// What the short sheets send to each RT and several SFNs, cut at each byte, with that RT and SFN and the length of all of it.
+pub fn each_cut_of_what_is_sent(see: &mut dyn FnMut(u8, u16, usize, &[u8])) {
+    for sheet in short_sheets() {
+        for rt in 0..3 {
+            for sfn in starts_for(&sheet, 2) {
+                let response = sent(&sheet, rt, sfn, 65_535);
+                for cut in 0..=response.len() {
+                    see(rt, sfn, response.len(), &response[..cut]);
+                }
+            }
+        }
+    }
+}
+
+/// A made-up response ten times, most times damaged, and the RT and SFN that it is read as, seldom others than it was made for.
+pub fn ten_damaged(random: &mut Random, see: &mut dyn FnMut(&mut Random, u8, u16, &[u8])) {
+    let rt = random.below(3) as u8;
+    let made = random_response(random, rt);
+    for _ in 0..10 {
+        let mut bytes = made.bytes.clone();
+        if !random.once_in(3) {
+            damage(random, &mut bytes);
+        }
+        let rt = if random.once_in(6) { random.below(4) as u8 } else { made.rt };
+        let sfn = if random.once_in(6) { random.near(usize::from(made.sfn)) } else { made.sfn };
+        see(random, rt, sfn, &bytes);
     }
 }

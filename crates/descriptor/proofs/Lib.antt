@@ -1,0 +1,3 @@
+-- Laws that this crate's proofs cite, and those that others cite.
+pub mod Laws
+pub mod Promised

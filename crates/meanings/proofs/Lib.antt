@@ -1,0 +1,4 @@
+-- Laws that this crate's proofs cite, and those that others cite.
+pub mod Laws
+pub mod Joined
+pub mod Promised
