@@ -24,11 +24,7 @@
 #include <stdint.h>
 
 /* The version, and its only place: all else that tells it takes it from here. docs/CHANGES.md says what each one brought. */
-#define GCF_VERSION "0.14.1"
-
-#if SIZE_MAX != UINT64_MAX
-#error "gcf.h: size_t has not 64 bits here, and there is no libgcf.a for such a target."
-#endif
+#define GCF_VERSION "0.15.1"
 
 #ifdef __cplusplus
 extern "C" {

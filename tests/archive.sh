@@ -7,6 +7,7 @@
 # ARCHIVE is it under the name that a program links, libgcf.a. `archive_target` compiles the same code for any processor.
 
 archive_machine=$(uname -m)
+archive_root=$PWD
 archive_kit=${RATTLE_HOME:-$(dirname "$(dirname "$(readlink -f "$(command -v rt)")")")}
 archive_tools=$archive_kit/on/$archive_machine/toolchain
 
@@ -30,14 +31,63 @@ archive_cross_tools() {
 archive_clang=("$archive_tools/bin/clang" --target="$archive_machine-unknown-linux-gnu" --no-default-config -Wno-override-module)
 
 # The same code without what is x86-64's own: the processor that each function names, which a compiler for another one would take for one that can do
-# nothing special; and the mark that a struct comes on the stack, for elsewhere a pointer to it comes, which is what is left. A struct that is given is
-# written where a first pointer says, which needs its mark, since Arm has a register of its own for it, and does not come back. A byte that is returned fills
-# its register with zeros, which RISC-V asks for.
+# nothing special. A struct that is given is written where a first pointer says, which needs its mark, since Arm has a register of its own for it, and does
+# not come back. A byte or a bool that is returned fills its register with zeros, which RISC-V and Arm of 32 bits ask for.
 archive_unnamed() { # FILE OUT
     "${archive_clang[@]}" -S -emit-llvm -Xclang -disable-llvm-passes -x ir "$1" -o "$2" &&
-        sed -i -E -e '/^attributes /s/ "(target-cpu|target-features|tune-cpu)"="[^"]*"//g' -e '/^define /s/ byval\([^)]*\)//g' \
+        sed -i -E -e '/^attributes /s/ "(target-cpu|target-features|tune-cpu)"="[^"]*"//g' \
             -e '/^define noundef ptr @gcf_/,/^}/ { s/^define noundef ptr (@[a-z_]+\(ptr noundef) /define void \1 sret(i8) /; s/^  ret ptr %a0$/  ret void/ }' \
-            -e 's/^define noundef i8 @/define noundef zeroext i8 @/' "$2"
+            -e 's/^define noundef (i1|i8) @/define noundef zeroext \1 @/' "$2"
+}
+
+# What the kit's compiler is called with for a target. Rust's name of a RISC-V microcontroller says what the processor can do, clang's does not.
+archive_flags() { # TRIPLE
+    case $1 in
+    riscv32imac-unknown-none-elf) echo --target=riscv32-unknown-elf -march=rv32imac -mabi=ilp32 ;;
+    *) echo "--target=$1" ;;
+    esac
+}
+
+# Whether a target is a microcontroller, where bytes of code and of stack count.
+archive_is_small() { case $1 in thumbv* | riscv32*) ;; *) return 1 ;; esac; }
+
+# The same code as a target takes it. A struct that is handed over by value has a mark, which on Arm of 32 bits says that its words come one by one, as C there
+# has it; elsewhere a pointer to it comes, which is what is left without the mark. On a microcontroller each function is to be short.
+archive_as() { # TRIPLE
+    case $1 in
+    arm* | thumb*) cat target/own/code.ll ;;
+    *) sed -E '/^define /s/ byval\([^)]*\)//g' target/own/code.ll ;;
+    esac | if archive_is_small "$1"; then sed -E 's/^(attributes #[0-9]+ = \{ nounwind) "/\1 optsize "/'; else cat; fi
+}
+
+# Of LLVM text on standard input, one function with all that it reaches. What it reaches is seen by nobody else, so that the compiler fits it to this one use.
+archive_reached() { # NAME
+    awk -v keep="@$1" '
+        function note(line,    name) {
+            while (match(line, /@("[^"]*"|[A-Za-z0-9_.$]+)/)) {
+                name = substr(line, RSTART, RLENGTH)
+                if (!(name in wanted)) { wanted[name]; todo[++last] = name }
+                line = substr(line, RSTART + RLENGTH)
+            }
+        }
+        {
+            text[NR] = $0
+            if (match($0, /^(define |declare |@)/)) {
+                inside = $0
+                sub(/^[^@]*/, "", inside)
+                match(inside, /^@("[^"]*"|[A-Za-z0-9_.$]+)/)
+                inside = substr(inside, 1, RLENGTH)
+                from[inside] = NR
+            }
+            owner[NR] = inside
+            if (inside != "") to[inside] = NR
+            if ($0 ~ /^(}|declare |@)/) inside = ""
+        }
+        END {
+            note(keep)
+            for (k = 1; k <= last; k++) for (i = from[todo[k]]; i && i <= to[todo[k]]; i++) note(text[i])
+            for (i = 1; i <= NR; i++) if (owner[i] == "" || owner[i] in wanted) print text[i]
+        }'
 }
 
 # What the archive is made from, as one number: the kit, and the code of `abi` and of the crates that it stands on.
@@ -47,7 +97,8 @@ archive_stamp() {
     { rt version && sed -n '/^abi:/p' crates.txt && find "${folders[@]}" -type f -print0 | sort -z | xargs -0 sha256sum; } | sha256sum
 }
 
-# A kit like the one that is there, but for a compiler that also keeps the code it is handed and the words it is called with.
+# A kit like the one that is there, but for a compiler that also keeps the code it is handed, by the name of the crate that rattle, which calls it, compiles, and
+# the words it is called with.
 archive_keeping_kit() { # FOLDER
     local kit=$1/kit part
     rm -rf "$kit" && mkdir -p "$kit/on/$archive_machine/toolchain/bin" || return 1
@@ -57,7 +108,8 @@ archive_keeping_kit() { # FOLDER
     for part in "$archive_tools"/bin/*; do [ "${part##*/}" = clang ] || ln -s "$part" "$kit/on/$archive_machine/toolchain/bin/" || return 1; done
     cat >"$kit/on/$archive_machine/toolchain/bin/clang" <<END
 #!/bin/sh
-for word in "\$@"; do case \$word in *.bc) cp "\$word" "$1/abi.bc" && printf '%s\\n' "\$@" >"$1/words" ;; esac; done
+crate=\$(tr '\\0' '\\n' </proc/\$PPID/cmdline | sed -n '/^--crate-name\$/{n;p;q}')
+for word in "\$@"; do case \$word in *.bc) cp "\$word" "$1/\$crate.bc" && printf '%s\\n' "\$@" >"$1/\$crate.words" ;; esac; done
 exec "$archive_tools/bin/clang" "\$@"
 END
     chmod +x "$kit/on/$archive_machine/toolchain/bin/clang"
@@ -67,7 +119,7 @@ archive_built() { # FOLDER
     (set -o pipefail && RATTLE_HOME=$1/kit rt staticlib abi 2>&1 | tee "$1/log" | { [ "${archive_tell[0]}" != cat ] || exec >/dev/null; "${archive_tell[@]}"; })
 }
 
-# The archive and its code, once for each stamp, whoever asks first: rt over that kit leaves target/staticlib/libabi.a, target/own/abi.bc and target/own/words.
+# The archive and its code, once for each stamp, whoever asks first: rt over that kit leaves target/staticlib/libabi.a, target/own/abi.bc and target/own/abi.words.
 # One at a time, and not beside a gcf or an ./install that builds: two of rt in one folder are not safe.
 archive_made() {
     local here=$PWD/target/own
@@ -75,18 +127,41 @@ archive_made() {
     (
         flock 7 || exit 1
         stamp=$(archive_stamp)
-        [ ! -f target/staticlib/libabi.a ] || [ "$stamp" != "$(cat "$here/stamp" 2>/dev/null)" ] || exit 0
-        rm -f "$here/stamp" "$here/abi.bc" "$here/abi.ll"
+        [ ! -f target/staticlib/libabi.a ] || [ ! -f "$here/abi.words" ] || [ "$stamp" != "$(cat "$here/stamp" 2>/dev/null)" ] || exit 0
+        rm -f "$here/stamp" "$here/abi.bc" "$here/code.ll"
         archive_keeping_kit "$here" && archive_built "$here" && [ -f "$here/abi.bc" ] && printf '%s\n' "$stamp" >"$here/stamp"
     ) 7>target/gcf.lock
 }
 
-# The same code without the processor that it names: target/own/abi.ll.
+# The same code without the processor that it names: target/own/code.ll.
 archive_ll() {
     local here=$PWD/target/own part
     archive_made || return 1
-    [ ! -f "$here/abi.ll" ] || return 0
-    part=$(mktemp "$here/abi.ll.XXXXXXXX") && archive_unnamed "$here/abi.bc" "$part" >>"$here/log" 2>&1 && mv "$part" "$here/abi.ll"
+    [ ! -f "$here/code.ll" ] || return 0
+    part=$(mktemp "$here/code.ll.XXXXXXXX") && archive_unnamed "$here/abi.bc" "$part" >>"$here/log" 2>&1 && mv "$part" "$here/code.ll"
+}
+
+# The exported functions.
+archive_exported() { sed -nE 's/^define [^@]*@(gcf_[a-z_]+)\(.*/\1/p' target/own/code.ll; }
+
+# How a microcontroller's code is compiled: for size, but with calls taken in as for speed. That is shorter here, and halves the stack: what is handed to a call
+# stands in memory, and what is taken in does not.
+archive_small_words=(-Os -mllvm -inline-threshold=225 -ffunction-sections -fdata-sections)
+
+# It compiled for a microcontroller, as FOLDER/libgcf.a, a member for each function: a program takes the members that it calls, and in each what that function
+# reaches is fitted to it. The members stay beside it, as FOLDER/NAME.o, with the frames of each as FOLDER/NAME.su.
+archive_small() { # TRIPLE FOLDER
+    local name compiler=("$archive_tools/bin/clang" $(archive_flags "$1") --no-default-config -Wno-override-module "${archive_small_words[@]}" -fstack-usage)
+    archive_ll && archive_as "$1" >"$2/all.ll" || return 1
+    for name in $(archive_exported); do
+        archive_reached "$name" <"$2/all.ll" | "${compiler[@]}" -c -x ir - -o "$2/$name.o" || return 1
+    done
+    "$archive_tools/bin/llvm-ar" crs "$2/libgcf.a" "$2"/gcf_*.o
+}
+
+# What an archive or an object asks of others. The kit's compiler is all of LLVM's tools, by the name that it is called.
+archive_asked() { # FILE
+    (exec -a llvm-nm "$archive_tools/bin/clang" -u --just-symbol-name "$1" 2>/dev/null) | sed -n '/^[^ :]*$/p' | sed '/^$/d' | sort -u
 }
 
 # It compiled for a processor, as FOLDER/libgcf.a. The archive that rt makes is taken as it is for x86-64 Linux. It is put in its place whole, since tests that link
@@ -96,14 +171,42 @@ archive_target() { # TRIPLE FOLDER
     mkdir -p "$2" && part=$(mktemp -d "$2/part.XXXXXXXX") || return 1
     if [ "$1" = x86_64-unknown-linux-gnu ]; then
         archive_made && cp target/staticlib/libabi.a "$part/libgcf.a" || return 1
+    elif archive_is_small "$1"; then
+        archive_small "$1" "$part" >"$log" 2>&1 || return 1
     else
         archive_ll || return 1
         # blocks that are jumped to begin at 16 bytes: what a loop takes would else hang, by a seventh, on what stands before it
-        "$archive_tools/bin/clang" --target="$1" --no-default-config -Wno-override-module -O3 -fPIC -ffunction-sections -fdata-sections \
-            -mllvm -align-all-nofallthru-blocks=4 -c -x ir target/own/abi.ll -o "$part/gcf.o" >"$log" 2>&1 || return 1
+        archive_as "$1" | "$archive_tools/bin/clang" $(archive_flags "$1") --no-default-config -Wno-override-module -O3 -fPIC -ffunction-sections -fdata-sections \
+            -mllvm -align-all-nofallthru-blocks=4 -c -x ir - -o "$part/gcf.o" >"$log" 2>&1 || return 1
         "$archive_tools/bin/llvm-ar" crs "$part/libgcf.a" "$part/gcf.o" || return 1
     fi
     mv "$part/libgcf.a" "$2/libgcf.a" && rm -r "$part"
+}
+
+# The code of programs, as target/own/NAME.bc. rt builds a program once, and one that it has built without that compiler it builds again.
+archive_programs() { # NAME..
+    local here=$PWD/target/own
+    mkdir -p "$here" || return 1
+    (
+        flock 7 || exit 1
+        again=()
+        for name in "$@"; do
+            [ -f "$here/$name.bc" ] && cmp -s "target/stamp/$name" "$here/$name.stamp" || again+=("$name")
+        done
+        [ ${#again[@]} != 0 ] || exit 0
+        for name in "${again[@]}"; do rm -f "target/stamp/$name" "$here/$name.bc"; done
+        archive_keeping_kit "$here" && RATTLE_HOME=$here/kit rt check "${again[@]}" || exit 1
+        for name in "${again[@]}"; do [ -f "$here/$name.bc" ] && cp "target/stamp/$name" "$here/$name.stamp" || exit 1; done
+    ) 7>target/gcf.lock
+}
+
+# One of them compiled and linked for Arm, with what it calls. It needs no C library, and nothing of the kit.
+archive_native() { # NAME OUT
+    local here=$PWD/target/own compiler=("$archive_tools/bin/clang" --target=aarch64-unknown-linux-gnu --no-default-config -Wno-override-module -O3)
+    archive_unnamed "$here/$1.bc" "$here/$1.ll" &&
+        "${compiler[@]}" -ffunction-sections -fdata-sections -c -x ir "$here/$1.ll" -o "$here/$1.o" &&
+        "${compiler[@]}" -std=c99 -Wall -Wextra -Werror -ffreestanding -fno-builtin -c "$archive_root/native/start.c" -o "$here/$1.start.o" &&
+        "$archive_tools/bin/ld.lld" --gc-sections "$here/$1.start.o" "$here/$1.o" -o "$2"
 }
 
 # That code as text for x86-64, compiled by the words that made the archive, with the frame of each function: target/own/abi.s and target/own/abi.su.
@@ -117,7 +220,7 @@ archive_text() {
         *.o) word=$here/abi.s ;;
         esac
         words+=("$word")
-    done <"$here/words"
+    done <"$here/abi.words"
     "$archive_tools/bin/clang" "${words[@]}" -fstack-usage >>"$here/log" 2>&1
 }
 

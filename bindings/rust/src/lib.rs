@@ -60,7 +60,7 @@
 extern crate std;
 
 #[cfg(not(target_pointer_width = "64"))]
-compile_error!("there is no libgcf.a for a target whose usize has not 64 bits");
+compile_error!("these bindings are for targets whose usize has 64 bits, and were tried on no other");
 
 mod drive;
 mod driver;
