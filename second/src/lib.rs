@@ -9,6 +9,7 @@ pub mod fast;
 pub mod fewest;
 pub mod find;
 pub mod import;
+pub mod judge;
 pub mod lister;
 pub mod load;
 pub mod mend;

@@ -7,6 +7,7 @@ pub mod Listings
 pub mod Steps
 pub mod Sweeping
 pub mod Following
+pub mod Judging
 pub mod Fewest
 pub mod Checking
 pub mod Bodies

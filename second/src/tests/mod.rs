@@ -5,6 +5,7 @@ mod cross;
 mod fast;
 mod fewest;
 mod import;
+mod judge;
 mod load;
 mod mend;
 mod places;

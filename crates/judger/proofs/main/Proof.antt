@@ -1,0 +1,13 @@
+-- `judger::main` lends its array as it is. Assumes nothing.
+use mathlib.Core.Path.{sym}
+use Prim.Native.Nat.{ℕ}
+use lib.ListN.{length-replicate}
+use borrow.Author.Needs.{needs}
+use Rattle.judger.proofs.main.Statement.{statement}
+use Rattle.judger.proofs.main.Tie as tie
+
+slice-aggregate-judge-input : tie.Need-slice-aggregate-judge-input
+slice-aggregate-judge-input c = sym (length-replicate {A = ℕ} 1048577 0)
+
+pub main-spec : {M : Type 1} → statement M
+main-spec = tie.close (tie.spec slice-aggregate-judge-input (λ c κs. search needs) (λ c κs. search needs) (λ c. search needs))
