@@ -13,11 +13,8 @@ use layout::Layout;
 use lent::Made;
 use text::Header;
 
-// The longest sheet that is taken: the stack has room for it, but not for the 17,039,356 bytes that a sheet may have.
-const MOST: usize = 1048576;
-
-// One byte more: an input that fills it is too long, and is not shortened.
-const ROOM: usize = MOST + 1;
+// The argument that is given, and is 0, where there is a stack for the longest sheet.
+const LONG: usize = 8;
 
 // The argument that has all bytes of the command.
 const COMMAND: usize = 5;
@@ -78,15 +75,33 @@ fn answer_input(input: &mut [u8]) {
         return;
     }
     let count = got.count;
-    if count > MOST {
-        sheets::say_too_long();
+    if count == input.len() {
+        sheets::say_too_long(count);
         return;
     }
     answer(&input[..count]);
 }
 
-fn main() {
-    let mut input = [0u8; ROOM];
+fn serve() {
+    let mut input = [0u8; sheets::SHORT + 1];
     answer_input(&mut input);
     streams::mark_end();
+}
+
+// The same with memory for the longest sheet, which takes a larger stack, and then so many times more: that it may call itself keeps the compiler from making this memory a part of main's.
+fn serve_long(again: u16) {
+    let mut input = [0u8; sheets::LONGEST + 1];
+    answer_input(&mut input);
+    streams::mark_end();
+    if again > 0 {
+        serve_long(again - 1);
+    }
+}
+
+fn main() {
+    if streams::given(LONG) {
+        serve_long(streams::arg(LONG));
+        return;
+    }
+    serve();
 }

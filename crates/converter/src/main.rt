@@ -12,11 +12,8 @@ ghost use Rattle.sheet.specs.Check.{verdict};
 use layout::Layout;
 use lent::Made;
 
-// The longest sheet that is taken, as for an answer.
-const MOST: usize = 1048576;
-
-// One byte more: an input that fills it is too long, and is not shortened.
-const ROOM: usize = MOST + 1;
+// The argument that is given, and is 0, where there is a stack for the longest sheet.
+const LONG: usize = 2;
 
 // The sheet laid out anew, whole where the buffer is as long as the sheet: no sheet that is taken is longer, so that 42 is never given.
 fn laid_out(to: Layout, lay: Layout, sheet: &[u8], out: &mut [u8]) -> Made
@@ -54,16 +51,35 @@ fn convert_input(input: &mut [u8], out: &mut [u8]) {
         return;
     }
     let count = got.count;
-    if count > MOST {
-        sheets::say_too_long();
+    if count == input.len() {
+        sheets::say_too_long(count);
         return;
     }
     convert_sheet(&input[..count], out);
 }
 
-fn main() {
-    let mut input = [0u8; ROOM];
-    let mut out = [0u8; MOST];
+fn serve() {
+    let mut input = [0u8; sheets::SHORT + 1];
+    let mut out = [0u8; sheets::SHORT];
     convert_input(&mut input, &mut out);
     streams::mark_end();
+}
+
+// The same with memory for the longest sheet, which takes a larger stack, and then so many times more: that it may call itself keeps the compiler from making this memory a part of main's.
+fn serve_long(again: u16) {
+    let mut input = [0u8; sheets::LONGEST + 1];
+    let mut out = [0u8; sheets::LONGEST];
+    convert_input(&mut input, &mut out);
+    streams::mark_end();
+    if again > 0 {
+        serve_long(again - 1);
+    }
+}
+
+fn main() {
+    if streams::given(LONG) {
+        serve_long(streams::arg(LONG));
+        return;
+    }
+    serve();
 }

@@ -11,11 +11,8 @@ use streams::say;
 use streams::say_decimal;
 use text::Header;
 
-// The longest sheet that is taken: the stack has room for it, but not for the 17,039,356 bytes that a sheet may have.
-const MOST: usize = 1048576;
-
-// One byte more: an input that fills it is too long, and is not shortened.
-const ROOM: usize = MOST + 1;
+// The argument that is given, and is 0, where there is a stack for the longest sheet.
+const LONG: usize = 4;
 
 // The argument that names the file; the one that says whether it is in columns; the one that says how many exchanges there are.
 const FILE: usize = 1;
@@ -241,15 +238,33 @@ fn judge_input(input: &mut [u8]) {
         return;
     }
     let count = got.count;
-    if count > MOST {
-        sheets::say_too_long();
+    if count == input.len() {
+        sheets::say_too_long(count);
         return;
     }
     judge_all(sheets::layout_given(COLUMNS), &input[..count]);
 }
 
-fn main() {
-    let mut input = [0u8; ROOM];
+fn serve() {
+    let mut input = [0u8; sheets::SHORT + 1];
     judge_input(&mut input);
     streams::mark_end();
+}
+
+// The same with memory for the longest sheet, which takes a larger stack, and then so many times more: that it may call itself keeps the compiler from making this memory a part of main's.
+fn serve_long(again: u16) {
+    let mut input = [0u8; sheets::LONGEST + 1];
+    judge_input(&mut input);
+    streams::mark_end();
+    if again > 0 {
+        serve_long(again - 1);
+    }
+}
+
+fn main() {
+    if streams::given(LONG) {
+        serve_long(streams::arg(LONG));
+        return;
+    }
+    serve();
 }

@@ -1,6 +1,6 @@
 // Reads a drive sheet from standard input and writes it as a medium leaves it, in the layout that it has, to standard output. A refusal is a line on standard
-// error, which names the listed number at fault, and nothing is written then. Arguments: given where the sheet is in columns; how many features are listed, these,
-// and then the profiles.
+// error, which names the listed number at fault, and nothing is written then. Arguments: given where the sheet is in columns; how many features are listed; whether there is a stack for the longest sheet;
+// the features, and then the profiles.
 ghost use mathlib.Core.Path.{_≡_};
 ghost use Prim.Native.Nat.{_≤_};
 ghost use lib.ListN.{length};
@@ -16,11 +16,8 @@ use refusal::Refusal;
 use text::Feature;
 use text::Profile;
 
-// The longest sheet that is taken, as for an answer.
-const MOST: usize = 1048576;
-
-// One byte more: an input that fills it is too long, and is not shortened.
-const ROOM: usize = MOST + 1;
+// The argument that is given, and is 0, where there is a stack for the longest sheet.
+const LONG: usize = 3;
 
 // The most numbers in both lists; the front-end passes no more.
 const LISTED: usize = 65536;
@@ -149,16 +146,16 @@ fn load_sheet(lay: Layout, sheet: &[u8], features: &[u16], profiles: &[u16], out
     streams::say(&out[..count]);
 }
 
-// The numbers of both lists, from the third argument on, as far as there is room: how many they are.
+// The numbers of both lists, from the fourth argument on, as far as there is room: how many they are.
 fn take_lists(lists: &mut [u16]) -> usize
     ensures { λ r. ⌜ Counts r (now (lists .exit)) ⌝ }
 {
     let mut i = 0;
     while i < lists.len() {
-        if os::arg_count() <= i + 3 {
+        if os::arg_count() <= i + 4 {
             return i;
         }
-        lists[i] = streams::arg(i + 3);
+        lists[i] = streams::arg(i + 4);
         i += 1;
     }
     i
@@ -179,18 +176,38 @@ fn load_input(input: &mut [u8], lists: &mut [u16], out: &mut [u8]) {
         return;
     }
     let count = got.count;
-    if count > MOST {
-        sheets::say_too_long();
+    if count == input.len() {
+        sheets::say_too_long(count);
         return;
     }
     let listed = take_lists(lists);
     load_listed(&input[..count], &lists[..listed], out);
 }
 
-fn main() {
-    let mut input = [0u8; ROOM];
+fn serve() {
+    let mut input = [0u8; sheets::SHORT + 1];
     let mut lists = [0u16; LISTED];
-    let mut out = [0u8; MOST];
+    let mut out = [0u8; sheets::SHORT];
     load_input(&mut input, &mut lists, &mut out);
     streams::mark_end();
+}
+
+// The same with memory for the longest sheet, which takes a larger stack, and then so many times more: that it may call itself keeps the compiler from making this memory a part of main's.
+fn serve_long(again: u16) {
+    let mut input = [0u8; sheets::LONGEST + 1];
+    let mut lists = [0u16; LISTED];
+    let mut out = [0u8; sheets::LONGEST];
+    load_input(&mut input, &mut lists, &mut out);
+    streams::mark_end();
+    if again > 0 {
+        serve_long(again - 1);
+    }
+}
+
+fn main() {
+    if streams::given(LONG) {
+        serve_long(streams::arg(LONG));
+        return;
+    }
+    serve();
 }

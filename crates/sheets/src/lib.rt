@@ -3,6 +3,24 @@ use layout::Layout;
 use libc::STDERR_FILENO;
 use refusal::Refusal;
 
+// ---- how long it may be
+
+// The most bytes that a sheet can have: 65,535 entries with bodies of 252 bytes, and 63 profiles.
+pub const LONGEST: usize = 17039356;
+
+// The most that fit, twice, into the stack that a system gives a program.
+pub const SHORT: usize = 1048576;
+
+// Of a sheet that fills its memory, which has one byte more than are taken: so that it is not shortened.
+pub fn say_too_long(room: usize) {
+    streams::mark_fault();
+    say(b"the sheet has ");
+    streams::say_decimal_to(STDERR_FILENO, room as u64);
+    say(b" bytes or more, more than are taken here\n");
+}
+
+// ---- how it is laid out
+
 // How the sheet that is read is laid out: in columns where this argument is given.
 pub fn layout_given(i: usize) -> Layout {
     if streams::given(i) {
@@ -84,9 +102,4 @@ pub fn say_refused(refusal: Refusal, lay: Layout, sheet: &[u8]) {
     streams::mark_fault();
     say_line(refusal, lay, sheet);
     hint(lay, sheet);
-}
-
-pub fn say_too_long() {
-    streams::mark_fault();
-    say(b"the sheet has over 1,048,576 bytes, more than are taken here\n");
 }

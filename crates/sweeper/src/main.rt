@@ -2,17 +2,16 @@
 // the collected descriptors are to be written as one response, whether the sheet is in columns, whether the commands are told, and how many bytes each has.
 use command::Command;
 use layout::Layout;
+use libc::STDERR_FILENO;
 use streams::say;
 use streams::say_decimal;
+use sweep::Sweep;
 use text::Feature;
 use text::Header;
 use text::Profile;
 
-// The longest sheet that is taken, as for an answer; no more bytes than it has can be collected from it.
-const MOST: usize = 1048576;
-
-// One byte more: an input that fills it is too long, and is not shortened.
-const ROOM: usize = MOST + 1;
+// The argument that is given, and is 0, where there is a stack for the longest sheet.
+const LONG: usize = 8;
 
 // No sweep has more commands.
 const STARTS: usize = 65536;
@@ -54,8 +53,43 @@ fn tell_command(rt: u8, start: Feature, a: u16) {
     say_command(fields::part(&command, 0, made.count));
 }
 
+// What a round is asked for: how many bytes the box sends, and where the sweep has got to behind them.
+struct Round {
+    count: usize,
+    place: Place,
+}
+
+fn first_place(lay: Layout, sheet: &[u8], rt: u8) -> Place {
+    Place {
+        from: 0,
+        left: responder::size(lay, sheet, rt, Feature(0)),
+    }
+}
+
 // A round of the bench sweep: the box is asked again, and gives the same bytes. It is told where the request starts and how much is left, so that it does not count that
 // anew for each round.
+fn ask(
+    lay: Layout,
+    sheet: &[u8],
+    rt: u8,
+    start: Feature,
+    a: u16,
+    place: Place,
+    response: &mut [u8],
+) -> Round {
+    let n = layout::feature_count(sheet);
+    let from = sheet::next_from(lay, sheet, n, start, place.from);
+    let reply = responder::send_sized(lay, sheet, rt, start, a, from, place.left, response);
+    let reading = reading::read(rt, start, fields::part(response, 0, reply.count));
+    Round {
+        count: reply.count,
+        place: Place {
+            from: from,
+            left: left_behind(place.left, reading.end),
+        },
+    }
+}
+
 fn say_round(
     lay: Layout,
     sheet: &[u8],
@@ -66,16 +100,9 @@ fn say_round(
     response: &mut [u8],
 ) -> Place {
     tell_command(rt, start, a);
-    let n = layout::feature_count(sheet);
-    let from = sheet::next_from(lay, sheet, n, start, place.from);
-    let reply = responder::send_sized(lay, sheet, rt, start, a, from, place.left, response);
-    let got = fields::part(response, 0, reply.count);
-    told::say_round(rt, start, got);
-    let reading = reading::read(rt, start, got);
-    Place {
-        from: from,
-        left: left_behind(place.left, reading.end),
-    }
+    let round = ask(lay, sheet, rt, start, a, place, response);
+    told::say_round(rt, start, fields::part(response, 0, round.count));
+    round.place
 }
 
 // A line for each start that was noted.
@@ -88,10 +115,7 @@ fn say_rounds(
     commands: u32,
     response: &mut [u8],
 ) {
-    let mut place = Place {
-        from: 0,
-        left: responder::size(lay, sheet, rt, Feature(0)),
-    };
+    let mut place = first_place(lay, sheet, rt);
     let mut i = 0;
     while i < starts.len() {
         if commands as usize <= i {
@@ -120,12 +144,72 @@ fn say_fewest(commands: u32) {
     say(b"\n");
 }
 
+// A sweep on its way to the round that is refused, and whether that was said.
+struct Way {
+    place: Place,
+    sweep: Sweep,
+    said: bool,
+}
+
+// One round more of it: where it is refused, the number with the byte and the feature of the descriptor that the command has no room for.
+fn walk_on(
+    lay: Layout,
+    sheet: &[u8],
+    rt: u8,
+    a: u16,
+    way: Way,
+    response: &mut [u8],
+    collected: &mut [u8],
+) -> Way {
+    let sweep = way.sweep;
+    let start = sweep.next;
+    let place = way.place;
+    let round = ask(lay, sheet, rt, start, a, place, response);
+    let got = fields::part(response, 0, round.count);
+    let step = sweep.take(got, collected);
+    let refusal = step.refusal;
+    if refusal.number != 0 {
+        grounds::say_refused(STDERR_FILENO, rt, start, text::most(a), refusal, got);
+    }
+    let place = round.place;
+    let taken = step.sweep;
+    Way {
+        place: place,
+        sweep: taken,
+        said: refusal.number != 0,
+    }
+}
+
+// Says where a sweep is refused by 23: the box is asked again, up to that round.
+fn say_cut(lay: Layout, sheet: &[u8], rt: u8, a: u16, response: &mut [u8], collected: &mut [u8]) {
+    let begun = Sweep::start(rt, a);
+    let sweep = begun.sweep;
+    let mut way = Way {
+        place: first_place(lay, sheet, rt),
+        sweep: sweep,
+        said: false,
+    };
+    let mut i = 0;
+    while i < STARTS {
+        if way.said {
+            return;
+        }
+        way = walk_on(lay, sheet, rt, a, way, response, collected);
+        i += 1;
+    }
+}
+
 fn sweep(sheet: &[u8], response: &mut [u8], collected: &mut [u8], starts: &mut [u16]) {
     let rt = asked::rt();
     let a = streams::arg(3);
     let lay = sheets::layout_given(5);
     let benched = bench::bench(lay, sheet, rt, a, response, collected, starts);
     let refusal = benched.refusal;
+    if refusal.number == refusal::NONE_WHOLE.number {
+        streams::mark_fault();
+        say_cut(lay, sheet, rt, a, response, collected);
+        return;
+    }
     if refusal.number != 0 {
         sheets::say_refused(refusal, lay, sheet);
         return;
@@ -146,18 +230,38 @@ fn sweep_input(input: &mut [u8], collected: &mut [u8], starts: &mut [u16]) {
         return;
     }
     let count = got.count;
-    if count > MOST {
-        sheets::say_too_long();
+    if count == input.len() {
+        sheets::say_too_long(count);
         return;
     }
     let mut response = [0u8; Header::RETURN_LIMIT];
     sweep(&input[..count], &mut response, collected, starts);
 }
 
-fn main() {
-    let mut input = [0u8; ROOM];
-    let mut collected = [0u8; MOST];
+fn serve() {
+    let mut input = [0u8; sheets::SHORT + 1];
+    let mut collected = [0u8; sheets::SHORT];
     let mut starts = [0u16; STARTS];
     sweep_input(&mut input, &mut collected, &mut starts);
     streams::mark_end();
+}
+
+// The same with memory for the longest sheet, which takes a larger stack, and then so many times more: that it may call itself keeps the compiler from making this memory a part of main's.
+fn serve_long(again: u16) {
+    let mut input = [0u8; sheets::LONGEST + 1];
+    let mut collected = [0u8; sheets::LONGEST];
+    let mut starts = [0u16; STARTS];
+    sweep_input(&mut input, &mut collected, &mut starts);
+    streams::mark_end();
+    if again > 0 {
+        serve_long(again - 1);
+    }
+}
+
+fn main() {
+    if streams::given(LONG) {
+        serve_long(streams::arg(LONG));
+        return;
+    }
+    serve();
 }

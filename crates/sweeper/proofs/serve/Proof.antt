@@ -1,10 +1,10 @@
--- `sweeper::main` lends its arrays as they are. Assumes nothing.
+-- `sweeper::serve` lends its arrays as they are. Assumes nothing.
 use mathlib.Core.Path.{sym}
 use Prim.Native.Nat.{ℕ}
 use lib.ListN.{length-replicate}
 use borrow.Author.Needs.{needs}
-use Rattle.sweeper.proofs.main.Statement.{statement}
-use Rattle.sweeper.proofs.main.Tie as tie
+use Rattle.sweeper.proofs.serve.Statement.{statement}
+use Rattle.sweeper.proofs.serve.Tie as tie
 
 slice-aggregate-sweep-input : tie.Need-slice-aggregate-sweep-input
 slice-aggregate-sweep-input c = sym (length-replicate {A = ℕ} 1048577 0)
@@ -15,7 +15,7 @@ slice-aggregate-sweep-input-2 c = sym (length-replicate {A = ℕ} 1048576 0)
 slice-aggregate-sweep-input-3 : tie.Need-slice-aggregate-sweep-input-3
 slice-aggregate-sweep-input-3 c = sym (length-replicate {A = ℕ} 65536 0)
 
-pub main-spec : {M : Type 1} → statement M
-main-spec =
+pub serve-spec : {M : Type 1} → statement M
+serve-spec =
     tie.close
     (tie.spec slice-aggregate-sweep-input slice-aggregate-sweep-input-2 slice-aggregate-sweep-input-3 (λ c κs. search needs) (λ c κs. search needs) (λ c. search needs))

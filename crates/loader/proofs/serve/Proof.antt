@@ -1,10 +1,10 @@
--- `loader::main` lends its arrays as they are. Assumes nothing.
+-- `loader::serve` lends its arrays as they are. Assumes nothing.
 use mathlib.Core.Path.{sym}
 use Prim.Native.Nat.{ℕ}
 use lib.ListN.{length-replicate}
 use borrow.Author.Needs.{needs}
-use Rattle.loader.proofs.main.Statement.{statement}
-use Rattle.loader.proofs.main.Tie as tie
+use Rattle.loader.proofs.serve.Statement.{statement}
+use Rattle.loader.proofs.serve.Tie as tie
 
 slice-aggregate-load-input : tie.Need-slice-aggregate-load-input
 slice-aggregate-load-input c = sym (length-replicate {A = ℕ} 1048577 0)
@@ -15,5 +15,5 @@ slice-aggregate-load-input-2 c = sym (length-replicate {A = ℕ} 65536 0)
 slice-aggregate-load-input-3 : tie.Need-slice-aggregate-load-input-3
 slice-aggregate-load-input-3 c = sym (length-replicate {A = ℕ} 1048576 0)
 
-pub main-spec : {M : Type 1} → statement M
-main-spec = tie.close (tie.spec slice-aggregate-load-input slice-aggregate-load-input-2 slice-aggregate-load-input-3 (λ c κs. search needs) (λ c κs. search needs) (λ c. search needs))
+pub serve-spec : {M : Type 1} → statement M
+serve-spec = tie.close (tie.spec slice-aggregate-load-input slice-aggregate-load-input-2 slice-aggregate-load-input-3 (λ c κs. search needs) (λ c κs. search needs) (λ c. search needs))
