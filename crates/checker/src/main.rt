@@ -1,6 +1,7 @@
 // Reads a response from standard input and says in words what is wrong with its descriptors, and whether it has what a profile requires: the
 // one that is asked for, else each listed one that has a table. The archive subset, 0000h, is judged only where it is asked for. Of a response that is refused it says
-// only why. Arguments: RT, starting feature number, allocation length (`asked`), profile, whether hexadecimal text is read, whether padding is trimmed, and whether all faults are said.
+// only why. Arguments: RT, starting feature number, allocation length (`asked`), profile, whether hexadecimal text is read, whether padding is trimmed, whether all faults are said, and whether only the profile is
+// judged.
 use checks::Finding;
 use checks::rules;
 use libc::STDOUT_FILENO;
@@ -20,6 +21,9 @@ const HEX: usize = 5;
 
 // The argument that says whether all faults are said.
 const ALL: usize = 7;
+
+// The one that says whether only the profile is judged: its descriptors were told before.
+const PROFILE_ALONE: usize = 8;
 
 // ---- words
 
@@ -142,6 +146,9 @@ fn say_faults(finding: Finding, s: &[u8]) {
 }
 
 fn say_descriptors(finding: Finding, s: &[u8]) {
+    if streams::given(PROFILE_ALONE) {
+        return;
+    }
     let refusal = finding.refusal;
     if refusal.number == 0 {
         say(b"descriptors: no fault\n");
@@ -171,9 +178,28 @@ fn say_broken(profile: Profile, feature: Feature, wrong: Wrong) {
     say_wrong(wrong);
 }
 
+// A response of one descriptor, the longest that there is.
+const ALONE: usize = Header::LENGTH + 4 + 255;
+
+// What is wrong with the feature at a place, whatever the others have: in a response of its own, so that they are not read.
+fn judged_alone(profile: Profile, feature: Feature, s: &[u8], at: usize) -> Judgement {
+    let length = reading::length_at(s, at);
+    let mut alone = [0u8; ALONE];
+    lent::put4(&mut alone, 0, 8 + length as u32);
+    lent::copy(
+        &mut alone,
+        Header::LENGTH,
+        fields::part(s, at, reading::next_at(s, at)),
+    );
+    needs::check_feature(
+        profile,
+        feature,
+        fields::part(&alone, 0, 12 + length as usize),
+    )
+}
+
 // A line for a feature if it breaks a profile.
-fn say_if_broken(profile: Profile, feature: Feature, s: &[u8]) {
-    let judgement = needs::check_feature(profile, feature, s);
+fn say_if_broken(profile: Profile, judgement: Judgement) {
     if let Judgement::Broken(broken, wrong) = judgement {
         say_broken(profile, broken, wrong);
     }
@@ -202,11 +228,11 @@ fn is_bodied(feature: Feature, s: &[u8], at: usize) -> bool {
 // need no look at the response.
 fn say_if_judged(profile: Profile, feature: Feature, s: &[u8], at: usize) {
     if is_bodied(feature, s, at) {
-        say_if_broken(profile, feature, s);
+        say_if_broken(profile, judged_alone(profile, feature, s, at));
         return;
     }
     if asks(profile, feature) {
-        say_if_broken(profile, feature, s);
+        say_if_broken(profile, needs::check_feature(profile, feature, s));
     }
 }
 
@@ -274,6 +300,21 @@ fn has_table(profile: Profile) -> bool {
     }
 }
 
+// Whether a profile in the body of a descriptor of feature 0 stands there before too.
+fn is_repeated(descriptor: &[u8], at: usize) -> bool {
+    let mut before: usize = 4;
+    while before < descriptor.len() {
+        if at <= before {
+            return false;
+        }
+        if fields::get2(descriptor, before) == fields::get2(descriptor, at) {
+            return true;
+        }
+        before += 4;
+    }
+    false
+}
+
 // A line for a listed profile if it has a table, and whether there is a line by now. No drive may list 0000h (finding 39), so it asks for no archive subset.
 fn say_if_table(profile: Profile, s: &[u8], said: bool) -> bool {
     if profile.0 == 0 {
@@ -286,12 +327,20 @@ fn say_if_table(profile: Profile, s: &[u8], said: bool) -> bool {
     true
 }
 
-// A line for each profile in the body of a descriptor of feature 0 that has a table, and whether there is one.
+// The same of the one at a place in the body of a descriptor of feature 0, once if it is listed more than once.
+fn say_if_first(descriptor: &[u8], at: usize, s: &[u8], said: bool) -> bool {
+    if is_repeated(descriptor, at) {
+        return said;
+    }
+    say_if_table(Profile(fields::get2(descriptor, at)), s, said)
+}
+
+// A line for each profile there that has a table, and whether there is one.
 fn say_each(descriptor: &[u8], s: &[u8]) -> bool {
     let mut said = false;
     let mut at: usize = 4;
     while at < descriptor.len() {
-        said = say_if_table(Profile(fields::get2(descriptor, at)), s, said);
+        said = say_if_first(descriptor, at, s, said);
         at += 4;
     }
     said
