@@ -24,7 +24,7 @@
 #include <stdint.h>
 
 /* The version, and its only place: all else that tells it takes it from here. docs/CHANGES.md says what each one brought. */
-#define GCF_VERSION "0.15.2"
+#define GCF_VERSION "0.15.3"
 
 #ifdef __cplusplus
 extern "C" {
@@ -137,6 +137,27 @@ enum gcf_wrong {
     GCF_WRONG_BIT_CLEAR = 3,   /* a bit that the profile asks for is not set */
     GCF_WRONG_NOT_CURRENT = 4, /* it is not current, and the profile asks for that */
     GCF_WRONG_TOO_LONG = 5     /* its descriptor is longer than the profile lets any be */
+};
+
+/* What is said of another box's response. None is 0, which stands where nothing is judged. */
+enum gcf_said {
+    GCF_SAID_EXACT = 1,   /* the bytes that are due; of a command that is to be refused, none */
+    GCF_SAID_PADDED = 2,  /* the bytes due, and nothing but zeros behind them */
+    GCF_SAID_SHORT = 3,   /* the first of the bytes due, and no more */
+    GCF_SAID_WRONG = 4,   /* a byte that is not the one due */
+    GCF_SAID_ANSWERED = 5 /* some bytes, though the command is to be refused */
+};
+
+/* What another box gets wrong, the first of these that explains its response. */
+enum gcf_mistake {
+    GCF_MISTAKE_UNEXPLAINED = 0,      /* none of these explains it */
+    GCF_MISTAKE_ONLY_ABOVE = 1,       /* it sends only the features above SFN */
+    GCF_MISTAKE_LENGTH_CUT = 2,       /* its Data Length is cut with the allocation length */
+    GCF_MISTAKE_LENGTH_OF_ALL = 3,    /* its Data Length counts all features, whatever was asked for */
+    GCF_MISTAKE_HIGHEST_CURRENT = 4,  /* its Current Profile is the highest of the current ones */
+    GCF_MISTAKE_HIGHEST_LISTED = 5,   /* its Current Profile is the highest of all */
+    GCF_MISTAKE_NOT_ONLY_CURRENT = 6, /* it gives RT 1 what RT 0 gets */
+    GCF_MISTAKE_NOT_ONLY_ONE = 7      /* it gives RT 2 what RT 0 gets */
 };
 
 /* What sense data says of a command. None is 0, which stands where sense data is refused. */
@@ -422,6 +443,26 @@ uint8_t gcf_bench(bool columns, const uint8_t *sheet, uint64_t sheet_bytes, uint
                   uint8_t *collected, uint64_t collected_bytes,
                   uint16_t *starts, uint64_t starts_count,
                   struct gcf_swept *swept);
+
+/* What is said of another box's response. */
+struct gcf_verdict {
+    uint64_t said;    /* one of enum gcf_said, 0 where nothing is judged */
+    uint64_t differs; /* PADDED, SHORT, WRONG: the place of the first byte that is too many, missing or not the one due; else 0 */
+    uint64_t mistake; /* WRONG: what explains it, one of enum gcf_mistake; else 0 */
+    uint64_t refusal; /* ANSWERED: the number that the command is to be refused with; else 0 */
+    uint64_t place;
+};
+
+/*
+ * Judges what another box sent for a command, as recorded, by what a box with this sheet sends: the sheet's numbers, then 12 for a due buffer of fewer bytes than any
+ * box may send for the command's allocation length, gcf_most of it. Of a command that is to be refused, 9 to 11, exactly no bytes are exact. 0 says only that it could
+ * be judged. Judged by bytes, the due buffer has what was due, and zeros behind it; with a refusal, and of a command that is to be refused, it stays as it was.
+ */
+uint8_t gcf_judge(bool columns, const uint8_t *sheet, uint64_t sheet_bytes,
+                  const uint8_t *command, uint64_t command_bytes,
+                  const uint8_t *response, uint64_t response_bytes,
+                  uint8_t *due, uint64_t due_bytes,
+                  struct gcf_verdict *verdict);
 
 /* What a check of descriptors finds. */
 struct gcf_finding {

@@ -91,7 +91,7 @@ fn follows(due: &[u8], response: &[u8]) -> bool {
 }
 
 /// What a box sends that makes this mistake, or none.
-fn sent(meaning: &Meaning, request: Request, mistake: Option<Mistake>) -> Vec<u8> {
+pub fn sent(meaning: &Meaning, request: Request, mistake: Option<Mistake>) -> Vec<u8> {
     let Request { rt, sfn, allocation } = request;
     let several = rt == RT_ALL || rt == RT_CURRENT;
     let (rt, sfn) = match mistake {

@@ -15,7 +15,7 @@ pub enum Layout {
 
 impl Layout {
     /// As the functions take it.
-    fn columns(self) -> bool {
+    pub(crate) fn columns(self) -> bool {
         self == Layout::Columns
     }
 }

@@ -65,6 +65,7 @@ compile_error!("these bindings are for targets whose usize has 64 bits, and were
 mod drive;
 mod driver;
 mod image;
+mod judge;
 mod mend;
 mod numbers;
 #[allow(unsafe_code, missing_docs)]
@@ -77,6 +78,7 @@ pub use driver::{
     Descriptor, Descriptors, Finding, Judgement, Reading, Rt, Stop, Sweep, Wrong,
 };
 pub use image::{respond_image, Image};
+pub use judge::{judge, Mistake, Verdict};
 pub use mend::{mend, undo, Change, Mended};
 pub use numbers::{Number, Words};
 pub use sense::{make_sense, read_sense, Kind};

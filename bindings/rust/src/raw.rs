@@ -51,6 +51,8 @@ told! {
     Stop { place, feature }
     /// What a bench sweep did: `struct gcf_swept`.
     Swept { commands, collected, place }
+    /// What is said of another box's response: `struct gcf_verdict`.
+    Verdict { said, differs, mistake, refusal, place }
     /// What a check of descriptors finds: `struct gcf_finding`.
     Finding { feature }
     /// What is said of a profile: `struct gcf_judgement`.
@@ -203,6 +205,18 @@ extern "C" {
         starts: *mut u16,
         starts_len: u64,
         swept: *mut Swept,
+    ) -> u8;
+    fn gcf_judge(
+        columns: bool,
+        sheet: *const u8,
+        sheet_len: u64,
+        command: *const u8,
+        command_len: u64,
+        response: *const u8,
+        response_len: u64,
+        due: *mut u8,
+        due_len: u64,
+        verdict: *mut Verdict,
     ) -> u8;
     fn gcf_check_descriptors(response: *const u8, response_len: u64, finding: *mut Finding) -> u8;
     fn gcf_check_profile(
@@ -470,6 +484,31 @@ pub fn bench(
             starts.as_mut_ptr(),
             starts.len() as u64,
             swept,
+        )
+    }
+}
+
+/// Judges what another box sent.
+pub fn judge(
+    columns: bool,
+    sheet: &[u8],
+    command: &[u8],
+    response: &[u8],
+    due: &mut [u8],
+    verdict: &mut Verdict,
+) -> u8 {
+    unsafe {
+        gcf_judge(
+            columns,
+            sheet.as_ptr(),
+            sheet.len() as u64,
+            command.as_ptr(),
+            command.len() as u64,
+            response.as_ptr(),
+            response.len() as u64,
+            due.as_mut_ptr(),
+            due.len() as u64,
+            verdict,
         )
     }
 }

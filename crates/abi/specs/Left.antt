@@ -14,6 +14,12 @@ use Rattle.layout.specs.declared.Layout.the-variants.{Rows, Columns}
 use Rattle.reading.specs.declared.Stop.{Stop}
 use Rattle.lent.specs.Maker.{Outcome}
 use Rattle.bench.specs.Bench as bench
+use Rattle.judge.specs.Verdict.{Judgement}
+use Rattle.judge.specs.declared.Mistake.{Mistake}
+use Rattle.judge.specs.declared.Mistake.the-variants.{OnlyAbove, LengthCut, LengthOfAll, HighestCurrent, HighestListed, NotOnlyCurrent, NotOnlyOne, Unexplained}
+use Rattle.judge.specs.declared.Verdict.{Verdict}
+use Rattle.judge.specs.declared.Verdict.the-variants.{Exact, Padded, Short, Wrong, Answered, Refused}
+use Rattle.abi.specs.declared.Telling.{Telling}
 use Rattle.mend.specs.Mend as mend
 use Rattle.checks.specs.declared.Finding.{Finding}
 use Rattle.needs.specs.Judge.{Said}
@@ -58,6 +64,36 @@ showStop x = x .at ∷ x .feature .0 ∷ []
 -- a bench sweep: commands, bytes collected, the place of its refusal
 unfoldable pub showBenched : bench.Ending → Left bench.Buffers
 showBenched x = left (x .reply .refusal .number) (x .buffers) (x .reply .commands ∷ x .reply .collected ∷ x .reply .refusal .place ∷ [])
+
+-- the number that tells a mistake; 0 is none
+unfoldable pub mistakeNumber : Mistake → ℕ
+mistakeNumber OnlyAbove = 1
+mistakeNumber LengthCut = 2
+mistakeNumber LengthOfAll = 3
+mistakeNumber HighestCurrent = 4
+mistakeNumber HighestListed = 5
+mistakeNumber NotOnlyCurrent = 6
+mistakeNumber NotOnlyOne = 7
+mistakeNumber Unexplained = 0
+
+abbrev pub tells : (number said differs mistake refusal place : ℕ) → Telling
+tells n s k w r p = record { number = n; said = s; differs = k; mistake = w; refusal = r; place = p }
+
+-- what each verdict tells: its number, the first byte that is not as it is to be, the mistake, the number of the command's refusal; or a number and the place of the sheet's refusal, and 0
+unfoldable pub telling : Verdict → Telling
+telling Exact = tells 0 1 0 0 0 0
+telling (Padded k) = tells 0 2 k 0 0 0
+telling (Short k) = tells 0 3 k 0 0 0
+telling (Wrong k w) = tells 0 4 k (mistakeNumber w) 0 0
+telling (Answered r) = tells 0 5 0 0 (r .number) 0
+telling (Refused r) = tells (r .number) 0 0 0 0 (r .place)
+
+unfoldable pub showTelling : Telling → List ℕ → Left (List ℕ)
+showTelling t d = left (t .number) d (t .said ∷ t .differs ∷ t .mistake ∷ t .refusal ∷ t .place ∷ [])
+
+-- a judgement of another box's response: what its verdict tells, and the scratch buffer
+unfoldable pub showJudgement : Judgement → Left (List ℕ)
+showJudgement j = showTelling (telling (j .said)) (j .scratch)
 
 -- a mending: bytes of the copy, changes; the buffers are the copy and the list of changes
 unfoldable pub showMended : mend.Outcome → Left (List ℕ × List ℕ)

@@ -18,6 +18,7 @@ ghost use Rattle.descriptor.specs.Standing.{standsAt};
 ghost use Rattle.listing.specs.Listing.{listing};
 ghost use Rattle.sweep.specs.Sweep.{started, turn, stepped};
 ghost use Rattle.bench.specs.Bench as bench;
+ghost use Rattle.judge.specs.Verdict.{judgement, judged};
 ghost use Rattle.checks.specs.Check.{checked};
 ghost use Rattle.needs.specs.Judge as needs;
 ghost use Rattle.mend.specs.Mend as mend;
@@ -27,8 +28,10 @@ ghost use Rattle.rom.specs.Rom.{imageAnswered};
 ghost use Rattle.rom.specs.Image.{imageCommanded};
 ghost use Rattle.sense.specs.Sense.{made, sensed};
 ghost use Rattle.meanings.specs.Meanings.{sentence};
-ghost use Rattle.abi.specs.Left.{layoutOf, left, showVerdict, showMade, showRead, showNext, showStop, showBenched, showMended, showFinding, showJudged, kindNumber, showSensed};
+ghost use Rattle.abi.specs.Left.{layoutOf, left, showVerdict, showMade, showRead, showNext, showStop, showBenched, mistakeNumber, tells, telling, showJudgement, showMended, showFinding, showJudged, kindNumber, showSensed};
 use command::Command;
+use judge::Mistake;
+use judge::Verdict;
 use layout::Layout;
 use needs::Judgement;
 use sense::Kind;
@@ -349,6 +352,88 @@ pub extern "C" fn gcf_bench(
         fault.place as u64,
     ];
     fault.number
+}
+
+// What a verdict tells: the number of a refusal, which verdict it is, the first byte that is not as it is to be, the mistake that explains it, the number that the command
+// is to be refused with, and the place of the sheet's refusal.
+struct Telling {
+    number: u8,
+    said: u64,
+    differs: u64,
+    mistake: u64,
+    refusal: u64,
+    place: u64,
+}
+
+// The number that tells a mistake; 0 tells none.
+fn mistake_number(why: Mistake) -> u64
+    ensures { λ r. ⌜ r ≡ mistakeNumber why ⌝ }
+{
+    match why {
+        Mistake::OnlyAbove => 1,
+        Mistake::LengthCut => 2,
+        Mistake::LengthOfAll => 3,
+        Mistake::HighestCurrent => 4,
+        Mistake::HighestListed => 5,
+        Mistake::NotOnlyCurrent => 6,
+        Mistake::NotOnlyOne => 7,
+        Mistake::Unexplained => 0,
+    }
+}
+
+// A verdict that refuses nothing, and what else it tells.
+fn saying(which: u64, differs: usize, mistake: u64, refusal: u8) -> Telling
+    ensures { λ r. ⌜ r ≡ tells 0 which differs mistake refusal 0 ⌝ }
+{
+    Telling {
+        number: 0,
+        said: which,
+        differs: differs as u64,
+        mistake: mistake,
+        refusal: refusal as u64,
+        place: 0,
+    }
+}
+
+// What each verdict tells; none of them is 0.
+fn tell(verdict: Verdict) -> Telling
+    ensures { λ r. ⌜ r ≡ telling verdict ⌝ }
+{
+    match verdict {
+        Verdict::Exact => saying(1, 0, 0, 0),
+        Verdict::Padded(at) => saying(2, at, 0, 0),
+        Verdict::Short(at) => saying(3, at, 0, 0),
+        Verdict::Wrong(at, why) => saying(4, at, mistake_number(why), 0),
+        Verdict::Answered(fault) => saying(5, 0, 0, fault.number),
+        Verdict::Refused(fault) => Telling {
+            number: fault.number,
+            said: 0,
+            differs: 0,
+            mistake: 0,
+            refusal: 0,
+            place: fault.place as u64,
+        },
+    }
+}
+
+// Judges what another box sent for a command. Told: which verdict, the first byte that is not as it is to be, the mistake, the number that the command is to be refused
+// with, the place of the profile or entry at fault.
+#[no_mangle]
+pub extern "C" fn gcf_judge(
+    columns: bool,
+    sheet: &[u8],
+    command: &[u8],
+    response: &[u8],
+    due: &mut [u8],
+    told: &mut [u64; 5],
+) -> u8
+    ensures { λ r. ⌜ left r (now (due .exit)) (now (told .exit))
+        ≡ showJudgement (judged (stored (layoutOf columns) (now (sheet .entry))) (now (command .entry)) (now (response .entry)) (now (due .entry))) ⌝ }
+{
+    let verdict = judge::judge(layout_of(columns), sheet, command, response, due);
+    let t = tell(verdict);
+    *told = [t.said, t.differs, t.mistake, t.refusal, t.place];
+    t.number
 }
 
 // Checks the descriptors of a response. Told: the feature at fault.

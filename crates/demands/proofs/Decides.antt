@@ -123,6 +123,7 @@ use Rattle.abi.proofs.gcf_most as gcf-most
 use Rattle.abi.proofs.gcf_sweep_start as gcf-sweep-start
 use Rattle.abi.proofs.gcf_sweep_take as gcf-sweep-take
 use Rattle.abi.proofs.gcf_bench as gcf-bench
+use Rattle.abi.proofs.gcf_judge as gcf-judge
 use Rattle.abi.proofs.gcf_check_descriptors as gcf-check-descriptors
 use Rattle.abi.proofs.gcf_check_profile as gcf-check-profile
 use Rattle.abi.proofs.gcf_mend as gcf-mend
@@ -519,6 +520,9 @@ gcf-bench-decided x = decides (x .𝓤) (λ o o′ p q. (
   number (joined p q),
   refl & refl & refl & refl & response (buffers (joined p q)) & collected (buffers (joined p q)) & starts (buffers (joined p q)) & told (joined p q) & refl,
 ))
+
+pub gcf-judge-decided : Decided gcf-judge.ended (λ M. gcf-judge.clauses) (λ M. gcf-judge.spec)
+gcf-judge-decided x = decides (x .𝓤) (λ o o′ p q. (number (joined p q), refl & refl & refl & refl & buffers (joined p q) & told (joined p q) & refl))
 
 pub gcf-check-descriptors-decided : Decided gcf-check-descriptors.ended (λ M. gcf-check-descriptors.clauses) (λ M. gcf-check-descriptors.spec)
 gcf-check-descriptors-decided x = decides (x .𝓤) (λ o o′ p q. (number (joined p q), refl & told (joined p q) & refl))

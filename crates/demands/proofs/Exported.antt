@@ -35,6 +35,8 @@ use Rattle.abi.proofs.gcf_most as gcf-most
 use Rattle.abi.proofs.gcf_sweep_start as gcf-sweep-start
 use Rattle.abi.proofs.gcf_sweep_take as gcf-sweep-take
 use Rattle.abi.proofs.gcf_bench as gcf-bench
+use Rattle.judge.proofs.Promised as judge
+use Rattle.abi.proofs.gcf_judge as gcf-judge
 use Rattle.abi.proofs.gcf_check_descriptors as gcf-check-descriptors
 use Rattle.abi.proofs.gcf_check_profile as gcf-check-profile
 use Rattle.abi.proofs.gcf_mend as gcf-mend
@@ -152,6 +154,11 @@ pub gcf-bench-tied : Promised gcf-bench.ended (λ M. gcf-bench.clauses) (λ M. g
     abi.showBenched
     (left r (bench.buffers response′ collected′ starts′) told′)))
 gcf-bench-tied x = promises (x .𝓤) (λ o. shows _ (benches _ _ _ _))
+
+pub gcf-judge-tied : Promised gcf-judge.ended (λ M. gcf-judge.clauses) (λ M. gcf-judge.spec)
+    (named (λ _ columns sheet command response due told r _ _ _ _ due′ told′. Shows (judge.Judges (stored (layoutOf columns) (now sheet)) (now command) (now response) (now due)) abi.showJudgement
+    (left r due′ told′)))
+gcf-judge-tied x = promises (x .𝓤) (λ o. shows _ (judge.judges _ _ _ _))
 
 -- ---- the checks and the import
 

@@ -247,16 +247,65 @@ module _ (test : Mistake → Bool) where
       go true e more = inr e
       go false e more = more
 
-  -- where it ends with none, none of those that are something passes
-  pub picked-none : (xs : List Mistake) → All (λ (w : Mistake). w ≡ Unexplained → ⊥) xs → pick test (λ w. w) Unexplained xs ≡ Unexplained → All (λ (w : Mistake). test w ≡ false) xs
-  unfolding pick
-  picked-none [] a e = tt
-  picked-none (w ∷ xs) a e = go (test w) refl (picked-none xs (a .1)) e
+-- the order of the mistakes; none comes behind them all
+unfoldable pub rank : Mistake → ℕ
+rank OnlyAbove = 1
+rank LengthCut = 2
+rank LengthOfAll = 3
+rank HighestCurrent = 4
+rank HighestListed = 5
+rank NotOnlyCurrent = 6
+rank NotOnlyOne = 7
+rank Unexplained = 8
+
+-- they rise, from lo on
+unfoldable pub Rises : (lo : ℕ) → List Mistake → Type 0
+Rises lo [] = Unit
+Rises lo (w ∷ ws) = (lo ≤ rank w) × Rises (suc (rank w)) ws
+
+rises-above : (lo : ℕ) (ws : List Mistake) → Rises lo ws → All (λ (w : Mistake). lo ≤ rank w) ws
+unfolding Rises
+rises-above lo [] r = tt
+rises-above lo (w ∷ ws) r = (r .0, all-map (λ (v : Mistake). suc (rank w) ≤ rank v) (λ (v : Mistake). lo ≤ rank v) (λ v h. omega (arith, h, r .0)) ws (rises-above (suc (rank w)) ws (r .1)))
+
+module _ (test : Mistake → Bool) where
+  abbrev found : List Mistake → Mistake
+  found ws = pick test (λ w. w) Unexplained ws
+
+  -- none before the one that is found passes
+  pub picked-first : (lo : ℕ) (ws : List Mistake) → Rises lo ws → All (λ (v : Mistake). rank v < rank (found ws) → test v ≡ false) ws
+  unfolding pick Rises
+  picked-first lo [] r = tt
+  picked-first lo (w ∷ ws) r = go (test w) refl (picked-first (suc (rank w)) ws (r .1))
     where
-      go : (t : Bool) → test w ≡ t → (pick test (λ w. w) Unexplained xs ≡ Unexplained → All (λ (w : Mistake). test w ≡ false) xs)
-          → elim t [ true ↦ w | false ↦ pick test (λ w. w) Unexplained xs ] ≡ Unexplained → (test w ≡ false) × All (λ (w : Mistake). test w ≡ false) xs
-      go true e more q = absurd (a .0 q)
-      go false e more q = (e, more q)
+      go : (t : Bool) → test w ≡ t → All (λ (v : Mistake). rank v < rank (found ws) → test v ≡ false) ws
+          → All (λ (v : Mistake). rank v < rank (elim t [ true ↦ w | false ↦ found ws ]) → test v ≡ false) (w ∷ ws)
+      go true e more =
+          (λ h. absurd (omega (arith, h)), all-map (λ (v : Mistake). suc (rank w) ≤ rank v) (λ (v : Mistake). rank v < rank w → test v ≡ false) (λ v above h. absurd (omega (arith, h, above))) ws (rises-above (suc (rank w)) ws (r .1)))
+      go false e more = (λ h. e, more)
+
+rank-most : (w : Mistake) → rank w ≤ 8
+unfolding rank
+rank-most OnlyAbove = omega arith
+rank-most LengthCut = omega arith
+rank-most LengthOfAll = omega arith
+rank-most HighestCurrent = omega arith
+rank-most HighestListed = omega arith
+rank-most NotOnlyCurrent = omega arith
+rank-most NotOnlyOne = omega arith
+rank-most Unexplained = omega arith
+
+-- all of them but none
+each-mistake : (P : Mistake → Type 0) → All P mistakes → (v w : Mistake) → rank v < rank w → P v
+unfolding mistakes rank
+each-mistake P a OnlyAbove w h = a .0
+each-mistake P a LengthCut w h = a .1 .0
+each-mistake P a LengthOfAll w h = a .1 .1 .0
+each-mistake P a HighestCurrent w h = a .1 .1 .1 .0
+each-mistake P a HighestListed w h = a .1 .1 .1 .1 .0
+each-mistake P a NotOnlyCurrent w h = a .1 .1 .1 .1 .1 .0
+each-mistake P a NotOnlyOne w h = a .1 .1 .1 .1 .1 .1 .0
+each-mistake P a Unexplained w h = absurd (omega (arith, h, rank-most w))
 
 -- ---- the boxes, in other words: the right one; those that take the request for another; those that state something else in the header
 
@@ -318,9 +367,9 @@ pub record Judges (s : Sheet) (c x d : List ℕ) (j : Judgement) : Type 0 where
   pub means : Fit s c d → Means (due s c) x (j .said)
   pub exact : Fit s c d → x ≡ due s c → j .said ≡ Exact
   pub left : Fit s c d → j .scratch ≡ due s c ++ replicate (length d - length (due s c)) 0
-  -- the mistake that is named is one whose box sends these bytes, and none is named only where no box of a mistake does
+  -- the mistake that is named is one whose box sends these bytes, and no box of one before it does; none is named only where no box of a mistake does
   pub explains : Fit s c d → (k : ℕ) (w : Mistake) → j .said ≡ Wrong k w → (w ≡ Unexplained) ⊎ Follows (sentFor w s c) x
-  pub unexplained : Fit s c d → (k : ℕ) → j .said ≡ Wrong k Unexplained → All (λ (w : Mistake). Follows (sentFor w s c) x → ⊥) mistakes
+  pub first : Fit s c d → (k : ℕ) (w v : Mistake) → j .said ≡ Wrong k w → rank v < rank w → Follows (sentFor v s c) x → ⊥
 
 length-nil : (x : List ℕ) → length x ≡ 0 → x ≡ []
 length-nil [] h = refl
@@ -338,29 +387,18 @@ allocation-of : (c : List ℕ) → commandOf c .allocation ≡ allocationOf c
 unfolding commandOf
 allocation-of c = refl
 
--- a mistake that is tried is something
-kind : Mistake → ℕ
-kind OnlyAbove = 1
-kind LengthCut = 2
-kind LengthOfAll = 3
-kind HighestCurrent = 4
-kind HighestListed = 5
-kind NotOnlyCurrent = 6
-kind NotOnlyOne = 7
-kind Unexplained = 0
-
-tried : All (λ (w : Mistake). w ≡ Unexplained → ⊥) mistakes
-unfolding mistakes kind
-tried = (λ e. omega (arith, ap kind e), (λ e. omega (arith, ap kind e), (λ e. omega (arith, ap kind e), (λ e. omega (arith, ap kind e), (λ e. omega (arith, ap kind e), (λ e. omega (arith, ap kind e), (λ e. omega (arith, ap kind e), tt)))))))
+mistakes-rise : Rises 1 mistakes
+unfolding mistakes rank Rises
+mistakes-rise = (omega arith, (omega arith, (omega arith, (omega arith, (omega arith, (omega arith, (omega arith, tt)))))))
 
 module _ (s : Sheet) (c x : List ℕ) where
   why-passes : (explained (rtOf c) (sfnOf c) (allocationOf c) (meaning s) x ≡ Unexplained) ⊎ (sends (rtOf c) (sfnOf c) (allocationOf c) (meaning s) x (explained (rtOf c) (sfnOf c) (allocationOf c) (meaning s) x) ≡ true)
   unfolding explained
   why-passes = picked-passes (sends (rtOf c) (sfnOf c) (allocationOf c) (meaning s) x) mistakes
 
-  why-none : explained (rtOf c) (sfnOf c) (allocationOf c) (meaning s) x ≡ Unexplained → All (λ (w : Mistake). sends (rtOf c) (sfnOf c) (allocationOf c) (meaning s) x w ≡ false) mistakes
+  why-first : All (λ (v : Mistake). rank v < rank (explained (rtOf c) (sfnOf c) (allocationOf c) (meaning s) x) → sends (rtOf c) (sfnOf c) (allocationOf c) (meaning s) x v ≡ false) mistakes
   unfolding explained
-  why-none e = picked-none (sends (rtOf c) (sfnOf c) (allocationOf c) (meaning s) x) mistakes tried e
+  why-first = picked-first (sends (rtOf c) (sfnOf c) (allocationOf c) (meaning s) x) 1 mistakes mistakes-rise
 
 command-asks : (s : Sheet) (c x d : List ℕ)
     → requested (commandOf c .rt) (commandOf c .sfn .0) (commandOf c .allocation) (meaning s) x d
@@ -398,8 +436,9 @@ module _ (s : Sheet) (c x d : List ℕ) where
         (λ (n : why ≡ Unexplained). inl (because-named came why w k (sym (said-is f) ∙ e) ∙ n))
         (λ (t : sends (rtOf c) (sfnOf c) (allocationOf c) (meaning s) x why ≡ true). inr (subst (λ (w : Mistake). Follows (sentFor w s c) x) (sym (because-named came why w k (sym (said-is f) ∙ e))) (sent-follows why t)))
         (why-passes s c x);
-    unexplained = λ f k e.
-        all-map (λ (w : Mistake). sends (rtOf c) (sfnOf c) (allocationOf c) (meaning s) x w ≡ false) (λ (w : Mistake). Follows (sentFor w s c) x → ⊥)
-        (λ w n g. true≢false (sym (follows-right (sentFor w s c) x (compared (sentFor w s c) x) (compared-means (sentFor w s c) x) g) ∙ n)) mistakes
-        (why-none s c x (sym (because-named came why Unexplained k (sym (said-is f) ∙ e))));
+    first = λ f k w v e h g.
+        let named-is : w ≡ why = because-named came why w k (sym (said-is f) ∙ e) in
+        true≢false
+        (sym (follows-right (sentFor v s c) x (compared (sentFor v s c) x) (compared-means (sentFor v s c) x) g)
+        ∙ each-mistake (λ (u : Mistake). rank u < rank why → sends (rtOf c) (sfnOf c) (allocationOf c) (meaning s) x u ≡ false) (why-first s c x) v w h (subst (λ (u : Mistake). rank v < rank u) named-is h));
   }

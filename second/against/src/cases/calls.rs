@@ -1,7 +1,10 @@
 //! What an operation is on either side.
 
 use super::{Case, Numbers, Outcome};
-use crate::kinds::{columns, fields as record_fields, handed, next_fields, proved as step_fields, sentence};
+use crate::kinds::{
+    columns, fields as record_fields, handed, judged, next_fields, proved as step_fields, sentence,
+    verdict_fields,
+};
 use crate::run::told;
 use gcf::raw::{self, Told};
 use second::command::Request;
@@ -130,6 +133,10 @@ fn proved(case: &Case, out: &mut [u8]) -> Option<Numbers> {
             let (rt, sfn) = (given[1] as u8, gcf::Feature(given[2] as u16));
             telling(|told| raw::build_command(given[0] as usize, rt, sfn, given[3] as u16, out, told))
         }
+        "judge" => {
+            let (command, response) = second.split_at(second.len().min(given[1] as usize));
+            telling(|told| raw::judge(laid, first, command, response, out, told))
+        }
         "mend" => {
             let mend = |copy: &mut [u8], list: &mut [u32]| telling(|told| raw::mend(first, copy, list, told));
             return mended(out, given[0] as usize, mend);
@@ -225,6 +232,11 @@ fn plain(case: &Case, out: &mut [u8]) -> Option<Numbers> {
             let (rt, sfn, allocation) = (given[1] as u8, Feature(given[2] as u16), given[3] as u16);
             let built = Request { rt, sfn, allocation }.build(given[0] as usize, out);
             with(built.err().unwrap_or(0), &[built.unwrap_or(0) as u64])
+        }
+        "judge" => {
+            let (command, response) = second.split_at(second.len().min(given[1] as usize));
+            let said = judged(laid, first, command, response, out);
+            with(told(&said).0, &verdict_fields(&said))
         }
         "mend" => {
             return mended(out, given[0] as usize, |copy, list| {

@@ -33,6 +33,8 @@
 //! build LENGTH RT SFN A = refusal, count
 //! convert C | SHEET = refusal, count, place: to the other layout
 //! load C N | SHEET | NUMBERS = refusal, count, place: N features of a medium, two bytes each, then its profiles
+//! judge C N | SHEET | EXCHANGE = refusal, which verdict, the first byte that differs, the mistake, the number to be refused with, place; the exchange is N bytes of a
+//!                 command, then the response
 //! mend N | RESPONSE = refusal, count, changes; the buffer is N bytes for the copy, then the list of changes, four bytes each
 //! import | RESPONSE = refusal, count, place
 //! read RT SFN | RESPONSE = refusal, profile, Data Length, whole descriptors, the place behind the last, 1 if complete

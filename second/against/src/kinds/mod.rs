@@ -12,6 +12,7 @@ mod convert;
 mod held;
 mod images;
 mod import;
+mod judge;
 mod list;
 mod load;
 mod make_sense;
@@ -30,6 +31,7 @@ mod sweep_start;
 mod sweep_take;
 mod words;
 
+pub(crate) use judge::{judged, verdict_fields};
 pub(crate) use next::next_fields;
 pub(crate) use words::sentence;
 
@@ -65,6 +67,7 @@ pub const KINDS: &[Kind] = &[
     sweep_start::KIND,
     sweep_take::KIND,
     bench::KIND,
+    judge::KIND,
     check_descriptors::KIND,
     check_profile::KIND,
     mend::KIND,
