@@ -93,7 +93,7 @@ archive_reached() { # NAME
 # What the archive is made from, as one number: the kit, and the code of `abi` and of the crates that it stands on.
 archive_stamp() {
     local crate folders=()
-    for crate in abi $(sed -n 's/^abi://p' crates.txt); do folders+=("crates/$crate/src"); done
+    for crate in abi $(sed -nE '/^abi:/q; s/^([a-z]+):.*/\1/p' crates.txt); do folders+=("crates/$crate/src"); done
     { rt version && sed -n '/^abi:/p' crates.txt && find "${folders[@]}" -type f -print0 | sort -z | xargs -0 sha256sum; } | sha256sum
 }
 
@@ -209,7 +209,7 @@ archive_native() { # NAME OUT
         "$archive_tools/bin/ld.lld" --gc-sections "$here/$1.start.o" "$here/$1.o" -o "$2"
 }
 
-# That code as text for x86-64, compiled by the words that made the archive, with the frame of each function: target/own/abi.s and target/own/abi.su.
+# That code as text for x86-64, compiled by the words that made the archive: target/own/abi.s.
 archive_text() {
     local here=$PWD/target/own word words=()
     archive_made || return 1
@@ -221,7 +221,12 @@ archive_text() {
         esac
         words+=("$word")
     done <"$here/abi.words"
-    "$archive_tools/bin/clang" "${words[@]}" -fstack-usage >>"$here/log" 2>&1
+    "$archive_tools/bin/clang" "${words[@]}" >>"$here/log" 2>&1
+}
+
+# The same for another processor.
+archive_text_for() { # TRIPLE FILE
+    archive_ll && archive_as "$1" | "$archive_tools/bin/clang" $(archive_flags "$1") --no-default-config -Wno-override-module -O3 -fPIC -S -x ir - -o "$2" >>target/own/log 2>&1
 }
 
 archive_for() { # cross | own
@@ -272,6 +277,8 @@ build_against() { # NAME
                 printf '%s\n' "$stamp" >"$AGAINST/stamp" || exit 1
         fi
         [ ! -f "$AGAINST/$1.stamp" ] || exit 0
+        # what is timed is compiled once more as a whole, so that the plain side loses nothing between its parts
+        [ "$1" != benchmarks ] || words+=(-C lto)
         archive_rust_to "$AGAINST" "$1" bin "second/against/src/bin/$1.rs" "${words[@]}" --extern "against=$AGAINST/libagainst.rlib" && : >"$AGAINST/$1.stamp"
     ) 6>"$AGAINST/lock"
 }
@@ -279,6 +286,6 @@ build_against() { # NAME
 archive_rust_to() { # FOLDER NAME KIND FILE [WORD..]
     local out=$1 name=$2 kind=$3 file=$4
     shift 4
-    "${archive_rust[@]}" --edition 2021 -C opt-level=3 --out-dir "$out" -L "dependency=$out" -L "native=${ARCHIVE%/*}" \
+    "${archive_rust[@]}" --edition 2021 -C opt-level=3 -C codegen-units=1 --out-dir "$out" -L "dependency=$out" -L "native=${ARCHIVE%/*}" \
         --crate-name "$name" --crate-type "$kind" "$file" "$@"
 }

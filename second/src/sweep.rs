@@ -6,7 +6,7 @@ use crate::reading::read_and_last;
 use crate::wire::{part, Feature, Profile};
 
 /// The most commands so far with which a record takes another response.
-const COMMANDS_MOST: u32 = 65_535;
+pub(crate) const COMMANDS_MOST: u32 = 65_535;
 
 /// Where a sweep stands.
 #[derive(Clone, Copy, Debug, PartialEq, Eq)]

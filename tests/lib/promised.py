@@ -30,7 +30,7 @@ ORIGINS = {
     "named": "crates/demands/proofs/Named.antt",
     "met": "crates/demands/proofs/Named.antt",
     "saying": "crates/demands/proofs/Named.antt",
-    "Twice": "crates/demands/proofs/Packets.antt",
+    "Twice": "crates/base/proofs/Promise.antt",
 }
 
 

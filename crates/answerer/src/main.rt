@@ -11,6 +11,11 @@ ghost use Rattle.responder.specs.Answer.{due};
 ghost use Rattle.lent.specs.Maker.{outcome, refusing, making};
 use layout::Layout;
 use lent::Made;
+use program_io::dumps;
+use program_io::packets;
+use program_io::streams;
+use program_words::sheets;
+use program_words::told;
 use text::Header;
 
 // The argument that is given, and is 0, where there is a stack for the longest sheet.

@@ -4,4 +4,5 @@ pub mod Pick
 pub mod Decided
 pub mod Promise
 pub mod Compare
+pub mod Bools
 pub mod Bits

@@ -2,6 +2,10 @@
 // text is written, a word for each byte. A refusal is a line on standard error, and nothing is written then.
 use command::Command;
 use lent::Made;
+use program_io::dumps;
+use program_io::packets;
+use program_io::streams;
+use program_words::told;
 
 // The argument that says whether hexadecimal text is written.
 const HEX_OUT: usize = 5;

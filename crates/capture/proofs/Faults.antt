@@ -6,14 +6,14 @@ use mathlib.Core.List.{List, [], _∷_}
 use Prim.Native.Nat.{ℕ, _+_, _*_, _≤_, _<_}
 use native.Mathlib.Omega.{arith}
 use lib.Dec.{eqb}
-use lib.ListN.{length, drop, getD, length-take}
+use lib.ListN.{length}
 use Rattle.fields.specs.Field.{field}
 use Rattle.refusal.specs.declared.Refusal.{Refusal}
 use Rattle.text.specs.declared.Reading.{Reading}
 use Rattle.refusal.specs.First.{refuse, accept, _if_else_, _orElse_, placed}
 use Rattle.text.specs.Drive.{Desc}
 use Rattle.text.specs.Response.{currentProfile}
-use Rattle.text.specs.Reading.{statedProfile, numberAt, flagsAt, lengthAt, descAt}
+use Rattle.text.specs.Reading.{statedProfile, numberAt, flagsAt, descAt}
 use Rattle.refusal.proofs.First.{orElse-none, orElse-fault, placed-number}
 use Rattle.base.proofs.Compare.{le-or-lt}
 use Rattle.reading.specs.Places.{nextAt, descs}
@@ -42,7 +42,7 @@ flags-clean place [] e = refl
 flags-clean place (d ∷ ds) e =
     let a : oddFlags (d .flags) ≡ 0 = omega (arith, e) in
     let b : oddIn ds ≡ 0 = omega (arith, e) in
-    orElse-none _ _ (placed-number _ place ∙ odd-zero (d .flags) a) ∙ flags-clean (place + 1) ds b
+    orElse-none _ _ (placed-number _ place ∙ number-is (odd-zero (refuse 5) (refuse 44) (d .flags) a)) ∙ flags-clean (place + 1) ds b
 
 -- ---- 41, and the sheet's own numbers
 

@@ -3,12 +3,17 @@
 // only why. Arguments: RT, starting feature number, allocation length (`asked`), profile, whether hexadecimal text is read, whether padding is trimmed, whether all faults are said, and whether only the profile is
 // judged.
 use checks::Finding;
-use checks::rules;
 use libc::STDOUT_FILENO;
 use needs::Judgement;
 use needs::Wrong;
+use program_io::asked;
+use program_io::dumps;
+use program_io::streams;
+use program_io::streams::say;
+use program_words::grounds;
+use program_words::strays;
+use program_words::words;
 use refusal::Refusal;
-use streams::say;
 use text::Feature;
 use text::Header;
 use text::Profile;
@@ -109,7 +114,7 @@ fn say_if_missing(feature: Feature, s: &[u8], clean: &[u8]) {
 
 // The first fault of the descriptor at a place, if it has one.
 fn say_if_fault(removable: bool, s: &[u8], clean: &[u8], at: usize) {
-    let fault = rules::fault_at(removable, s, at);
+    let fault = checks::fault_at(removable, s, at);
     if fault.number != 0 {
         say_fault(fault, reading::number_at(s, at), s, clean, at);
     }

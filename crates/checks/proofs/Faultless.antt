@@ -18,16 +18,17 @@ use Rattle.text.specs.Flags.{version, newer, persistent, current}
 use Rattle.text.specs.Drive.{Desc}
 use Rattle.text.proofs.FlagsRule.{flags-good, flags-accept}
 use Rattle.refusal.proofs.First.{if-zero, orElse-zero, orElse-none, first-all, first-accept}
-use Rattle.checks.specs.declared.legal.Length.{Length}
-use Rattle.checks.specs.declared.legal.Length.the-variants.{Any, Exactly, Counted}
+use Rattle.legal.specs.declared.Length.{Length}
+use Rattle.legal.specs.declared.Length.the-variants.{Any, Exactly, Counted}
 use Rattle.checks.specs.declared.Finding.{Finding}
-use Rattle.checks.specs.Legal.{rowOf}
-use Rattle.checks.specs.Rules.{byteOf, flagsFault, tooShort, tooLong, wrongLength, flagsShort, flagsBarred, rowRule, reservedRule, reservedAt, cueRule, profileAt, profilesFault, bodyFault, descFault}
-use Rattle.reading.specs.Places.{descs}
-use Rattle.checks.specs.Check.{reported, finding, firstFinding, checkedAll, checked}
+use Rattle.legal.specs.Legal.{rowOf}
+use Rattle.legal.specs.Bodies.{byteOf, tooShort, tooLong, wrongLength, reservedRule, reservedAt, cueRule}
+use Rattle.checks.specs.Rules.{flagsFault, flagsShort, flagsBarred, rowRule, profileAt, profilesFault, bodyFault, descFault}
+use Rattle.reading.specs.Places.{descs, reported}
+use Rattle.checks.specs.Check.{finding, firstFinding, checkedAll, checked}
 use Rattle.checks.specs.Faultless.{AtLeast, AtMost, Faultless, Passes}
-use Rattle.checks.proofs.Bools.{not-yes, not-no, and-false, false-and, and-true, true-and, or-false, false-or}
-use Rattle.checks.proofs.Calls.{if-yes, if-no}
+use Rattle.base.proofs.Bools.{not-yes, not-no, and-false, false-and, and-true, true-and, or-false, false-or}
+use Rattle.refusal.proofs.Calls.{if-yes, if-no}
 use Rattle.base.proofs.Pick.{pick-here, pick-past, pick-never}
 use Rattle.checks.proofs.Findings.{next-none, next-zero, core-there}
 
@@ -42,29 +43,17 @@ module _ (n : ℕ) where
 
 -- ---- 31, 32 and 35
 
-short-good : (l : Length) (body : List ℕ) → tooShort l (byteOf body 7) (length body) ≡ false → AtLeast l body
+enough-is : (l : Length) (body : List ℕ) → (tooShort l (byteOf body 7) (length body) ≡ false → AtLeast l body) × (AtLeast l body → tooShort l (byteOf body 7) (length body) ≡ false)
 unfolding tooShort
-short-good Any body e = tt
-short-good (Exactly k) body e = ltb-false _ _ e
-short-good Counted body e = ltb-false _ _ e
+enough-is Any body = (λ e. tt, λ h. refl)
+enough-is (Exactly k) body = (ltb-false _ _, le-ltb _ _)
+enough-is Counted body = (ltb-false _ _, le-ltb _ _)
 
-short-accept : (l : Length) (body : List ℕ) → AtLeast l body → tooShort l (byteOf body 7) (length body) ≡ false
-unfolding tooShort
-short-accept Any body h = refl
-short-accept (Exactly k) body h = le-ltb _ _ h
-short-accept Counted body h = le-ltb _ _ h
-
-long-good : (l : Length) (body : List ℕ) → tooLong l (byteOf body 7) (length body) ≡ false → AtMost l body
+no-more-is : (l : Length) (body : List ℕ) → (tooLong l (byteOf body 7) (length body) ≡ false → AtMost l body) × (AtMost l body → tooLong l (byteOf body 7) (length body) ≡ false)
 unfolding tooLong
-long-good Any body e = tt
-long-good (Exactly k) body e = ltb-false _ _ e
-long-good Counted body e = ltb-false _ _ e
-
-long-accept : (l : Length) (body : List ℕ) → AtMost l body → tooLong l (byteOf body 7) (length body) ≡ false
-unfolding tooLong
-long-accept Any body h = refl
-long-accept (Exactly k) body h = le-ltb _ _ h
-long-accept Counted body h = le-ltb _ _ h
+no-more-is Any body = (λ e. tt, λ h. refl)
+no-more-is (Exactly k) body = (ltb-false _ _, le-ltb _ _)
+no-more-is Counted body = (ltb-false _ _, le-ltb _ _)
 
 pub not-newer : (f : ℕ) → version f ≡ 0 → newer f ≡ false
 not-newer f v = not-no _ (eq-eqb (version f) 0 v)
@@ -77,11 +66,11 @@ module _ (l : Length) (f : ℕ) (body : List ℕ) where
   unfolding wrongLength
   length-good e =
       let a = or-false _ _ e in
-      (short-good l body (a .0), λ v. long-good l body (and-false _ _ (a .1) (not-yes _ (not-newer f v))))
+      (enough-is l body .0 (a .0), λ v. no-more-is l body .0 (and-false _ _ (a .1) (not-yes _ (not-newer f v))))
 
   pub length-accept : AtLeast l body → (version f ≡ 0 → AtMost l body) → wrongLength l f (byteOf body 7) (length body) ≡ false
   unfolding wrongLength
-  length-accept h k = false-or _ _ (short-accept l body h) (false-and _ _ (λ n. long-accept l body (k (of-version f (not-true _ n)))))
+  length-accept h k = false-or _ _ (enough-is l body .1 h) (false-and _ _ (λ n. no-more-is l body .1 (k (of-version f (not-true _ n)))))
 
 module _ (n f : ℕ) where
   pub both-good : flagsShort n f ≡ false → n ≤ 0x0003 → (persistent f ≡ 1) × (current f ≡ 1)

@@ -8,9 +8,9 @@ use Rattle.text.specs.declared.Feature.{Feature}
 use Rattle.refusal.specs.First.{refuse, accept, _if_else_}
 use Rattle.checks.specs.declared.Finding.{Finding}
 use Rattle.checks.specs.Check.{finding, _orNext_}
-use Rattle.checks.proofs.Bools.{not-yes, not-no}
+use Rattle.base.proofs.Bools.{not-yes, not-no}
 use Rattle.refusal.proofs.First.{call-fault}
-use Rattle.checks.proofs.Calls.{if-yes, if-no}
+use Rattle.refusal.proofs.Calls.{if-yes, if-no}
 
 -- no number: the next one counts
 pub next-none : (a b : Finding) → a .refusal .number ≡ 0 → a orNext b ≡ b

@@ -5,13 +5,13 @@ use mathlib.Core.Path.{_≡_, refl, sym, ap, subst, _∙_}
 use mathlib.Core.Logic.{_⊎_, inl, inr}
 use mathlib.Core.Bool.{Bool, true, false, not, true≢false}
 use mathlib.Core.List.{List, [], _∷_, _++_, map, append-nil, append-assoc}
-use Prim.Native.Nat.{ℕ, zero, suc, _+_, _*_, _/_, _%_, _≤_, _<_}
+use Prim.Native.Nat.{ℕ, zero, suc, _*_, _/_, _%_, _≤_, _<_}
 use native.Mathlib.Omega.{arith}
 use lib.Bits.{bitAnd}
 use lib.Dec.{eqb}
 use lib.ListN.{length, getD}
 use Rattle.base.specs.Lists.{All}
-use Rattle.base.specs.Pick.{pick, some}
+use Rattle.base.specs.Pick.{pick}
 use Rattle.base.proofs.Lists.{all-append}
 use Rattle.base.proofs.Pick.{pick-here, pick-past}
 use Rattle.fields.specs.Field.{field, spell}
@@ -22,18 +22,19 @@ use Rattle.refusal.proofs.Order.{Rule, broken, kept, None, rule-first, rule-las
 use Rattle.text.specs.Flags.{version, newer, flagsGiving}
 use Rattle.text.specs.Reading as text
 use Rattle.text.specs.Drive.{Desc}
-use Rattle.reading.specs.Places.{descs}
+use Rattle.reading.specs.Places.{descs, reported}
 use Rattle.reading.specs.Completed.{completeFault}
 use Rattle.checks.specs.declared.Finding.{Finding}
-use Rattle.checks.specs.declared.legal.Length.{Length}
-use Rattle.checks.specs.declared.legal.Length.the-variants.{Any, Exactly, Counted}
-use Rattle.checks.specs.declared.legal.Row.{Row}
-use Rattle.checks.specs.Legal.{maskBytes, legal, other, rowOf}
-use Rattle.checks.specs.Rules.{byteOf, flagsFault, tooShort, tooLong, wrongLength, flagsShort, flagsBarred, rowRule, maskAt, reservedRule, reservedAt, cueRule, profileAt, profilesFault, bodyFault, descFault}
-use Rattle.checks.specs.Check.{reported, finding, _orNext_, firstFinding, checkedAll, checked}
+use Rattle.legal.specs.declared.Length.{Length}
+use Rattle.legal.specs.declared.Length.the-variants.{Any, Exactly, Counted}
+use Rattle.legal.specs.declared.Row.{Row}
+use Rattle.legal.specs.Legal.{maskBytes, legal, other, rowOf}
+use Rattle.legal.specs.Bodies.{byteOf, tooShort, tooLong, wrongLength, maskAt, reservedRule, reservedAt, cueRule}
+use Rattle.checks.specs.Rules.{flagsFault, flagsShort, flagsBarred, rowRule, profileAt, profilesFault, bodyFault, descFault}
+use Rattle.checks.specs.Check.{finding, _orNext_, firstFinding, checkedAll, checked}
 use Rattle.checks.specs.Faultless.{AtLeast, AtMost, Passes}
-use Rattle.checks.proofs.Bools.{not-yes, not-no, and-true, and-false}
-use Rattle.checks.proofs.Calls.{if-yes, if-no}
+use Rattle.base.proofs.Bools.{not-yes, not-no, and-true, and-false}
+use Rattle.refusal.proofs.Calls.{if-yes, if-no}
 use Rattle.checks.proofs.Findings.{next-none, core-missing, core-there}
 use Rattle.checks.proofs.Faultless.{not-newer, of-version, length-good, length-accept, both-good, both-accept, free-good, free-accept, bits-good, bits-accept, cue-good, cue-accept, profiles-good, profiles-accept, passes-of}
 

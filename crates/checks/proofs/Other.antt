@@ -17,10 +17,11 @@ use Rattle.refusal.specs.First.{refuse, accept}
 use Rattle.refusal.proofs.First.{orElse-accepts, if-accepts, first-accepts}
 use Rattle.text.specs.Drive.{Desc}
 use Rattle.text.proofs.FlagsRule.{flags-good}
-use Rattle.checks.specs.declared.legal.Row.{Row}
+use Rattle.legal.specs.declared.Row.{Row}
 use Rattle.base.specs.Pick.{pick}
-use Rattle.checks.specs.Legal.{legal, other, maskBytes, rowOf}
-use Rattle.checks.specs.Rules.{flagsFault, maskAt, bodyFault, profilesFault, descFault}
+use Rattle.legal.specs.Legal.{legal, other, maskBytes, rowOf}
+use Rattle.checks.specs.Rules.{flagsFault, bodyFault, profilesFault, descFault}
+use Rattle.legal.specs.Bodies.{maskAt}
 use Rattle.checks.specs.Faultless.{Faultless}
 use Rattle.base.proofs.Pick.{pick-here, pick-past}
 use Rattle.checks.proofs.Faultless.{desc-accept}

@@ -7,16 +7,12 @@ use Rattle.refusal.specs.declared.Refusal.{Refusal}
 use Rattle.refusal.specs.First.{refuse, accept, _if_else_}
 use Rattle.text.specs.Drive.{Desc}
 use Rattle.checks.specs.declared.Finding.{Finding}
-use Rattle.base.specs.Pick.{pick, some}
+use Rattle.base.specs.Pick.{pick}
 use Rattle.checks.specs.Rules.{descFault}
-use Rattle.reading.specs.Places.{descs}
+use Rattle.reading.specs.Places.{descs, reported}
 use Rattle.reading.specs.Completed.{completeFault}
 
 infixr 20 _orNext_
--- a feature is reported
-unfoldable pub reported : ℕ → List Desc → Bool
-reported f ds = some (λ d. eqb (d .number) f) ds
-
 -- a number and a feature
 abbrev pub finding : Refusal → ℕ → Finding
 finding r f = record { refusal = r; feature = record { 0 = f } }

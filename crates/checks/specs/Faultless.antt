@@ -9,13 +9,12 @@ use Rattle.base.specs.Lists.{All}
 use Rattle.fields.specs.Field.{field}
 use Rattle.text.specs.Flags.{reserved, version, persistent, current}
 use Rattle.text.specs.Drive.{Desc}
-use Rattle.checks.specs.declared.legal.Length.{Length}
-use Rattle.checks.specs.declared.legal.Length.the-variants.{Any, Exactly, Counted}
-use Rattle.checks.specs.Legal.{rowOf}
-use Rattle.checks.specs.Rules.{byteOf, maskAt}
-use Rattle.reading.specs.Places.{descs}
+use Rattle.legal.specs.declared.Length.{Length}
+use Rattle.legal.specs.declared.Length.the-variants.{Any, Exactly, Counted}
+use Rattle.legal.specs.Legal.{rowOf}
+use Rattle.legal.specs.Bodies.{byteOf, maskAt}
+use Rattle.reading.specs.Places.{descs, reported}
 use Rattle.reading.specs.Completed.{completeFault}
-use Rattle.checks.specs.Check.{reported}
 
 -- a body is at least as long as its row says, and at most
 abbrev pub AtLeast : Length → List ℕ → Type 0

@@ -11,6 +11,8 @@ ghost use Rattle.layout.specs.Contents.{laid};
 ghost use Rattle.sheet.specs.Check.{verdict};
 use layout::Layout;
 use lent::Made;
+use program_io::streams;
+use program_words::sheets;
 
 // The argument that is given, and is 0, where there is a stack for the longest sheet.
 const LONG: usize = 2;

@@ -34,11 +34,13 @@ use Rattle.layout.proofs.put_head as put-head
 use Rattle.layout.proofs.place_row as place-row
 use Rattle.layout.proofs.put_contents as put-contents
 use Rattle.layout.proofs.set_flags as set-flags
-use Rattle.reading.specs.Places.{descs}
+use Rattle.text.specs.Reading.{numberAt, flagsAt, lengthAt}
+use Rattle.reading.specs.Places.{descs, reported}
 use Rattle.reading.specs.Completed.{completeFault}
-use Rattle.checks.specs.Check.{reported, firstFinding}
-use Rattle.checks.proofs.walk.reports as walk-reports
-use Rattle.checks.proofs.rules.first_fault as rules-first-fault
+use Rattle.reading.proofs.number_in as number-in
+use Rattle.reading.proofs.flags_in as flags-in
+use Rattle.reading.proofs.length_in as length-in
+use Rattle.reading.proofs.reports as reports
 use Rattle.demands.proofs.Named.{named, met}
 
 -- The contract s of the function's theorem is made of the clauses c, no more than q is asked of the caller, and two outcomes that are allowed are the same
@@ -170,18 +172,29 @@ pub put-contents-tied : PromisedAsking put-contents.ended (λ M. put-contents.cl
     (named (λ _ out at to lay s n r out′ _ _ _ _ _. Wrote (now out) at (contents to (each (entryOf (stored lay (now s))) 0 n)) r out′))
 put-contents-tied x = promises-asking (x .𝓤) (λ o e. e)
 
--- ---- checks
+-- ---- reading
 
-pub walk-reports-decided : DecidedAsking walk-reports.ended (λ M. walk-reports.clauses) (λ M. walk-reports.spec) (met (λ _ f s. completeFault (now s) .number ≡ 0)) (λ κs r. r)
-walk-reports-decided x = decides-asking (x .𝓤) (λ o o′ p q. (joined p q, refl))
+pub number-in-decided : DecidedAsking number-in.ended (λ M. number-in.clauses) (λ M. number-in.spec) (met (λ _ s at. at + 4 ≤ length (now s))) (λ κs r. r)
+number-in-decided x = decides-asking (x .𝓤) (λ o o′ p q. ((λ i. record { 0 = joined p q i }), refl))
 
-pub walk-reports-tied : PromisedAsking walk-reports.ended (λ M. walk-reports.clauses) (λ M. walk-reports.spec) (met (λ _ f s. completeFault (now s) .number ≡ 0))
+pub number-in-tied : PromisedAsking number-in.ended (λ M. number-in.clauses) (λ M. number-in.spec) (met (λ _ s at. at + 4 ≤ length (now s))) (named (λ _ s at r _ _. r .0 ≡ numberAt (now s) at))
+number-in-tied x = promises-asking (x .𝓤) (λ o e. e)
+
+pub flags-in-decided : DecidedAsking flags-in.ended (λ M. flags-in.clauses) (λ M. flags-in.spec) (met (λ _ s at. at + 4 ≤ length (now s))) (λ κs r. r)
+flags-in-decided x = decides-asking (x .𝓤) (λ o o′ p q. ((λ i. record { 0 = joined p q i }), refl))
+
+pub flags-in-tied : PromisedAsking flags-in.ended (λ M. flags-in.clauses) (λ M. flags-in.spec) (met (λ _ s at. at + 4 ≤ length (now s))) (named (λ _ s at r _ _. r .0 ≡ flagsAt (now s) at))
+flags-in-tied x = promises-asking (x .𝓤) (λ o e. e)
+
+pub length-in-decided : DecidedAsking length-in.ended (λ M. length-in.clauses) (λ M. length-in.spec) (met (λ _ s at. at + 4 ≤ length (now s))) (λ κs r. r)
+length-in-decided x = decides-asking (x .𝓤) (λ o o′ p q. (joined p q, refl))
+
+pub length-in-tied : PromisedAsking length-in.ended (λ M. length-in.clauses) (λ M. length-in.spec) (met (λ _ s at. at + 4 ≤ length (now s))) (named (λ _ s at r _ _. r ≡ lengthAt (now s) at))
+length-in-tied x = promises-asking (x .𝓤) (λ o e. e)
+
+pub reports-decided : DecidedAsking reports.ended (λ M. reports.clauses) (λ M. reports.spec) (met (λ _ f s. completeFault (now s) .number ≡ 0)) (λ κs r. r)
+reports-decided x = decides-asking (x .𝓤) (λ o o′ p q. (joined p q, refl))
+
+pub reports-tied : PromisedAsking reports.ended (λ M. reports.clauses) (λ M. reports.spec) (met (λ _ f s. completeFault (now s) .number ≡ 0))
     (named (λ _ f s r _ _. r ≡ reported (f .0) (descs (now s))))
-walk-reports-tied x = promises-asking (x .𝓤) (λ o e. e)
-
-pub rules-first-fault-decided : DecidedAsking rules-first-fault.ended (λ M. rules-first-fault.clauses) (λ M. rules-first-fault.spec) (met (λ _ removable s. completeFault (now s) .number ≡ 0)) (λ κs r. r)
-rules-first-fault-decided x = decides-asking (x .𝓤) (λ o o′ p q. (joined p q, refl))
-
-pub rules-first-fault-tied : PromisedAsking rules-first-fault.ended (λ M. rules-first-fault.clauses) (λ M. rules-first-fault.spec) (met (λ _ removable s. completeFault (now s) .number ≡ 0))
-    (named (λ _ removable s r _ _. r ≡ firstFinding removable (descs (now s))))
-rules-first-fault-tied x = promises-asking (x .𝓤) (λ o e. e)
+reports-tied x = promises-asking (x .𝓤) (λ o e. e)

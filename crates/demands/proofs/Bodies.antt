@@ -10,10 +10,10 @@ use lib.Dec.{eqb}
 use Rattle.base.specs.Lists.{each}
 use Rattle.base.specs.Pick.{pick}
 use Rattle.fields.specs.Field.{spell}
-use Rattle.checks.specs.declared.legal.Length.{Length}
-use Rattle.checks.specs.declared.legal.Length.the-variants.{Any, Exactly, Counted}
-use Rattle.checks.specs.Legal.{maskBytes, legal, other, rowOf}
-use Rattle.checks.specs.Rules.{tooShort, tooLong, wrongLength, maskAt}
+use Rattle.legal.specs.declared.Length.{Length}
+use Rattle.legal.specs.declared.Length.the-variants.{Any, Exactly, Counted}
+use Rattle.legal.specs.Legal.{maskBytes, legal, other, rowOf}
+use Rattle.legal.specs.Bodies.{tooShort, tooLong, wrongLength, maskAt}
 
 -- the bits that may be 1 in byte k of a body of 0021h that counts n
 abbrev bitsAt : (n k : ℕ) → ℕ

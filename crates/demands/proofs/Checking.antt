@@ -33,16 +33,17 @@ use Rattle.sheet.specs.Check as sheet
 use Rattle.sheet.specs.Meaning.{meaning, Fine}
 use Rattle.sheet.proofs.Meaning.{meaning-fine}
 use Rattle.checks.specs.declared.Finding.{Finding}
-use Rattle.checks.specs.declared.legal.Row.{Row}
-use Rattle.checks.specs.Legal.{rowOf}
+use Rattle.legal.specs.declared.Row.{Row}
+use Rattle.legal.specs.Legal.{rowOf}
 use Rattle.base.specs.Pick.{pick}
-use Rattle.checks.specs.Rules.{byteOf, flagsFault, rowRule, reservedRule, reservedAt, cueRule, profileAt, profilesFault, bodyFault, descFault}
-use Rattle.reading.specs.Places.{descs}
+use Rattle.legal.specs.Bodies.{byteOf, reservedRule, reservedAt, cueRule}
+use Rattle.checks.specs.Rules.{flagsFault, rowRule, profileAt, profilesFault, bodyFault, descFault}
+use Rattle.reading.specs.Places.{descs, reported}
 use Rattle.reading.specs.Completed.{completeFault}
-use Rattle.checks.specs.Check.{reported, finding, _orNext_, firstFinding, checkedAll, checked}
+use Rattle.checks.specs.Check.{finding, _orNext_, firstFinding, checkedAll, checked}
 use Rattle.checks.specs.Faultless.{Passes}
-use Rattle.checks.proofs.Bools.{not-yes, not-no}
-use Rattle.checks.proofs.Calls.{if-yes, if-no}
+use Rattle.base.proofs.Bools.{not-yes, not-no}
+use Rattle.refusal.proofs.Calls.{if-yes, if-no}
 use Rattle.checks.proofs.Findings.{next-none, next-fault}
 use Rattle.base.proofs.Pick.{pick-here, pick-past}
 use Rattle.checks.proofs.Faultless.{passes-of, of-passes}

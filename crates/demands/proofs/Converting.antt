@@ -8,14 +8,14 @@ use Prim.Native.Nat.{ℕ, zero, suc, _≤_, _<_}
 use native.Mathlib.Omega.{arith}
 use lib.Dec.{ltb}
 use lib.ListN.{length, take}
-use base.Logic.{ent, id⊢, via}
-use contract.Monad.{conj, conj-mono, fact}
+use base.Logic.{ent}
+use contract.Monad.{conj, fact}
 use contract.Lifetimes.{Lfts}
 use denote.Triple.Entry.{Args}
 use denote.Ref.{now}
 use Rattle.base.specs.Lists.{Bytes}
 use Rattle.base.proofs.Decided.{Call, Outcome, allowed}
-use Rattle.base.proofs.Promise.{by, beside, both}
+use Rattle.base.proofs.Promise.{by, beside, all-three}
 use Rattle.lent.specs.Maker as maker
 use Rattle.lent.proofs.Maker.{makes-fault}
 use Rattle.refusal.specs.declared.Refusal.{Refusal}
@@ -132,9 +132,6 @@ either-trusted l s b k c d =
 
 -- ---- three calls: `convert` with a sheet, then `respond`, or `bench`, with what it left and with the sheet itself
 
-pair : {φ ψ : Type 0} → φ → ψ → φ × ψ
-pair f g = (f, g)
-
 module _ {l : Layout} {s t u : Sheet} {d : List ℕ} {o : maker.Outcome} (c : Converts l s d o) (z : o .made .refusal .number ≡ 0) (b : Bytes (s .bytes))
     (there : t ≡ stored l (take (o .made .count) (o .buffer))) (first : u ≡ s) where
   is-laid : t ≡ laid l s
@@ -170,9 +167,8 @@ module _ (x : Call convert.ended (λ M. convert.clauses)) (κs : Lfts (respond.e
       → now command₃ ≡ now command₂ → now out₃ ≡ now out₂
       → maker.outcome r₂ out₂′ ≡ maker.outcome r₃ out₃′)))))
   respond-either o p q =
-      via (x .𝓤) _ (conj-mono (x .𝓤) (id⊢ (x .𝓤) _) (both (x .𝓤) pair))
-      (both (x .𝓤) (λ e fg z b there first is-command is-buffer.
-      fg .0 ∙ alike (by (Converts _ _ _) (converts _ _ _) e) z b there first (args .1 .1 .0 .now) (args .1 .1 .1 .0 .now) ∙ sym (rw (is-command, is-buffer) at (fg .1))))
+      all-three (x .𝓤) (λ e fg z b there first is-command is-buffer.
+      fg .0 ∙ alike (by (Converts _ _ _) (converts _ _ _) e) z b there first (args .1 .1 .0 .now) (args .1 .1 .1 .0 .now) ∙ sym (rw (is-command, is-buffer) at (fg .1)))
 
 module _ (x : Call convert.ended (λ M. convert.clauses)) (κs : Lfts (bench.ended .signature .lifetimes)) (args : Args (bench.ended .signature) κs)
     (κs₂ : Lfts (bench.ended .signature .lifetimes)) (args₂ : Args (bench.ended .signature) κs₂) where
@@ -197,6 +193,5 @@ module _ (x : Call convert.ended (λ M. convert.clauses)) (κs : Lfts (bench.end
       → ending r₂ (buffers response₂′ collected₂′ starts₂′)
       ≡ ending r₃ (buffers response₃′ collected₃′ starts₃′))))))
   bench-either o p q =
-      via (x .𝓤) _ (conj-mono (x .𝓤) (id⊢ (x .𝓤) _) (both (x .𝓤) pair))
-      (both (x .𝓤) (λ e fg z b there first is-rt is-a are-lent.
-      fg .0 ∙ alike-swept (by (Converts _ _ _) (converts _ _ _) e) z b there first (args .1 .1 .0) (args .1 .1 .1 .0) (buffers (args .1 .1 .1 .1 .0 .now) (args .1 .1 .1 .1 .1 .0 .now) (args .1 .1 .1 .1 .1 .1 .0 .now)) ∙ sym (rw (is-rt, is-a, are-lent) at (fg .1))))
+      all-three (x .𝓤) (λ e fg z b there first is-rt is-a are-lent.
+      fg .0 ∙ alike-swept (by (Converts _ _ _) (converts _ _ _) e) z b there first (args .1 .1 .0) (args .1 .1 .1 .0) (buffers (args .1 .1 .1 .1 .0 .now) (args .1 .1 .1 .1 .1 .0 .now) (args .1 .1 .1 .1 .1 .1 .0 .now)) ∙ sym (rw (is-rt, is-a, are-lent) at (fg .1)))

@@ -14,6 +14,8 @@ use Rattle.load.proofs.load as load
 use Rattle.reading.proofs.Decides as reading-decides
 use Rattle.sense.proofs.Decides as sense-decides
 use Rattle.lent.specs.Maker.{Outcome}
+use Rattle.base.proofs.least as least
+use Rattle.base.proofs.difference as difference
 use Rattle.fields.proofs.byte as byte
 use Rattle.fields.proofs.get2 as get2
 use Rattle.fields.proofs.get3 as get3
@@ -33,6 +35,7 @@ use Rattle.text.proofs.Flags.reserved as flags-reserved
 use Rattle.text.proofs.Flags.version as flags-version
 use Rattle.text.proofs.Flags.persistent as flags-persistent
 use Rattle.text.proofs.Flags.current as flags-current
+use Rattle.text.proofs.Flags.odd as flags-odd
 use Rattle.text.proofs.Flags.fault as flags-fault
 use Rattle.command.proofs.Command.fault as command-fault
 use Rattle.command.proofs.Command.read as command-read
@@ -81,11 +84,12 @@ use Rattle.meanings.proofs.put_words as put-words
 use Rattle.sweep.specs.Sweep.{Turn}
 use Rattle.bench.specs.Bench as bench-specs
 use Rattle.bench.proofs.bench as bench
-use Rattle.checks.proofs.legal.row_of as legal-row-of
-use Rattle.checks.proofs.rules.wrong_length as rules-wrong-length
-use Rattle.checks.proofs.rules.reserved_fault as rules-reserved-fault
-use Rattle.checks.proofs.rules.fault_at as rules-fault-at
-use Rattle.checks.proofs.rules.cue_fault as rules-cue-fault
+use Rattle.legal.proofs.row_of as row-of
+use Rattle.legal.proofs.wrong_length as wrong-length
+use Rattle.legal.proofs.mask_at as mask-at
+use Rattle.legal.proofs.reserved_fault as reserved-fault
+use Rattle.legal.proofs.cue_fault as cue-fault
+use Rattle.checks.proofs.fault_at as fault-at
 use Rattle.checks.proofs.check_descriptors as check-descriptors
 use Rattle.needs.proofs.Wrong.number as wrong-number
 use Rattle.needs.proofs.check_profile as check-profile
@@ -133,6 +137,14 @@ use Rattle.abi.proofs.gcf_load as gcf-load
 use Rattle.abi.proofs.gcf_build_command as gcf-build-command
 use Rattle.abi.proofs.gcf_make_sense as gcf-make-sense
 use Rattle.abi.proofs.gcf_read_sense as gcf-read-sense
+
+-- ---- base
+
+pub least-decided : Decided least.ended (λ M. least.clauses) (λ M. least.spec)
+least-decided x = decides (x .𝓤) (λ o o′ p q. (joined p q, refl))
+
+pub difference-decided : Decided difference.ended (λ M. difference.clauses) (λ M. difference.spec)
+difference-decided x = decides (x .𝓤) (λ o o′ p q. (joined p q, refl))
 
 -- ---- fields
 
@@ -198,6 +210,9 @@ flags-persistent-decided x = decides (x .𝓤) (λ o o′ p q. (joined p q, refl
 
 pub flags-current-decided : Decided flags-current.ended (λ M. flags-current.clauses) (λ M. flags-current.spec)
 flags-current-decided x = decides (x .𝓤) (λ o o′ p q. (joined p q, refl))
+
+pub flags-odd-decided : Decided flags-odd.ended (λ M. flags-odd.clauses) (λ M. flags-odd.spec)
+flags-odd-decided x = decides (x .𝓤) (λ o o′ p q. (joined p q, refl))
 
 pub flags-fault-decided : Decided flags-fault.ended (λ M. flags-fault.clauses) (λ M. flags-fault.spec)
 flags-fault-decided x = decides (x .𝓤) (λ o o′ p q. (joined p q, refl))
@@ -393,6 +408,9 @@ bench-decided x = decides (x .𝓤) (λ o o′ p q. (
 pub check-descriptors-decided : Decided check-descriptors.ended (λ M. check-descriptors.clauses) (λ M. check-descriptors.spec)
 check-descriptors-decided x = decides (x .𝓤) (λ o o′ p q. (joined p q, refl))
 
+pub fault-at-decided : Decided fault-at.ended (λ M. fault-at.clauses) (λ M. fault-at.spec)
+fault-at-decided x = decides (x .𝓤) (λ o o′ p q. (joined p q, refl))
+
 pub wrong-number-decided : Decided wrong-number.ended (λ M. wrong-number.clauses) (λ M. wrong-number.spec)
 wrong-number-decided x = decides (x .𝓤) (λ o o′ p q. (joined p q, refl))
 
@@ -402,22 +420,22 @@ check-profile-decided x = decides (x .𝓤) (λ o o′ p q. (said-injective (o .
 pub check-feature-decided : Decided check-feature.ended (λ M. check-feature.clauses) (λ M. check-feature.spec)
 check-feature-decided x = decides (x .𝓤) (λ o o′ p q. (said-injective (o .0) (o′ .0) (joined p q), refl))
 
--- what the mender shares with it
+-- ---- legal
 
-pub legal-row-of-decided : Decided legal-row-of.ended (λ M. legal-row-of.clauses) (λ M. legal-row-of.spec)
-legal-row-of-decided x = decides (x .𝓤) (λ o o′ p q. (joined p q, refl))
+pub row-of-decided : Decided row-of.ended (λ M. row-of.clauses) (λ M. row-of.spec)
+row-of-decided x = decides (x .𝓤) (λ o o′ p q. (joined p q, refl))
 
-pub rules-wrong-length-decided : Decided rules-wrong-length.ended (λ M. rules-wrong-length.clauses) (λ M. rules-wrong-length.spec)
-rules-wrong-length-decided x = decides (x .𝓤) (λ o o′ p q. (joined p q, refl))
+pub wrong-length-decided : Decided wrong-length.ended (λ M. wrong-length.clauses) (λ M. wrong-length.spec)
+wrong-length-decided x = decides (x .𝓤) (λ o o′ p q. (joined p q, refl))
 
-pub rules-reserved-fault-decided : Decided rules-reserved-fault.ended (λ M. rules-reserved-fault.clauses) (λ M. rules-reserved-fault.spec)
-rules-reserved-fault-decided x = decides (x .𝓤) (λ o o′ p q. (joined p q, refl))
+pub mask-at-decided : Decided mask-at.ended (λ M. mask-at.clauses) (λ M. mask-at.spec)
+mask-at-decided x = decides (x .𝓤) (λ o o′ p q. (joined p q, refl))
 
-pub rules-fault-at-decided : Decided rules-fault-at.ended (λ M. rules-fault-at.clauses) (λ M. rules-fault-at.spec)
-rules-fault-at-decided x = decides (x .𝓤) (λ o o′ p q. (joined p q, refl))
+pub reserved-fault-decided : Decided reserved-fault.ended (λ M. reserved-fault.clauses) (λ M. reserved-fault.spec)
+reserved-fault-decided x = decides (x .𝓤) (λ o o′ p q. (joined p q, refl))
 
-pub rules-cue-fault-decided : Decided rules-cue-fault.ended (λ M. rules-cue-fault.clauses) (λ M. rules-cue-fault.spec)
-rules-cue-fault-decided x = decides (x .𝓤) (λ o o′ p q. (joined p q, refl))
+pub cue-fault-decided : Decided cue-fault.ended (λ M. cue-fault.clauses) (λ M. cue-fault.spec)
+cue-fault-decided x = decides (x .𝓤) (λ o o′ p q. (joined p q, refl))
 
 -- ---- mend
 

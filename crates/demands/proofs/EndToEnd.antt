@@ -8,8 +8,8 @@ use native.Mathlib.Omega.{arith}
 use lib.ListN.{length, take, drop}
 use lib.Seq.{take-append-seam}
 use borrow.Author.Tests.{eqb-false}
-use base.Logic.{ent, id⊢, via}
-use contract.Monad.{conj, conj-mono, fact}
+use base.Logic.{ent}
+use contract.Monad.{conj, fact}
 use contract.Lifetimes.{Lfts}
 use denote.Triple.Entry.{Args}
 use denote.Ref.{now}
@@ -40,16 +40,13 @@ use Rattle.sense.proofs.make as sense-make
 use Rattle.sense.proofs.read as sense-read
 use Rattle.abi.specs.Left.{layoutOf, left, showMade}
 use Rattle.abi.proofs.gcf_respond as gcf-respond
-use Rattle.base.proofs.Promise.{by, beside, both}
+use Rattle.base.proofs.Promise.{by, beside, both, all-three}
 use Rattle.demands.proofs.Sending.{Answers, demand2}
 use Rattle.demands.proofs.Readings.{ReadBack, Reads, reads}
 use Rattle.demands.proofs.Importing.{Imports, imports}
 use Rattle.demands.proofs.Converting.{Converts, converts}
 use Rattle.demands.proofs.Senses.{Makes, makes-sense}
 use Rattle.demands.proofs.Named.{saying}
-
-pair : {φ ψ : Type 0} → φ → ψ → φ × ψ
-pair f g = (f, g)
 
 -- ---- what an answer without a number says
 
@@ -185,8 +182,7 @@ module _ (x : Call import.ended (λ M. import.clauses)) (κs : Lfts (convert.end
       → length (now response) ≤ allocationOf (now command₃) → length (now response) ≤ length (now out₃)
       → maker.outcome r₃ out₃′ ≡ maker.making (now response) (now out₃))))))
   import-convert-end-to-end o q p =
-      via (x .𝓤) _ (conj-mono (x .𝓤) (id⊢ (x .𝓤) _) (both (x .𝓤) pair))
-      (both (x .𝓤) (λ e fg. replayed-laid (by (Imports _ _) (imports _ _) e) (by (Converts _ _ _) (converts _ _ _) (fg .0)) (by (Answers _ _ _) (demand2 _ _ _) (fg .1))))
+      all-three (x .𝓤) (λ e fg. replayed-laid (by (Imports _ _) (imports _ _) e) (by (Converts _ _ _) (converts _ _ _) (fg .0)) (by (Answers _ _ _) (demand2 _ _ _) (fg .1)))
 
 -- ---- sense data end to end: `make` is called, then `read` with the bytes that it wrote
 

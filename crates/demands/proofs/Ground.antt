@@ -1,14 +1,19 @@
 -- The ties of the functions that the others stand on: every outcome that a function's own contract allows is the definition's value and, where the paper has a
 -- sentence on it, what that says in plain numbers. Assumes nothing.
-use mathlib.Core.Path.{_≡_, _∙_}
+use mathlib.Core.Path.{_≡_, sym, _∙_}
+use mathlib.Core.Bool.{Bool, false}
 use mathlib.Core.List.{[], _∷_}
+use mathlib.Core.Logic.{_⊎_, inl, inr, ⊎-elim}
 use lib.Dec.{eqb}
-use Prim.Native.Nat.{_+_, _*_, _/_, _%_, _≤_}
+use Prim.Native.Nat.{ℕ, _+_, _-_, _*_, _/_, _%_, _≤_, min}
+use native.Mathlib.Omega.{arith}
 use lib.ListN.{length, take, drop, getD, replicate}
 use denote.Ref.{now}
+use Rattle.base.proofs.Compare.{le-or-lt}
 use Rattle.base.proofs.Promise.{Promised, promises, by}
 use Rattle.fields.specs.Field.{field, spell}
 use Rattle.fields.specs.Part.{PartOf}
+use Rattle.refusal.specs.declared.Refusal.{Refusal}
 use Rattle.refusal.specs.First.{refuse, accept, placed}
 use Rattle.lent.specs.Wrote.{Wrote}
 use Rattle.text.specs.Flags as text
@@ -18,6 +23,7 @@ use Rattle.profiles.proofs.Stopped.{records-short}
 use Rattle.text.specs.Reading.{numberAt, flagsAt, lengthAt, descAt}
 use Rattle.reading.specs.Places.{nextAt}
 use Rattle.text.proofs.Promised.{two, Flagging, flagging}
+use Rattle.text.proofs.FlagsRule.{flags-even}
 use Rattle.profiles.proofs.Promised.{Currents, currents}
 use Rattle.layout.proofs.Promised.{laying}
 use Rattle.reading.specs.Judged.{judged}
@@ -25,6 +31,8 @@ use Rattle.layout.specs.Layout.{stored}
 use Rattle.layout.specs.Layout as layout
 use Rattle.sheet.specs.Check.{flagsRule, endBefore}
 use Rattle.sheet.specs.inner.Search.{firstFrom, nextFrom}
+use Rattle.base.proofs.least as least
+use Rattle.base.proofs.difference as difference
 use Rattle.fields.proofs.byte as byte
 use Rattle.fields.proofs.get2 as get2
 use Rattle.fields.proofs.get3 as get3
@@ -44,6 +52,7 @@ use Rattle.text.proofs.Flags.reserved as flags-reserved
 use Rattle.text.proofs.Flags.version as flags-version
 use Rattle.text.proofs.Flags.persistent as flags-persistent
 use Rattle.text.proofs.Flags.current as flags-current
+use Rattle.text.proofs.Flags.odd as flags-odd
 use Rattle.text.proofs.Flags.fault as flags-fault
 use Rattle.text.proofs.Header.new as header-new
 use Rattle.profiles.proofs.current as profiles-current
@@ -71,6 +80,31 @@ use Rattle.reading.proofs.complete as complete
 use Rattle.reading.proofs.judge as judge
 use Rattle.demands.proofs.Readings.{Completes, completes}
 use Rattle.demands.proofs.Named.{named}
+
+-- ---- base
+
+-- r is one of a and b, and neither is less
+pub record Least (a b r : ℕ) : Type 0 where
+  pub first : r ≤ a
+  pub second : r ≤ b
+  pub one : (r ≡ a) ⊎ (r ≡ b)
+
+least-so : (a b : ℕ) → Least a b (min a b)
+least-so a b = record { first = omega arith; second = omega arith; one = ⊎-elim (λ h. inl (omega arith)) (λ h. inr (omega arith)) (le-or-lt a b) }
+
+pub least-tied : Promised least.ended (λ M. least.clauses) (λ M. least.spec) (named (λ _ a b r _ _. Least a b r))
+least-tied x = promises (x .𝓤) (λ o. by (Least _ _) (least-so _ _))
+
+-- r and b are a, or there is nothing over
+pub record Over (a b r : ℕ) : Type 0 where
+  pub above : b ≤ a → r + b ≡ a
+  pub below : a ≤ b → r ≡ 0
+
+over-so : (a b : ℕ) → Over a b (a - b)
+over-so a b = record { above = λ h. omega arith; below = λ h. omega arith }
+
+pub difference-tied : Promised difference.ended (λ M. difference.clauses) (λ M. difference.spec) (named (λ _ a b r _ _. Over a b r))
+difference-tied x = promises (x .𝓤) (λ o. by (Over _ _) (over-so _ _))
 
 -- ---- fields
 
@@ -136,6 +170,14 @@ flags-persistent-tied x = promises (x .𝓤) (λ o e. e)
 
 pub flags-current-tied : Promised flags-current.ended (λ M. flags-current.clauses) (λ M. flags-current.spec) (named (λ _ self r _. r ≡ eqb (self .0 % 2) 1))
 flags-current-tied x = promises (x .𝓤) (λ o e. e)
+
+-- flags that are not odd are refused by no rule
+pub record Odd (f : ℕ) (r : Bool) : Type 0 where
+  pub exact : r ≡ text.odd f
+  pub even : r ≡ false → (bits lone : Refusal) → text.flagsGiving bits lone f ≡ accept
+
+pub flags-odd-tied : Promised flags-odd.ended (λ M. flags-odd.clauses) (λ M. flags-odd.spec) (named (λ _ self r _. Odd (self .0) r))
+flags-odd-tied x = promises (x .𝓤) (λ o e. record { exact = e; even = λ h bits lone. flags-even bits lone _ (sym e ∙ h) })
 
 pub flags-fault-tied : Promised flags-fault.ended (λ M. flags-fault.clauses) (λ M. flags-fault.spec) (named (λ _ self bits lone r _ _ _. (r ≡ text.flagsGiving bits lone (self .0)) × Flagging bits lone (self .0) r))
 flags-fault-tied x = promises (x .𝓤) (λ o e. (e, by (Flagging _ _ _) (flagging _ _ _) e))

@@ -8,14 +8,14 @@ use Prim.Native.Nat.{ℕ, zero, suc}
 use native.Mathlib.Omega.{arith}
 use lib.Dec.{ltb}
 use lib.ListN.{length, take}
-use base.Logic.{ent, id⊢, via}
-use contract.Monad.{conj, conj-mono, fact}
+use base.Logic.{ent}
+use contract.Monad.{conj, fact}
 use contract.Lifetimes.{Lfts}
 use denote.Triple.Entry.{Args}
 use denote.Ref.{now}
 use Rattle.base.specs.Lists.{Bytes}
 use Rattle.base.proofs.Decided.{Call, Outcome, allowed}
-use Rattle.base.proofs.Promise.{beside, both}
+use Rattle.base.proofs.Promise.{beside, all-three}
 use Rattle.refusal.specs.declared.Refusal.{Refusal}
 use Rattle.refusal.specs.First.{refuse, accept, _if_else_, _orElse_}
 use Rattle.refusal.proofs.First.{orElse-none, unless-none, unless-fault}
@@ -127,9 +127,6 @@ agree i d c e b o q s there = record {
         ap (λ (x : maker.Outcome). x .made .refusal) (images i c e .refuses f)
         ∙ sym (ap (λ (x : maker.Outcome). x .made .refusal) (q ∙ makes-fault (captureFault i) 42 (sheetFrom i .bytes) d f))
 
-pair : {φ ψ : Type 0} → φ → ψ → φ × ψ
-pair f g = (f, g)
-
 module _ (x : Call import.ended (λ M. import.clauses)) (κs : Lfts (respond.ended .signature .lifetimes)) (args : Args (respond.ended .signature) κs)
     (κs₂ : Lfts (rom-respond.ended .signature .lifetimes)) (args₂ : Args (rom-respond.ended .signature) κs₂) where
   abbrev by-sheet : Call respond.ended (λ M. respond.clauses)
@@ -149,7 +146,6 @@ module _ (x : Call import.ended (λ M. import.clauses)) (κs : Lfts (respond.end
       → now command₃ ≡ now command₂ → now out₃ ≡ now out₂
       → Agrees (r .refusal) (maker.outcome r₂ out₂′) (maker.outcome r₃ out₃′))))))
   rom-end-to-end o p q =
-      via (x .𝓤) _ (conj-mono (x .𝓤) (id⊢ (x .𝓤) _) (both (x .𝓤) pair))
-      (both (x .𝓤) (λ e fg b is-image there is-command is-buffer.
+      all-three (x .𝓤) (λ e fg b is-image there is-command is-buffer.
       let a = agree (x .args .0 .now) (x .args .1 .0 .now) (args .1 .1 .0 .now) (args .1 .1 .1 .0 .now) b (maker.outcome (o .0) (o .1 .1 .0)) e (layout.stored (args .0) (args .1 .0 .now)) there in
-      rw (fg .0, rw (is-image, is-command, is-buffer) at (fg .1)) a))
+      rw (fg .0, rw (is-image, is-command, is-buffer) at (fg .1)) a)

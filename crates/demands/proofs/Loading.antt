@@ -9,15 +9,15 @@ use Prim.Native.Nat.{ℕ, zero, suc, _/_, _≤_, _<_}
 use native.Mathlib.Omega.{arith}
 use lib.Dec.{ltb, eqb}
 use lib.ListN.{length, getD, take, replicate}
-use base.Logic.{ent, id⊢, via}
-use contract.Monad.{conj, conj-mono, fact}
+use base.Logic.{ent}
+use contract.Monad.{conj, fact}
 use contract.Lifetimes.{Lfts}
 use denote.Ref.{now}
 use denote.Triple.Entry.{Args}
 use Rattle.base.specs.Lists.{each, flat, keep, Bytes}
 use Rattle.base.specs.Pick.{pick}
 use Rattle.base.proofs.Decided.{Call, Outcome, allowed}
-use Rattle.base.proofs.Promise.{Promised, promises, by, beside, both}
+use Rattle.base.proofs.Promise.{Promised, promises, by, beside, both, all-three}
 use Rattle.fields.specs.Field.{field, spell}
 use Rattle.refusal.specs.declared.Refusal.{Refusal}
 use Rattle.refusal.specs.First.{refuse, accept, _if_else_, pickZero, _orElse_, unless}
@@ -134,9 +134,6 @@ module _ (x : Call load.ended (λ M. load.clauses)) (κs : Lfts (bench.ended .si
 
 -- ---- loading B after A: `load` is called with A, then with B on what it left, and with B on the sheet itself
 
-pair : {φ ψ : Type 0} → φ → ψ → φ × ψ
-pair f g = (f, g)
-
 module _ {fs ps d : List ℕ} {s t u : Sheet} {o : maker.Outcome} (a : Loads fs ps s d o) (z : o .made .refusal .number ≡ 0) (b : Bytes (s .bytes))
     (there : t ≡ stored (s .layout) (take (o .made .count) (o .buffer))) (first : u ≡ s) where
   alike : (fs′ ps′ e : List ℕ) → loading fs′ ps′ t e ≡ loading fs′ ps′ u e
@@ -163,10 +160,9 @@ module _ (x : Call load.ended (λ M. load.clauses)) (κs : Lfts (load.ended .sig
       → now features₃ ≡ now features₂ → now profiles₃ ≡ now profiles₂ → now out₃ ≡ now out₂
       → maker.outcome r₂ out₂′ ≡ maker.outcome r₃ out₃′)))))
   load-last o p q =
-      via (x .𝓤) _ (conj-mono (x .𝓤) (id⊢ (x .𝓤) _) (both (x .𝓤) pair))
-      (both (x .𝓤) (λ e fg z b there first are-features are-profiles is-out.
+      all-three (x .𝓤) (λ e fg z b there first are-features are-profiles is-out.
       fg .0 ∙ alike (by (Loads _ _ _ _) (loads-so _ _ _ _) e) z b there first (args .1 .1 .0 .now) (args .1 .1 .1 .0 .now) (args .1 .1 .1 .1 .0 .now)
-      ∙ sym (rw (are-features, are-profiles, is-out) at (fg .1))))
+      ∙ sym (rw (are-features, are-profiles, is-out) at (fg .1)))
 
 -- ---- both layouts of one sheet load to both layouts of one sheet: `convert` is called, then `load` with what it left and with the sheet itself
 
@@ -244,10 +240,9 @@ module _ (x : Call convert.ended (λ M. convert.clauses)) (κs : Lfts (load.ende
       → now features₃ ≡ now features₂ → now profiles₃ ≡ now profiles₂ → length (now out₂) ≡ length (now out₃)
       → Either to (stored lay (now s)) (maker.outcome r₂ out₂′) (maker.outcome r₃ out₃′))))))
   load-either o p q =
-      via (x .𝓤) _ (conj-mono (x .𝓤) (id⊢ (x .𝓤) _) (both (x .𝓤) pair))
-      (both (x .𝓤) (λ e fg z b there first are-features are-profiles n.
+      all-three (x .𝓤) (λ e fg z b there first are-features are-profiles n.
       either (by (Converts _ _ _) (converts _ _ _) e) z b there first (by (Loads _ _ _ _) (loads-so _ _ _ _) (fg .0))
-      (by (Loads _ _ _ _) (loads-so _ _ _ _) (rw (are-features, are-profiles) at (fg .1))) n))
+      (by (Loads _ _ _ _) (loads-so _ _ _ _) (rw (are-features, are-profiles) at (fg .1))) n)
 
 -- ---- a medium that makes current what is so already, and none at all
 

@@ -12,8 +12,8 @@ use lib.Bits.{bitAnd, and-zero-r}
 use lib.Dec.{eqb, ltb}
 use lib.ListN.{length, take, drop, getD}
 use lib.Seq.{take-at}
-use base.Logic.{ent, id⊢, via}
-use contract.Monad.{conj, conj-mono, fact}
+use base.Logic.{ent}
+use contract.Monad.{conj, fact}
 use contract.Lifetimes.{Lfts}
 use denote.Triple.Entry.{Args}
 use denote.Ref.{now}
@@ -21,7 +21,7 @@ use Rattle.base.specs.Lists.{flat, All, Bytes}
 use Rattle.base.specs.Pick.{pick}
 use Rattle.base.proofs.Bits.{below, below-all}
 use Rattle.base.proofs.Decided.{Call, Outcome, allowed}
-use Rattle.base.proofs.Promise.{Promised, promises, by, beside, both}
+use Rattle.base.proofs.Promise.{Promised, promises, by, beside, both, all-three, Twice}
 use Rattle.fields.specs.Field.{field, spell}
 use Rattle.fields.proofs.Laws.{field-take}
 use Rattle.refusal.specs.declared.Refusal.{Refusal}
@@ -34,7 +34,7 @@ use Rattle.text.specs.Flags.{persistent, current, alone}
 use Rattle.text.specs.Drive.{Desc, Good}
 use Rattle.text.specs.Response.{bytes, currentProfile}
 use Rattle.text.proofs.FlagsRule.{flags-accept}
-use Rattle.reading.specs.Places.{descs}
+use Rattle.reading.specs.Places.{descs, reported}
 use Rattle.reading.specs.Completed.{completeFault}
 use Rattle.reading.proofs.read as read
 use Rattle.profiles.specs.Profiles.{profileCurrent, profileLast, profilesOf, recordsFault}
@@ -43,16 +43,17 @@ use Rattle.sheet.specs.Check.{flagsRule}
 use Rattle.capture.specs.Capture.{ownRule, flagsFaults, sheetRule, captureFault}
 use Rattle.capture.proofs.Numbers.{complete-is, own-is, record-is}
 use Rattle.checks.specs.declared.Finding.{Finding}
-use Rattle.checks.specs.Legal.{legal, rowOf, maskBytes}
-use Rattle.checks.specs.Rules.{byteOf, maskAt, wrongLength, reservedAt, cueRule}
-use Rattle.checks.specs.Check.{reported, checked}
-use Rattle.checks.proofs.Calls.{if-no}
-use Rattle.checks.proofs.Bools.{not-yes, not-no, true-and}
+use Rattle.legal.specs.Legal.{legal, rowOf, maskBytes}
+use Rattle.legal.specs.Bodies.{byteOf, maskAt, wrongLength, reservedAt, cueRule}
+use Rattle.checks.specs.Check.{checked}
+use Rattle.refusal.proofs.Calls.{if-no}
+use Rattle.base.proofs.Bools.{not-yes, not-no, true-and}
 use Rattle.checks.proofs.Faultless.{passes-of}
-use Rattle.checks.proofs.legal.row_of as legal-row-of
-use Rattle.checks.proofs.rules.wrong_length as rules-wrong-length
-use Rattle.checks.proofs.rules.reserved_fault as rules-reserved-fault
-use Rattle.checks.proofs.rules.cue_fault as rules-cue-fault
+use Rattle.legal.proofs.row_of as row-of
+use Rattle.legal.proofs.wrong_length as wrong-length
+use Rattle.legal.proofs.mask_at as mask-at
+use Rattle.legal.proofs.reserved_fault as reserved-fault
+use Rattle.legal.proofs.cue_fault as cue-fault
 use Rattle.checks.proofs.check_descriptors as check-descriptors
 use Rattle.import.specs.Import.{sheetFrom, imported}
 use Rattle.import.proofs.import as import
@@ -66,34 +67,31 @@ use Rattle.mend.proofs.Made.{fixed-clean}
 use Rattle.mend.proofs.Kept.{profile-is, mended-kept, mended-read}
 use Rattle.mend.proofs.Promised.{Remains, Mends, mends-so, mending-so, made-so}
 use Rattle.mend.proofs.mend as mend
-use Rattle.demands.proofs.Packets.{Twice}
 use Rattle.demands.proofs.Named.{named, saying}
 
 pub mend-tied : Promised mend.ended (λ M. mend.clauses) (λ M. mend.spec)
     (named (λ _ response copy list r _ copy′ list′. Mends (now response) (now copy) (now list) (mending.outcome r copy′ list′)))
 mend-tied x = promises (x .𝓤) (λ o. by (Mends _ _ _) (mends-so _ _ _))
 
--- ---- what the mender shares with the check: the table, lengths, and the two rules of a body
+-- ---- what the mender shares with the check: the table, lengths, the bits of a byte, and the two rules of a body
 
-pub legal-row-of-tied : Promised legal-row-of.ended (λ M. legal-row-of.clauses) (λ M. legal-row-of.spec) (named (λ _ f r _. r ≡ rowOf (f .0)))
-legal-row-of-tied x = promises (x .𝓤) (λ o e. e)
+pub row-of-tied : Promised row-of.ended (λ M. row-of.clauses) (λ M. row-of.spec) (named (λ _ f r _. r ≡ rowOf (f .0)))
+row-of-tied x = promises (x .𝓤) (λ o e. e)
 
-pub rules-wrong-length-tied : Promised rules-wrong-length.ended (λ M. rules-wrong-length.clauses) (λ M. rules-wrong-length.spec)
+pub wrong-length-tied : Promised wrong-length.ended (λ M. wrong-length.clauses) (λ M. wrong-length.spec)
     (named (λ _ wanted flags n len r _ _ _ _. r ≡ wrongLength wanted (flags .0) n len))
-rules-wrong-length-tied x = promises (x .𝓤) (λ o e. e)
+wrong-length-tied x = promises (x .𝓤) (λ o e. e)
 
-pub rules-reserved-fault-tied : Promised rules-reserved-fault.ended (λ M. rules-reserved-fault.clauses) (λ M. rules-reserved-fault.spec)
+pub mask-at-tied : Promised mask-at.ended (λ M. mask-at.clauses) (λ M. mask-at.spec) (named (λ _ row n k r _ _ _. r ≡ maskAt (row .1) (row .2) n k))
+mask-at-tied x = promises (x .𝓤) (λ o e. e)
+
+pub reserved-fault-tied : Promised reserved-fault.ended (λ M. reserved-fault.clauses) (λ M. reserved-fault.spec)
     (named (λ _ row body r _ _. r ≡ firstOf (reservedAt row (now body)) 0 (length (now body))))
-rules-reserved-fault-tied x = promises (x .𝓤) (λ o e. e)
+reserved-fault-tied x = promises (x .𝓤) (λ o e. e)
 
-pub rules-cue-fault-tied : Promised rules-cue-fault.ended (λ M. rules-cue-fault.clauses) (λ M. rules-cue-fault.spec)
+pub cue-fault-tied : Promised cue-fault.ended (λ M. cue-fault.clauses) (λ M. cue-fault.spec)
     (named (λ _ f body r _ _. r ≡ cueRule (f .0) (getD (now body) 0 0) (field 3 (now body) 1)))
-rules-cue-fault-tied x = promises (x .𝓤) (λ o e. e)
-
--- ---- calls one after the other
-
-pair : {φ ψ : Type 0} → φ → ψ → φ × ψ
-pair f g = (f, g)
+cue-fault-tied x = promises (x .𝓤) (λ o e. e)
 
 -- ---- what a call that was not refused left is the response, mended
 
@@ -184,10 +182,9 @@ module _ (x : Call mend.ended (λ M. mend.clauses)) (κs : Lfts (read.ended .sig
       r .refusal .number ≡ 0 → Bytes (now response) → now s₂ ≡ now response → now s₃ ≡ take (r .length) copy′
       → rt₂ ≡ 0 → sfn₂ .0 ≡ 0 → rt₃ ≡ 0 → sfn₃ .0 ≡ 0 → r₃ ≡ r₂)))))
   mend-read o p q =
-      via (x .𝓤) _ (conj-mono (x .𝓤) (id⊢ (x .𝓤) _) (both (x .𝓤) pair))
-      (both (x .𝓤) (λ e fg z bs first there a b c d.
+      all-three (x .𝓤) (λ e fg z bs first there a b c d.
       let k = facts _ _ _ e z bs .0 in
-      rw (c, d, there ∙ is-mended _ _ _ e z bs) at (fg .1) ∙ mended-read _ bs k ∙ sym (rw (a, b, first) at (fg .0))))
+      rw (c, d, there ∙ is-mended _ _ _ e z bs) at (fg .1) ∙ mended-read _ bs k ∙ sym (rw (a, b, first) at (fg .0)))
 
 -- ---- where an import was refused for flags alone, it is no more
 
@@ -371,7 +368,6 @@ module _ (x : Call mend.ended (λ M. mend.clauses)) (κs : Lfts (import.ended .s
       r .refusal .number ≡ 0 → Bytes (now response) → now response₂ ≡ now response → now response₃ ≡ take (r .length) copy′
       → (r₂ .refusal .number ≡ 5) ⊎ (r₂ .refusal .number ≡ 44) → Imported (r₃ .refusal .number))))))
   mend-import o p q =
-      via (x .𝓤) _ (conj-mono (x .𝓤) (id⊢ (x .𝓤) _) (both (x .𝓤) pair))
-      (both (x .𝓤) (λ e fg z bs first there f.
+      all-three (x .𝓤) (λ e fg z bs first there f.
       let was = fault-of _ _ _ f (ap (λ (v : maker.Outcome). v .made .refusal .number) (sym (rw first at (fg .0)))) in
-      subst (λ (v : maker.Outcome). Imported (v .made .refusal .number)) (sym (fg .1)) (import-so _ _ (subst (λ (s : List ℕ). captureFault s .number ≡ 0) (sym (there ∙ is-mended _ _ _ e z bs)) (capture-mended _ bs _ f was)))))
+      subst (λ (v : maker.Outcome). Imported (v .made .refusal .number)) (sym (fg .1)) (import-so _ _ (subst (λ (s : List ℕ). captureFault s .number ≡ 0) (sym (there ∙ is-mended _ _ _ e z bs)) (capture-mended _ bs _ f was))))

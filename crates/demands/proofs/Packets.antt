@@ -5,15 +5,14 @@ use mathlib.Core.Path.{_≡_, sym, ap, _∙_}
 use mathlib.Core.List.{List}
 use Prim.Native.Nat.{ℕ, _≤_, _<_}
 use lib.ListN.{take}
-use base.Logic.{ent, id⊢, via}
-use contract.Monad.{conj, conj-mono, fact}
+use base.Logic.{ent}
+use contract.Monad.{conj, fact}
 use contract.Lifetimes.{Lfts}
-use denote.Triple.Clauses.{Ended}
 use denote.Triple.Entry.{Args}
 use denote.Ref.{now}
 use Rattle.base.specs.Lists.{Bytes}
-use Rattle.base.proofs.Decided.{Contract, Call, Outcome, allowed}
-use Rattle.base.proofs.Promise.{Promised, promises, by, beside, both}
+use Rattle.base.proofs.Decided.{Call, Outcome, allowed}
+use Rattle.base.proofs.Promise.{Promised, promises, by, beside, both, all-three, Twice}
 use Rattle.refusal.specs.declared.Refusal.{Refusal}
 use Rattle.refusal.specs.First.{accept, unless, _orElse_}
 use Rattle.lent.specs.declared.Made.{Made}
@@ -75,13 +74,6 @@ module _ {c e : List ℕ} (same : SameAsked c e) where
   unfolding imageCommanded
   same-image-accepted i d = same-asked same (λ r rt sfn a. unless r (maker.refusing d) (imageRequested i rt sfn a d))
 
--- Of two calls of a function φ holds, whatever outcomes its contract allows.
-abbrev pub Twice : (T : Ended) (c : Contract T) → ((x : Call T c) → Outcome T c x → (y : Call T c) → Outcome T c y → Type 0) → Type 2
-Twice T c φ =
-    (x : Call T c) (κs : Lfts (T .signature .lifetimes)) (args : Args (T .signature) κs) (g : c (x .M) (x .𝓤) (x .H) (x .A) (x .mem) (x .run) κs args .ghost)
-    (o : Outcome T c x) (p : Outcome T c (beside x κs args g))
-    → ent (x .𝓤) (conj (x .𝓤) (allowed T c x o) (allowed T c (beside x κs args g) p)) (fact (x .𝓤) (φ x o (beside x κs args g) p))
-
 -- Two calls of an engine that answers from s, with the commands c and c′ and the buffers d and d′, which leave o and o′: where the commands have the same bytes 0 to 8, each 10
 -- bytes or 12 long, and all else is the same, the same is left: number, place, count, and every byte.
 abbrev Alike : {S L : Type 0} (s s′ : S) (c c′ d d′ : List ℕ) (o o′ : L) → Type 0
@@ -136,9 +128,6 @@ pub gcf-respond-image-accepted-alike : Twice gcf-respond-image-accepted.ended (�
     (λ x o y p. saying x o (λ _ image command response told r _ _ response′ told′. saying y p (λ _ image₂ command₂ response₂ told₂ r₂ _ _ response₂′ told₂′.
     Alike (now image) (now image₂) (now command) (now command₂) (now response) (now response₂) (left r response′ told′) (left r₂ response₂′ told₂′))))
 gcf-respond-image-accepted-alike x κs args g o p = both (x .𝓤) (told-alike imageCommanded (λ same. same-image-accepted same _ _))
-
-pair : {φ ψ : Type 0} → φ → ψ → φ × ψ
-pair f g = (f, g)
 
 -- ---- the three functions of a command
 
@@ -251,8 +240,7 @@ module _ (x : Call command-build.ended (λ M. command-build.clauses)) (κs : Lft
         → rt₃ ≡ rt → sfn₃ .0 ≡ sfn .0 → now s₃ ≡ take (r₂ .count) out₂′
         → ReadBack (meaning (stored lay₂ (now s₂))) 65534 rt (sfn .0) allocation (now s₃) r₃)))))
     build-end-to-end o p q =
-        via (x .𝓤) _ (conj-mono (x .𝓤) (id⊢ (x .𝓤) _) (both (x .𝓤) pair))
-        (both (x .𝓤) (λ e fg h z b eight is-rt is-sfn.
+        all-three (x .𝓤) (λ e fg h z b eight is-rt is-sfn.
         let k = by (Builds _ _ _ _ _) (builds _ _ _ _ _) e in
         read-asked (is-asked h k (λ v rt sfn a. rt)) (is-asked h k (λ v rt sfn a. sfn)) (is-asked h k (λ v rt sfn a. a))
-        (by (Answers _ _ _) (demand2 _ _ _) (fg .0)) z (rw (is-rt, is-sfn) at (by (Reads _ _ _ _) (reads _ _ _ _) (fg .1))) b eight))
+        (by (Answers _ _ _) (demand2 _ _ _) (fg .0)) z (rw (is-rt, is-sfn) at (by (Reads _ _ _ _) (reads _ _ _ _) (fg .1))) b eight)

@@ -46,10 +46,10 @@ use Rattle.refusal.specs.declared.Refusal.{Refusal}
 use Rattle.text.specs.Drive.{Desc}
 use Rattle.text.specs.Reading.{descAt}
 use Rattle.checks.specs.Rules.{descFault}
-use Rattle.checks.specs.Check.{reported}
+use Rattle.reading.specs.Places.{reported}
 use Rattle.checks.proofs.Found.{Breaks, desc-breaks}
 use Rattle.checks.proofs.check_descriptors as check-descriptors
-use Rattle.checks.proofs.rules.fault_at as rules-fault-at
+use Rattle.checks.proofs.fault_at as fault-at
 use Rattle.needs.proofs.Wrong.number as wrong-number
 use Rattle.needs.proofs.check_profile as check-profile
 use Rattle.needs.proofs.check_feature as check-feature
@@ -175,9 +175,9 @@ check-descriptors-tied x = promises (x .𝓤) (λ o. by (Finds _) (finds _))
 fault-breaks : (removable : Bool) (d : Desc) (r : Refusal) → r ≡ descFault removable d → (ds : List Desc) → reported 3 ds ≡ removable → Breaks ds d (r .number)
 fault-breaks removable d r e ds q = subst (λ (k : Refusal). Breaks ds d (k .number)) (ap (λ (b : Bool). descFault b d) q ∙ sym e) (desc-breaks ds d)
 
-pub rules-fault-at-tied : Promised rules-fault-at.ended (λ M. rules-fault-at.clauses) (λ M. rules-fault-at.spec)
+pub fault-at-tied : Promised fault-at.ended (λ M. fault-at.clauses) (λ M. fault-at.spec)
     (named (λ _ removable s at r _ _ _. (ds : List Desc) → reported 3 ds ≡ removable → Breaks ds (descAt (now s) at) (r .number)))
-rules-fault-at-tied x = promises (x .𝓤) (λ o e. fault-breaks _ _ _ e)
+fault-at-tied x = promises (x .𝓤) (λ o e. fault-breaks _ _ _ e)
 
 pub wrong-number-tied : Promised wrong-number.ended (λ M. wrong-number.clauses) (λ M. wrong-number.spec) (named (λ _ self r _. Tells self r))
 wrong-number-tied x = promises (x .𝓤) (λ o. by (Tells _) (tells _))

@@ -2,13 +2,16 @@
 // starts at 0 starts a sweep, any other goes on with the one before it. Arguments: how many exchanges there are, and whether there is no room for what a sweep collects and for a
 // sheet. Standard input has them (`exchanges`).
 use command::Command;
-use exchanges::Exchange;
 use lent::Made;
 use libc::STDOUT_FILENO;
 use needs::Judgement;
+use program_io::exchanges;
+use program_io::exchanges::Exchange;
+use program_io::streams;
+use program_io::streams::say;
+use program_io::streams::say_decimal;
+use program_words::words;
 use refusal::Refusal;
-use streams::say;
-use streams::say_decimal;
 use sweep::Step;
 use sweep::Sweep;
 use text::Feature;

@@ -4,3 +4,12 @@ pub mod Lines
 pub mod Puts
 pub mod Going
 pub mod Given
+pub mod Coming
+pub mod Digits
+pub mod Fronts
+pub mod Packed
+pub mod Rows
+pub mod Dumped
+pub mod Canonical
+pub mod Od
+pub mod Commas

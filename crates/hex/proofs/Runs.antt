@@ -13,19 +13,19 @@ use Rattle.hex.proofs.Cases.{choose-yes, choose-no}
 
 module _ (k : Class) (s : List ℕ) where
   -- another character
-  past-here : (i : ℕ) → i < length s → isA k (at s i) ≡ false → past k s i ≡ i
+  pub past-here : (i : ℕ) → i < length s → isA k (at s i) ≡ false → past k s i ≡ i
   unfolding past pastOf
   past-here i h e =
       let n : length s - i ≡ suc (length s - suc i) = omega arith in
       rw n (choose-no (isA k (at s i)) _ _ e)
 
-  past-next : (i : ℕ) → i < length s → isA k (at s i) ≡ true → past k s i ≡ past k s (i + 1)
+  pub past-next : (i : ℕ) → i < length s → isA k (at s i) ≡ true → past k s i ≡ past k s (i + 1)
   unfolding past pastOf
   past-next i h e =
       let n : length s - i ≡ suc (length s - suc i) = omega arith in
       rw (add-one, n) (choose-yes (isA k (at s i)) _ _ e)
 
-  past-out : (i : ℕ) → length s ≤ i → past k s i ≡ i
+  pub past-out : (i : ℕ) → length s ≤ i → past k s i ≡ i
   unfolding past pastOf
   past-out i h =
       let n : length s - i ≡ 0 = omega arith in

@@ -2,6 +2,10 @@
 // a line on standard error, and nothing is written then. Arguments: what the command asks for, and how many bytes it has (`packets`), with none RT 0 from 0, allocation length 65,535; in their
 // place all its bytes, two hexadecimal digits each; whether hexadecimal text is read, unless the image is bytes; whether padding is trimmed; and whether text is written.
 use lent::Made;
+use program_io::dumps;
+use program_io::packets;
+use program_io::streams;
+use program_words::told;
 use text::Header;
 
 // One byte more than an image may have: an input that fills it is refused, not shortened.

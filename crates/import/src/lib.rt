@@ -14,15 +14,6 @@ use text::Header;
 
 // ---- a descriptor that the response has whole
 
-// Additional Length.
-// Asks: a descriptor that the response has whole; the check has read it.
-fn length_in(s: &[u8], place: usize) -> usize
-    requires { ⌜ place + 4 + lengthAt (now s) place ≤ length (now s) ⌝ }
-    ensures { λ r. ⌜ r ≡ lengthAt (now (s .entry)) place ⌝ }
-{
-    fields::inside(s, place + 3) as usize
-}
-
 // Its entry: the header bytes as they stand, and where its body will.
 // Asks: a descriptor that the response has whole, which the check has read, and room for the entry, which 42 has shown before.
 fn put_entry(sheet: &mut [u8], at: usize, s: &[u8], place: usize, offset: u32) -> usize
@@ -57,7 +48,7 @@ fn put_features(sheet: &mut [u8], entries: usize, body: usize, s: &[u8], first: 
     let mut next = body;
     let mut place = first;
     while place < s.len() {
-        let len = length_in(s, place);
+        let len = reading::length_in(s, place) as usize;
         entry = put_entry(sheet, entry, s, place, next as u32);
         next = put_body(sheet, next, s, place, len);
         place += 4 + len;

@@ -7,6 +7,9 @@ ghost use Rattle.lent.specs.Maker.{outcome, refusing, making};
 ghost use Rattle.capture.specs.Capture.{captureFault};
 ghost use Rattle.import.specs.Import.{sheetFrom};
 use lent::Made;
+use program_io::dumps;
+use program_io::streams;
+use program_words::told;
 use text::Header;
 
 // One byte more than a response may have: an input that fills it is refused, not shortened.

@@ -7,8 +7,14 @@
 // drive each has that of the first less the bytes collected before it (`crates/demands/proofs/Following.antt`), and the first has feature 0.
 use libc::STDERR_FILENO;
 use libc::STDOUT_FILENO;
+use program_io::asked;
+use program_io::dumps;
+use program_io::streams;
+use program_io::streams::say;
+use program_words::grounds;
+use program_words::told;
+use program_words::words;
 use refusal::Refusal;
-use streams::say;
 use sweep::Step;
 use sweep::Sweep;
 use text::Header;

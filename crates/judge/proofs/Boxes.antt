@@ -17,7 +17,7 @@ use Rattle.lent.specs.Maker.{Outcome, outcome, written, making, makes}
 use Rattle.lent.proofs.Laws.{kept}
 use Rattle.lent.proofs.Maker.{makes-made}
 use Rattle.lent.proofs.Sets.{sets-out}
-use Rattle.refusal.specs.First.{accept}
+use Rattle.refusal.specs.First.{accept, _if_else_}
 use Rattle.text.specs.Drive.{Listed, Drive}
 use Rattle.text.specs.Response.{bytes, selected, currentProfile, header, dataLength, full, most, sent}
 use Rattle.text.proofs.Sizes.{length-header, length-full, full-low, dataLength-low}
@@ -33,7 +33,7 @@ use Rattle.responder.specs.Trusting.{trusting}
 use Rattle.responder.proofs.Full.{found-length}
 use Rattle.responder.proofs.Trusting.{trusting-accepted}
 use Rattle.judge.specs.declared.Stated.{Stated}
-use Rattle.judge.specs.Boxes.{stating, sentBy, right, either, above, zeroFor, raised, highest}
+use Rattle.judge.specs.Boxes.{stating, sentBy, right, above, zeroFor, raised, highest}
 use Rattle.judge.specs.Verdict.{alone}
 
 -- ---- Data Length
@@ -56,44 +56,44 @@ stated-as rt sfn n p e f = ap₂ (λ (x y : ℕ). stating rt sfn x y) e f
 -- ---- the number behind SFN
 
 pub above-two : (rt sfn r : ℕ) → 2 ≤ rt → r ≡ sfn → r ≡ above rt sfn
-unfolding above either
+unfolding above _if_else_
 above-two rt sfn r h e = e ∙ sym (rw (le-ltb rt 2 h))
 
 pub above-last : (rt sfn r : ℕ) → rt < 2 → 65535 ≤ sfn → r ≡ sfn → r ≡ above rt sfn
-unfolding above either
+unfolding above _if_else_
 above-last rt sfn r h l e = e ∙ sym (rw (lt-ltb rt 2 h, le-ltb sfn 65535 l))
 
 pub above-next : (rt sfn r : ℕ) → rt < 2 → sfn < 65535 → r ≡ sfn + 1 → r ≡ above rt sfn
-unfolding above either
+unfolding above _if_else_
 above-next rt sfn r h l e = e ∙ sym (rw (lt-ltb rt 2 h, lt-ltb sfn 65535 l))
 
 -- ---- one RT taken for 0
 
 pub zero-taken : (which rt r : ℕ) → rt ≡ which → r ≡ 0 → r ≡ zeroFor which rt
-unfolding zeroFor either
+unfolding zeroFor _if_else_
 zero-taken which rt r h e = e ∙ sym (rw (eq-eqb rt which h))
 
 pub zero-left : (which rt r : ℕ) → (rt ≡ which → ⊥) → r ≡ rt → r ≡ zeroFor which rt
-unfolding zeroFor either
+unfolding zeroFor _if_else_
 zero-left which rt r h e = e ∙ sym (rw (ne-eqb rt which h))
 
 -- ---- the highest profile
 
 module _ (every on : Bool) (n h : ℕ) where
   pub raised-low : n ≤ h → h ≡ raised every on n h
-  unfolding raised either
+  unfolding raised _if_else_
   raised-low l = sym (rw (le-ltb h n l))
 
   pub raised-every : h < n → every ≡ true → n ≡ raised every on n h
-  unfolding raised either
+  unfolding raised _if_else_
   raised-every l e = sym (rw (lt-ltb h n l, e))
 
   pub raised-on : h < n → every ≡ false → on ≡ true → n ≡ raised every on n h
-  unfolding raised either
+  unfolding raised _if_else_
   raised-on l e o = sym (rw (lt-ltb h n l, e, o))
 
   pub raised-off : h < n → every ≡ false → on ≡ false → h ≡ raised every on n h
-  unfolding raised either
+  unfolding raised _if_else_
   raised-off l e o = sym (rw (lt-ltb h n l, e, o))
 
 module _ (every : Bool) (b : List ℕ) (w n i h : ℕ) (e : w ≡ highest every (each (listed b) i (n - i)) h) where

@@ -15,7 +15,7 @@ use Rattle.base.specs.Lists.{All, flat}
 use Rattle.base.proofs.Lists.{all-map}
 use Rattle.fields.specs.Field.{spell}
 use Rattle.refusal.specs.declared.Refusal.{Refusal}
-use Rattle.refusal.specs.First.{refuse}
+use Rattle.refusal.specs.First.{refuse, _if_else_}
 use Rattle.command.specs.Command.{commandFault, commandOf, rtOf, sfnOf, allocationOf}
 use Rattle.text.specs.Drive.{Drive}
 use Rattle.text.specs.Response.{bytes, selected, currentProfile, header, dataLength, full, most, sent}
@@ -24,8 +24,8 @@ use Rattle.layout.specs.Layout.{Sheet}
 use Rattle.sheet.specs.Check.{verdict}
 use Rattle.sheet.specs.Meaning.{meaning}
 use Rattle.responder.specs.Answer.{due}
-use Rattle.judge.specs.Boxes.{sentBy, right, either, zeroFor, boxOf, mistakes, sentWith}
-use Rattle.judge.specs.Verdict.{common, zeros, compared, isRight, because, explained, Judgement, judgement, alone, requested, judged}
+use Rattle.judge.specs.Boxes.{sentBy, right, zeroFor, boxOf, mistakes, sentWith}
+use Rattle.judge.specs.Verdict.{common, allZero, compared, isRight, because, explained, Judgement, judgement, alone, requested, judged}
 use Rattle.judge.specs.declared.Mistake.{Mistake}
 use Rattle.judge.specs.declared.Mistake.the-variants.{OnlyAbove, LengthCut, LengthOfAll, HighestCurrent, HighestListed, NotOnlyCurrent, NotOnlyOne, Unexplained}
 use Rattle.judge.specs.declared.Verdict.{Verdict}
@@ -36,25 +36,23 @@ use Rattle.judge.proofs.Search.{sends, judged-sheet, judged-command, ju
 
 -- ---- how far two byte strings are the same
 
-pub common-left-le : (a b : List ℕ) → common a b ≤ length a
+common-le : (a b : List ℕ) → (common a b ≤ length a) × (common a b ≤ length b)
 unfolding common
-common-left-le [] b = omega arith
-common-left-le (x ∷ a) [] = omega arith
-common-left-le (x ∷ a) (y ∷ b) = go (eqb x y) (common-left-le a b)
+common-le [] b = (omega arith, omega arith)
+common-le (x ∷ a) [] = (omega arith, omega arith)
+common-le (x ∷ a) (y ∷ b) = go (eqb x y) (common-le a b)
   where
-    go : (t : Bool) → common a b ≤ length a → elim t [ true ↦ suc (common a b) | false ↦ 0 ] ≤ suc (length a)
-    go true h = omega (arith, h)
-    go false h = omega arith
+    go :
+        (t : Bool) → (common a b ≤ length a) × (common a b ≤ length b)
+        → (elim t [ true ↦ suc (common a b) | false ↦ 0 ] ≤ suc (length a)) × (elim t [ true ↦ suc (common a b) | false ↦ 0 ] ≤ suc (length b))
+    go true h = (omega (arith, h .0), omega (arith, h .1))
+    go false h = (omega arith, omega arith)
+
+pub common-left-le : (a b : List ℕ) → common a b ≤ length a
+common-left-le a b = common-le a b .0
 
 pub common-right-le : (a b : List ℕ) → common a b ≤ length b
-unfolding common
-common-right-le [] b = omega arith
-common-right-le (x ∷ a) [] = omega arith
-common-right-le (x ∷ a) (y ∷ b) = go (eqb x y) (common-right-le a b)
-  where
-    go : (t : Bool) → common a b ≤ length b → elim t [ true ↦ suc (common a b) | false ↦ 0 ] ≤ suc (length b)
-    go true h = omega (arith, h)
-    go false h = omega arith
+common-right-le a b = common-le a b .1
 
 -- up to there they are
 pub common-take : (a b : List ℕ) → take (common a b) a ≡ take (common a b) b
@@ -93,17 +91,17 @@ unfolding common
 common-front [] z = refl
 common-front (x ∷ a) z = rw (eq-eqb x x refl, common) (ap suc (common-front a z))
 
-pub zeros-replicate : (s : List ℕ) → zeros s ≡ true → s ≡ replicate (length s) 0
-unfolding zeros
+pub zeros-replicate : (s : List ℕ) → allZero s ≡ true → s ≡ replicate (length s) 0
+unfolding allZero
 zeros-replicate [] h = refl
 zeros-replicate (x ∷ s) h = go (eqb x 0) refl h (zeros-replicate s)
   where
-    go : (t : Bool) → eqb x 0 ≡ t → (t && zeros s) ≡ true → (zeros s ≡ true → s ≡ replicate (length s) 0) → x ∷ s ≡ replicate (suc (length s)) 0
+    go : (t : Bool) → eqb x 0 ≡ t → (t && allZero s) ≡ true → (allZero s ≡ true → s ≡ replicate (length s) 0) → x ∷ s ≡ replicate (suc (length s)) 0
     go true e k more = rw (eqb-true x 0 e) (ap (λ (l : List ℕ). 0 ∷ l) (more k))
     go false e k more = absurd (true≢false (sym k))
 
-pub replicate-zeros : (n : ℕ) → zeros (replicate n 0) ≡ true
-unfolding zeros
+pub replicate-zeros : (n : ℕ) → allZero (replicate n 0) ≡ true
+unfolding allZero
 replicate-zeros zero = refl
 replicate-zeros (suc n) = replicate-zeros n
 
@@ -142,9 +140,9 @@ module _ (due x : List ℕ) where
       (λ (l : k < length x). omega (arith, l, same-common q, ap length q))
       h
 
-  behind-zeros : Follows due x → k ≡ length due → zeros (drop k x) ≡ true
+  behind-zeros : Follows due x → k ≡ length due → allZero (drop k x) ≡ true
   behind-zeros f e =
-      ap zeros (ap (λ (l : List ℕ). drop k l) (f .padded) ∙ drop-at due (replicate (f .count) 0) k (sym e)) ∙ replicate-zeros (f .count)
+      ap allZero (ap (λ (l : List ℕ). drop k l) (f .padded) ∙ drop-at due (replicate (f .count) 0) k (sym e)) ∙ replicate-zeros (f .count)
 
   agree : take k x ≡ take k due
   agree = sym (common-take due x)
@@ -154,7 +152,7 @@ module _ (due x : List ℕ) where
       (λ (h : length due ≤ k). ⊎-elim
       (λ (l : length x ≤ k).
       subst (Means due x) (met-exact due x k refl h l) (sym (take-all k x l) ∙ agree ∙ take-all k due h))
-      (λ (l : k < length x). go h l (zeros (drop k x)) refl)
+      (λ (l : k < length x). go h l (allZero (drop k x)) refl)
       (le-or-lt (length x) k))
       (λ (h : k < length due). ⊎-elim
       (λ (l : length x ≤ k).
@@ -164,7 +162,7 @@ module _ (due x : List ℕ) where
       (le-or-lt (length x) k))
       (le-or-lt (length due) k)
     where
-      go : length due ≤ k → k < length x → (b : Bool) → zeros (drop k x) ≡ b → Means due x (compared due x)
+      go : length due ≤ k → k < length x → (b : Bool) → allZero (drop k x) ≡ b → Means due x (compared due x)
       go h l true e =
           let n : k ≡ length due = omega (arith, h, common-left-le due x) in
           subst (Means due x) (met-padded due x k refl h l true (sym e) refl)
@@ -322,11 +320,11 @@ module _ (sfn a : ℕ) (m : Drive) where
   above-box rt h l = ap (λ (n : ℕ). sent rt n a m) (sym (above-next rt sfn (sfn + 1) h l refl))
 
   pub not-current-box : sentWith NotOnlyCurrent 1 sfn a m ≡ sent 0 sfn a m
-  unfolding boxOf right sentBy sent full zeroFor either
+  unfolding boxOf right sentBy sent full zeroFor _if_else_
   not-current-box = refl
 
   pub not-one-box : sentWith NotOnlyOne 2 sfn a m ≡ sent 0 sfn a m
-  unfolding boxOf right sentBy sent full zeroFor either
+  unfolding boxOf right sentBy sent full zeroFor _if_else_
   not-one-box = refl
 
   -- its Data Length is what is sent less 4, and all else is as it is to be

@@ -10,7 +10,9 @@ use lib.Dec.{eqb}
 use lib.ListN.{length, getD, drop, drop-of-length-le}
 use lib.Seq.{drop-cons}
 use borrow.Author.Tests.{eq-eqb, ne-eqb, lt-ltb, le-ltb}
-use Rattle.judge.specs.Verdict.{common, zeros, _when_else_, met, compared, unasked}
+use Rattle.refusal.specs.First.{_if_else_}
+use Rattle.refusal.proofs.First.{if-true, if-false}
+use Rattle.judge.specs.Verdict.{common, allZero, met, compared, unasked}
 use Rattle.refusal.specs.declared.Refusal.{Refusal}
 use Rattle.judge.specs.declared.Mistake.the-variants.{Unexplained}
 use Rattle.judge.specs.declared.Verdict.{Verdict}
@@ -47,31 +49,23 @@ module _ (a b : List ℕ) (i : ℕ) (e : common a b ≡ i + common (drop i a) (d
 
 -- ---- nothing but zeros
 
-module _ (s : List ℕ) (at i : ℕ) (e : zeros (drop at s) ≡ zeros (drop i s)) where
-  pub zeros-end : length s ≤ i → true ≡ zeros (drop at s)
-  unfolding zeros
-  zeros-end h = sym (e ∙ ap zeros (drop-of-length-le s h))
+module _ (s : List ℕ) (at i : ℕ) (e : allZero (drop at s) ≡ allZero (drop i s)) where
+  pub zeros-end : length s ≤ i → true ≡ allZero (drop at s)
+  unfolding allZero
+  zeros-end h = sym (e ∙ ap allZero (drop-of-length-le s h))
 
   module _ (x : ℕ) (ex : x ≡ getD s i 0) (h : i < length s) where
-    zeros-here : zeros (drop at s) ≡ (eqb x 0 && zeros (drop (suc i) s))
-    unfolding zeros
-    zeros-here = e ∙ ap zeros (drop-cons s i 0 h) ∙ rw ex refl
+    zeros-here : allZero (drop at s) ≡ (eqb x 0 && allZero (drop (suc i) s))
+    unfolding allZero
+    zeros-here = e ∙ ap allZero (drop-cons s i 0 h) ∙ rw ex refl
 
-    pub zeros-not : (x ≡ 0 → ⊥) → false ≡ zeros (drop at s)
+    pub zeros-not : (x ≡ 0 → ⊥) → false ≡ allZero (drop at s)
     zeros-not n = sym (zeros-here ∙ rw (ne-eqb x 0 n) refl)
 
-    pub zeros-next : x ≡ 0 → zeros (drop at s) ≡ zeros (drop (i + 1) s)
+    pub zeros-next : x ≡ 0 → allZero (drop at s) ≡ allZero (drop (i + 1) s)
     zeros-next q = zeros-here ∙ rw (eq-eqb x 0 q, add-one) refl
 
 -- ---- the verdict, where they are the same up to k
-
-when-true : (v w : Verdict) → (v when true else w) ≡ v
-unfolding _when_else_
-when-true v w = refl
-
-when-false : (v w : Verdict) → (v when false else w) ≡ w
-unfolding _when_else_
-when-false v w = refl
 
 module _ (due x : List ℕ) (k : ℕ) (e : k ≡ common due x) where
   compared-at : compared due x ≡ met k due x
@@ -80,26 +74,26 @@ module _ (due x : List ℕ) (k : ℕ) (e : k ≡ common due x) where
 
   pub met-wrong : k < length due → k < length x → Wrong k Unexplained ≡ compared due x
   unfolding met
-  met-wrong h l = sym (compared-at ∙ rw (lt-ltb k (length due) h, when-true, lt-ltb k (length x) l, when-true))
+  met-wrong h l = sym (compared-at ∙ rw (lt-ltb k (length due) h, if-true, lt-ltb k (length x) l, if-true))
 
   pub met-short : k < length due → length x ≤ k → Short k ≡ compared due x
   unfolding met
-  met-short h l = sym (compared-at ∙ rw (lt-ltb k (length due) h, when-true, le-ltb k (length x) l, when-false))
+  met-short h l = sym (compared-at ∙ rw (lt-ltb k (length due) h, if-true, le-ltb k (length x) l, if-false))
 
   pub met-exact : length due ≤ k → length x ≤ k → Exact ≡ compared due x
   unfolding met
-  met-exact h l = sym (compared-at ∙ rw (le-ltb k (length due) h, when-false, le-ltb k (length x) l, when-false))
+  met-exact h l = sym (compared-at ∙ rw (le-ltb k (length due) h, if-false, le-ltb k (length x) l, if-false))
 
-  module _ (h : length due ≤ k) (l : k < length x) (b : Bool) (eb : b ≡ zeros (drop k x)) where
-    met-behind : compared due x ≡ (Padded k when b else Wrong k Unexplained)
+  module _ (h : length due ≤ k) (l : k < length x) (b : Bool) (eb : b ≡ allZero (drop k x)) where
+    met-behind : compared due x ≡ (Padded k if b else Wrong k Unexplained)
     unfolding met
-    met-behind = compared-at ∙ rw (le-ltb k (length due) h, when-false, lt-ltb k (length x) l, when-true, eb) refl
+    met-behind = compared-at ∙ rw (le-ltb k (length due) h, if-false, lt-ltb k (length x) l, if-true, eb) refl
 
     pub met-padded : b ≡ true → Padded k ≡ compared due x
-    met-padded q = sym (met-behind ∙ rw (q, when-true))
+    met-padded q = sym (met-behind ∙ rw (q, if-true))
 
     pub met-other : b ≡ false → Wrong k Unexplained ≡ compared due x
-    met-other q = sym (met-behind ∙ rw (q, when-false))
+    met-other q = sym (met-behind ∙ rw (q, if-false))
 
 -- ---- a command that is refused
 

@@ -5,6 +5,7 @@ use Prim.Native.Nat.{ℕ, _+_, _-_, min}
 use lib.Dec.{eqb, ltb}
 use lib.ListN.{take}
 use Rattle.base.specs.Lists.{flat}
+use Rattle.refusal.specs.First.{_if_else_}
 use Rattle.text.specs.Drive.{Listed, Drive}
 use Rattle.text.specs.Response.{bytes, selected, currentProfile, header, dataLength, most}
 use Rattle.judge.specs.declared.Stated.{Stated}
@@ -23,21 +24,17 @@ sentBy b a m = take (most a) (header (b .data_length) (b .profile .0) ++ flat by
 unfoldable pub right : (rt sfn : ℕ) → Drive → Stated
 right rt sfn m = stating rt sfn (dataLength (selected rt sfn m)) (currentProfile (m .profiles))
 
-unfoldable pub either : Bool → (a b : ℕ) → ℕ
-either true a b = a
-either false a b = b
-
 -- the number behind SFN, where RT 0 or 1 asks for more than one feature; FFFFh has none behind it
 unfoldable pub above : (rt sfn : ℕ) → ℕ
-above rt sfn = either (ltb rt 2 && ltb sfn 65535) (sfn + 1) sfn
+above rt sfn = (sfn + 1) if ltb rt 2 && ltb sfn 65535 else sfn
 
 -- an RT that is taken for 0, and every other as it is
 unfoldable pub zeroFor : (which rt : ℕ) → ℕ
-zeroFor which rt = either (eqb rt which) 0 rt
+zeroFor which rt = 0 if eqb rt which else rt
 
 -- the highest of h and the numbers of the listed profiles, of all or of the current ones
 unfoldable pub raised : (every on : Bool) (number h : ℕ) → ℕ
-raised every on number h = either (ltb h number && (every || on)) number h
+raised every on number h = number if ltb h number && (every || on) else h
 
 unfoldable pub highest : (every : Bool) → List Listed → (h : ℕ) → ℕ
 highest every [] h = h

@@ -28,20 +28,15 @@ common (x ∷ xs) [] = 0
 common (x ∷ xs) (y ∷ ys) = elim (eqb x y) [ true ↦ suc (common xs ys) | false ↦ 0 ]
 
 -- nothing but zeros
-unfoldable pub zeros : List ℕ → Bool
-zeros [] = true
-zeros (x ∷ xs) = eqb x 0 && zeros xs
-
-infixr 20 _when_else_
-unfoldable pub _when_else_ : Verdict → Bool → Verdict → Verdict
-v when true else w = v
-v when false else w = w
+unfoldable pub allZero : List ℕ → Bool
+allZero [] = true
+allZero (x ∷ xs) = eqb x 0 && allZero xs
 
 -- the bytes x where `due` are due: at the first byte that is not the same, k, x differs or ends; or they are all the same, and x ends there or goes on, with zeros or not
 unfoldable pub met : (k : ℕ) (due x : List ℕ) → Verdict
 met k due x =
-    (Wrong k Unexplained when ltb k (length x) else Short k) when ltb k (length due) else
-    (Padded k when zeros (drop k x) else Wrong k Unexplained) when ltb k (length x) else
+    (Wrong k Unexplained if ltb k (length x) else Short k) if ltb k (length due) else
+    (Padded k if allZero (drop k x) else Wrong k Unexplained) if ltb k (length x) else
     Exact
 
 unfoldable pub compared : (due x : List ℕ) → Verdict

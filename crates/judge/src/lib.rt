@@ -10,7 +10,7 @@ ghost use Rattle.layout.specs.Layout.{stored};
 ghost use Rattle.sheet.specs.Check.{Accepted};
 ghost use Rattle.sheet.specs.Meaning.{meaning};
 ghost use Rattle.judge.specs.Boxes.{sentBy, right, above, zeroFor, raised, highest, highestBox, boxOf, mistakes, sentWith};
-ghost use Rattle.judge.specs.Verdict.{common, zeros, compared, isRight, explained, judgement, unasked, alone, requested, judged};
+ghost use Rattle.judge.specs.Verdict.{common, allZero, compared, isRight, explained, judgement, unasked, alone, requested, judged};
 ghost use Rattle.judge.specs.declared.Mistake.the-variants.{OnlyAbove};
 use command::Command;
 use layout::Layout;
@@ -96,7 +96,7 @@ fn common(a: &[u8], b: &[u8]) -> usize
 
 // Whether there are only zeros from an index on.
 fn zeros_from(s: &[u8], at: usize) -> bool
-    ensures { λ r. ⌜ r ≡ zeros (drop at (now (s .entry))) ⌝ }
+    ensures { λ r. ⌜ r ≡ allZero (drop at (now (s .entry))) ⌝ }
 {
     let mut i = at;
     while i < s.len() {
@@ -410,17 +410,14 @@ fn requested(lay: Layout, s: &[u8], c: Command, response: &[u8], scratch: &mut [
     ensures { λ r. ⌜ judgement r (now (scratch .exit)) ≡ requested (c .rt) (c .sfn .0) (c .allocation) (meaning (stored lay (now (s .entry)))) (now (response .entry)) (now (scratch .entry)) ⌝ }
 {
     let count = put_due(lay, s, c, scratch);
-    match compared(&scratch[..count], response) {
+    let found = compared(&scratch[..count], response);
+    match found {
         Verdict::Wrong(at, _) => {
             let why = explained(lay, s, c, response, scratch);
             put_due(lay, s, c, scratch);
             Verdict::Wrong(at, why)
         }
-        Verdict::Exact => Verdict::Exact,
-        Verdict::Padded(at) => Verdict::Padded(at),
-        Verdict::Short(at) => Verdict::Short(at),
-        Verdict::Answered(fault) => Verdict::Answered(fault),
-        Verdict::Refused(fault) => Verdict::Refused(fault),
+        _ => found,
     }
 }
 

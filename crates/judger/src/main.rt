@@ -1,14 +1,18 @@
 // Judges recorded exchanges with a box by a drive sheet: a line for each. Arguments: the file that has the sheet, whether it is in columns, and how many exchanges there are. Standard
 // input has these (`exchanges`).
 use command::Command;
-use exchanges::Exchange;
 use judge::Mistake;
 use judge::Verdict;
 use layout::Layout;
 use libc::STDOUT_FILENO;
+use program_io::exchanges;
+use program_io::exchanges::Exchange;
+use program_io::streams;
+use program_io::streams::say;
+use program_io::streams::say_decimal;
+use program_words::sheets;
+use program_words::words;
 use refusal::Refusal;
-use streams::say;
-use streams::say_decimal;
 use text::Header;
 
 // The argument that is given, and is 0, where there is a stack for the longest sheet.

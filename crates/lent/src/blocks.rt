@@ -29,32 +29,32 @@ fn block8(s: &[u8], i: usize, out: &mut [u8])
     bytes::copy(&block, &mut out[i..end]);
 }
 
-// Copies the 16 bytes of s from index i on to the same place.
+// Copies the 16 bytes of s from index i on to the same place: both halves are read before any is written, so that they go at once. An array of 8 bytes is a
+// number to the compiler, of 16 it may be memory.
 // Asks: a buffer as long as s that agrees with it up to i, and 16 bytes left, which the caller has shown before.
 fn block16(s: &[u8], i: usize, out: &mut [u8])
     requires { ⌜ Same (now s) i (now out) × (i + 16 ≤ length (now s)) ⌝ }
     ensures { λ _. ⌜ Same (now (s .entry)) (i + 16) (now (out .exit)) ⌝ }
 {
-    let mut block = [0u8; 16];
-    let end = i + 16;
-    bytes::copy(&s[i..end], &mut block);
-    bytes::copy(&block, &mut out[i..end]);
+    let mut first = [0u8; 8];
+    let mut second = [0u8; 8];
+    let middle = i + 8;
+    let end = middle + 8;
+    bytes::copy(&s[i..middle], &mut first);
+    bytes::copy(&s[middle..end], &mut second);
+    bytes::copy(&first, &mut out[i..middle]);
+    bytes::copy(&second, &mut out[middle..end]);
 }
 
-// Copies the 32 bytes of s from index i on to the same place: both halves are read before any is written, so that two registers go at once.
+// Copies the 32 bytes of s from index i on to the same place.
 // Asks: a buffer as long as s that agrees with it up to i, and 32 bytes left, which the caller has shown before.
 fn block32(s: &[u8], i: usize, out: &mut [u8])
     requires { ⌜ Same (now s) i (now out) × (i + 32 ≤ length (now s)) ⌝ }
     ensures { λ _. ⌜ Same (now (s .entry)) (i + 32) (now (out .exit)) ⌝ }
 {
-    let mut first = [0u8; 16];
-    let mut second = [0u8; 16];
-    let middle = i + 16;
-    let end = middle + 16;
-    bytes::copy(&s[i..middle], &mut first);
-    bytes::copy(&s[middle..end], &mut second);
-    bytes::copy(&first, &mut out[i..middle]);
-    bytes::copy(&second, &mut out[middle..end]);
+    let second = i + 16;
+    block16(s, i, out);
+    block16(s, second, out);
 }
 
 // Copies the 64 bytes of s from index i on to the same place.

@@ -5,6 +5,10 @@ ghost use lib.ListN.{take};
 ghost use Rattle.io.specs.Counts.{Counts};
 ghost use Rattle.listing.specs.Listing.{listing};
 use libc::STDERR_FILENO;
+use program_io::asked;
+use program_io::dumps;
+use program_io::streams;
+use program_words::grounds;
 use text::Header;
 
 // One byte more than a response may have: an input that fills it is refused, not shortened.

@@ -28,13 +28,12 @@ use Rattle.text.proofs.Own.{Fit, walk-front}
 use Rattle.text.proofs.Walk.{readFault-header, readFault-accept, wholes-accepted, wholes-refused}
 use Rattle.text.proofs.Again.{walked-good}
 use Rattle.text.proofs.Received.{wholes-asc}
-use Rattle.reading.specs.Places.{descs}
+use Rattle.reading.specs.Places.{descs, reported}
 use Rattle.reading.specs.Completed.{completeFault}
 use Rattle.reading.proofs.Completed.{complete-zero, complete-accept}
 use Rattle.reading.proofs.Places.{wholes-end}
-use Rattle.checks.specs.Legal.{rowOf}
-use Rattle.checks.specs.Rules.{byteOf, wrongLength}
-use Rattle.checks.specs.Check.{reported}
+use Rattle.legal.specs.Legal.{rowOf}
+use Rattle.legal.specs.Bodies.{byteOf, wrongLength}
 use Rattle.mend.specs.Mended.{mendedFlags, touched, mendedByte, bodyBy, mendedBody, mendedDesc, mendedDescs, mended}
 use Rattle.mend.specs.Changes.{changes, undo}
 use Rattle.mend.proofs.Changes.{undo-changes}

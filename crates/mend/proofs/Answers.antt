@@ -16,12 +16,11 @@ use Rattle.lent.specs.Wrote.{Wrote}
 use Rattle.lent.proofs.Laws.{front}
 use Rattle.text.specs.Response.{bytes}
 use Rattle.text.proofs.Received.{stand-flat, wholes-stand}
-use Rattle.reading.specs.Places.{descs}
+use Rattle.reading.specs.Places.{descs, reported}
 use Rattle.reading.specs.Completed.{completeFault}
 use Rattle.reading.proofs.Completed.{complete-zero}
 use Rattle.reading.proofs.Places.{wholes-end}
-use Rattle.checks.specs.Check.{reported}
-use Rattle.checks.proofs.Calls.{if-yes, if-no}
+use Rattle.refusal.proofs.Calls.{if-yes, if-no}
 use Rattle.mend.specs.declared.Mended.{Mended}
 use Rattle.mend.specs.Mended.{mendedDescs, mended}
 use Rattle.mend.specs.Changes.{Change, changes, notes}

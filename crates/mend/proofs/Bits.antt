@@ -7,7 +7,7 @@ use lib.Bits.{bitAnd}
 use lib.Dec.{eqb, ltb}
 use Rattle.base.proofs.Bits.{below, below-all}
 use Rattle.text.specs.Flags.{reserved, version, persistent, current, alone}
-use Rattle.checks.proofs.Bools.{and-true}
+use Rattle.base.proofs.Bools.{and-true}
 use Rattle.mend.specs.Mended.{flagsMended}
 
 -- a conjunction whose first test is known

@@ -17,12 +17,12 @@ use Rattle.base.proofs.Pick.{pick-here, pick-past}
 use Rattle.base.proofs.Lists.{length-each, getD-each, each-same}
 use Rattle.fields.specs.Field.{spell}
 use Rattle.text.specs.Flags.{version, newer}
-use Rattle.checks.specs.declared.legal.Length.{Length}
-use Rattle.checks.specs.declared.legal.Length.the-variants.{Any, Exactly, Counted}
-use Rattle.checks.specs.declared.legal.Masks.{Masks}
-use Rattle.checks.specs.declared.legal.Row.{Row}
-use Rattle.checks.specs.Legal.{legal, other, rowOf, maskBytes}
-use Rattle.checks.specs.Rules.{byteOf, tooShort, tooLong, wrongLength, maskAt}
+use Rattle.legal.specs.declared.Length.{Length}
+use Rattle.legal.specs.declared.Length.the-variants.{Any, Exactly, Counted}
+use Rattle.legal.specs.declared.Masks.{Masks}
+use Rattle.legal.specs.declared.Row.{Row}
+use Rattle.legal.specs.Legal.{legal, other, rowOf, maskBytes}
+use Rattle.legal.specs.Bodies.{byteOf, tooShort, tooLong, wrongLength, maskAt}
 use Rattle.mend.specs.Mended.{uncued, unless0, mendedByte}
 use Rattle.base.proofs.Bits.{and-again}
 use Rattle.mend.proofs.Bits.{and-no, sao-kept}

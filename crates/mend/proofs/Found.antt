@@ -20,17 +20,18 @@ use Rattle.refusal.proofs.Numbers.{if-holds, first-holds}
 use Rattle.text.specs.Flags.{newer, persistent, current, alone}
 use Rattle.text.specs.Drive.{Desc, Good}
 use Rattle.text.proofs.FlagsRule.{flags-accept}
-use Rattle.reading.specs.Places.{descs}
+use Rattle.reading.specs.Places.{descs, reported}
 use Rattle.reading.specs.Completed.{completeFault}
 use Rattle.checks.specs.declared.Finding.{Finding}
-use Rattle.checks.specs.declared.legal.Row.{Row}
-use Rattle.checks.specs.Legal.{rowOf}
-use Rattle.checks.specs.Rules.{byteOf, flagsFault, wrongLength, flagsShort, flagsBarred, rowRule, maskAt, reservedAt, cueRule, profileAt, profilesFault, bodyFault, descFault}
-use Rattle.checks.specs.Check.{reported, finding, _orNext_, firstFinding, checkedAll, checked}
-use Rattle.checks.proofs.Bools.{and-true, false-and, not-yes, not-no, true-and}
-use Rattle.checks.proofs.Calls.{if-yes, if-no}
+use Rattle.legal.specs.declared.Row.{Row}
+use Rattle.legal.specs.Legal.{rowOf}
+use Rattle.legal.specs.Bodies.{byteOf, wrongLength, maskAt, reservedAt, cueRule}
+use Rattle.checks.specs.Rules.{flagsFault, flagsShort, flagsBarred, rowRule, profileAt, profilesFault, bodyFault, descFault}
+use Rattle.checks.specs.Check.{finding, _orNext_, firstFinding, checkedAll, checked}
+use Rattle.base.proofs.Bools.{and-true, false-and, not-yes, not-no, true-and}
+use Rattle.refusal.proofs.Calls.{if-yes, if-no}
 use Rattle.checks.proofs.Findings.{next-none, next-fault}
-use Rattle.checks.proofs.Words.{within}
+use Rattle.legal.proofs.Words.{within}
 use Rattle.mend.specs.Mended.{flagsMended, mendedFlags, touched, uncued, mendedBody, mendedDesc, mendedDescs, mended}
 use Rattle.mend.proofs.Bits.{flags-free}
 use Rattle.mend.proofs.Descs.{low-free, fixed, length-fixed, fixed-at, fixed-within, mask-again, uncued-again, byte-cleared}

@@ -22,14 +22,14 @@ use Rattle.text.specs.Response.{bytes}
 use Rattle.text.specs.Reading.{statedLength, statedProfile, taken, reading}
 use Rattle.text.proofs.Walk.{wholes-accepted}
 use Rattle.text.proofs.Received.{stand-flat, wholes-stand}
-use Rattle.reading.specs.Places.{descs}
+use Rattle.reading.specs.Places.{descs, reported}
 use Rattle.reading.specs.Completed.{completeFault}
 use Rattle.reading.proofs.Completed.{complete-zero}
-use Rattle.checks.specs.Legal.{rowOf}
-use Rattle.checks.specs.Rules.{byteOf, maskAt}
-use Rattle.checks.specs.Check.{reported, checked}
+use Rattle.legal.specs.Legal.{rowOf}
+use Rattle.legal.specs.Bodies.{byteOf, maskAt}
+use Rattle.checks.specs.Check.{checked}
 use Rattle.checks.specs.Faultless.{AtLeast, AtMost, Faultless, Passes}
-use Rattle.checks.proofs.Bools.{and-true, true-and, false-and, not-yes, not-no}
+use Rattle.base.proofs.Bools.{and-true, true-and, false-and, not-yes, not-no}
 use Rattle.checks.proofs.Faultless.{of-version, not-newer, length-good, length-accept, cue-accept, passes-of}
 use Rattle.mend.specs.Mended.{flagsMended, mendedFlags, touched, uncued, mendedBody, mendedDesc, mendedDescs, mended}
 use Rattle.mend.proofs.Bits.{bothIn}

@@ -20,10 +20,10 @@ use Rattle.text.specs.Flags.{newer}
 use Rattle.text.specs.Drive.{Desc}
 use Rattle.text.specs.Response.{bytes}
 use Rattle.text.specs.Reading.{numberAt, flagsAt, lengthAt, descAt}
-use Rattle.checks.specs.declared.legal.Row.{Row}
-use Rattle.checks.specs.Legal.{rowOf}
-use Rattle.checks.specs.Rules.{byteOf, wrongLength, maskAt, reservedRule, reservedAt, cueRule}
-use Rattle.checks.proofs.Bools.{and-true, true-and, and-false, or-false}
+use Rattle.legal.specs.declared.Row.{Row}
+use Rattle.legal.specs.Legal.{rowOf}
+use Rattle.legal.specs.Bodies.{byteOf, wrongLength, maskAt, reservedRule, reservedAt, cueRule}
+use Rattle.base.proofs.Bools.{and-true, true-and, and-false, or-false}
 use Rattle.checks.proofs.Other.{row-other, any-bits, no-cue}
 use Rattle.mend.specs.Mended.{flagsMended, mendedFlags, touched, uncued, mendedByte, mendedBody, mendedDesc}
 use Rattle.mend.specs.Changes.{Change, changeAt, changes}

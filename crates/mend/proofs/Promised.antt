@@ -18,10 +18,10 @@ use Rattle.refusal.specs.declared.Refusal.{Refusal}
 use Rattle.refusal.specs.First.{refuse, accept}
 use Rattle.refusal.proofs.First.{orElse-none, orElse-fault, unless-none, unless-fault}
 use Rattle.text.specs.Reading.{reading}
-use Rattle.reading.specs.Places.{descs}
+use Rattle.reading.specs.Places.{descs, reported}
 use Rattle.reading.specs.Completed.{completeFault}
-use Rattle.checks.specs.Check.{reported, checked}
-use Rattle.checks.proofs.Calls.{if-yes, if-no}
+use Rattle.checks.specs.Check.{checked}
+use Rattle.refusal.proofs.Calls.{if-yes, if-no}
 use Rattle.mend.specs.Mended.{mended}
 use Rattle.mend.specs.Changes.{Change, changes, undo, noteOf, notes, changeIn, listed}
 use Rattle.mend.specs.Mend.{Outcome, refusing, mending, mendFault, mends}

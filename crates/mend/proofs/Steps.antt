@@ -1,28 +1,20 @@
 -- What the steps of the mender give, case by case. Assumes nothing.
-use borrow.Author.Tests.{lt-ltb, le-ltb, le-leb, lt-leb, eq-eqb, ne-eqb, not-true, not-false}
+use borrow.Author.Tests.{le-leb, lt-leb, eq-eqb, ne-eqb, not-true, not-false}
 use mathlib.Core.Path.{_≡_, refl, sym, ap, _∙_}
 use mathlib.Core.Bool.{Bool, true, false, not, _&&_, _||_}
-use mathlib.Core.List.{List, _++_}
+use mathlib.Core.List.{List}
 use Prim.Native.Nat.{ℕ, _+_, _*_, _/_, _%_, _≤_, _<_}
 use native.Mathlib.Omega.{arith}
 use lib.Dec.{leb, eqb}
 use lib.ListN.{length, getD}
 use mathlib.Core.Bool.{and-false}
 use lib.Bits.{bitAnd}
-use lib.ListN.{length-append, List·getD-eq-default}
-use Rattle.fields.specs.Field.{spell}
-use Rattle.fields.proofs.Laws.{length-spell}
 use Rattle.fields.specs.Field.{field}
 use Rattle.refusal.specs.declared.Refusal.{Refusal}
 use Rattle.refusal.specs.First.{firstOf}
 use Rattle.text.specs.Flags.{version, persistent, current}
-use Rattle.checks.specs.declared.legal.Length.{Length}
-use Rattle.checks.specs.declared.legal.Length.the-variants.{Any, Exactly, Counted}
-use Rattle.checks.specs.declared.legal.Masks.{Masks}
-use Rattle.checks.specs.Legal.{maskBytes}
-use Rattle.checks.specs.declared.legal.Row.{Row}
-use Rattle.checks.specs.Rules.{wrongLength, maskAt, reservedAt, cueRule}
-use Rattle.base.proofs.Compare.{NoneBelow, not-below}
+use Rattle.legal.specs.declared.Row.{Row}
+use Rattle.legal.specs.Bodies.{wrongLength, maskAt, reservedAt, cueRule}
 use Rattle.mend.specs.declared.Plan.{Plan}
 use Rattle.mend.specs.Mended.{withoutPersistent, forbidden, persistentMended, unless0}
 use Rattle.mend.specs.inner.Plan.{offIn, planned, dirty}
@@ -42,39 +34,6 @@ module _ (a b : ℕ) where
 
   pub differs-some : (a ≡ b → ⊥) → (1 ≡ length (changeAt 0 a b)) × (1 ≤ 1)
   differs-some h = (sym (ap length (change-some 0 a b h)), omega arith)
-
--- ---- the masks
-
-pub mask-behind : (masks : Masks) (j : ℕ) → NoneBelow 12 j → 0 ≡ getD (maskBytes masks) j 0
-unfolding maskBytes
-mask-behind masks j h =
-    let l : length (spell 4 (masks .0) ++ spell 4 (masks .1) ++ spell 4 (masks .2)) ≡ 12 = simp (length-append, length-spell) in
-    sym (List·getD-eq-default (spell 4 (masks .0) ++ spell 4 (masks .1) ++ spell 4 (masks .2)) 0 (omega (arith, l, not-below 12 j h)))
-
-module _ (masks : Masks) (n k : ℕ) where
-  pub counted-front : k < 4 → maskAt Counted masks n k ≡ getD (maskBytes masks) k 0
-  unfolding maskAt
-  counted-front h = rw (lt-ltb k 4 h, maskAt)
-
-  pub counted-in : 4 ≤ k → k < 4 + n → maskAt Counted masks n k ≡ 255
-  unfolding maskAt
-  counted-in h l = rw (le-ltb k 4 h, lt-ltb k (4 + n) l, maskAt)
-
-  pub counted-pad : 4 ≤ k → 4 + n ≤ k → maskAt Counted masks n k ≡ 0
-  unfolding maskAt
-  counted-pad h l = rw (le-ltb k 4 h, le-ltb k (4 + n) l, maskAt)
-
-module _ (l : Length) (masks : Masks) (n k : ℕ) where
-  pub mask-any : l ≡ Any → maskAt l masks n k ≡ getD (maskBytes masks) (k % 12) 0
-  unfolding maskAt
-  mask-any e = ap (λ (x : Length). maskAt x masks n k) e
-
-  pub mask-exactly : (j : ℕ) → l ≡ Exactly j → maskAt l masks n k ≡ getD (maskBytes masks) (k % 12) 0
-  unfolding maskAt
-  mask-exactly j e = ap (λ (x : Length). maskAt x masks n k) e
-
-  pub mask-counted : l ≡ Counted → maskAt l masks n k ≡ maskAt Counted masks n k
-  mask-counted e = ap (λ (x : Length). maskAt x masks n k) e
 
 -- ---- a byte
 

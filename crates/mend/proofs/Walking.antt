@@ -21,7 +21,7 @@ use Rattle.reading.proofs.At.{next-is}
 use Rattle.reading.proofs.Places.{from-step, from-end}
 use Rattle.reading.proofs.Completed.{complete-zero, descs-from}
 use Rattle.text.proofs.Walk.{readFault-header}
-use Rattle.checks.proofs.Complete.{Here, here-start, here-next, here-end, here-whole}
+use Rattle.reading.proofs.Loops.{Here, here-start, here-next, here-end, here-whole}
 use Rattle.mend.specs.Mended.{mendedDesc, mendedDescs}
 use Rattle.mend.specs.Changes.{changes}
 use Rattle.mend.proofs.Changes.{changes-append, count-anywhere}
@@ -29,8 +29,8 @@ use Rattle.mend.proofs.Again.{length-body}
 use Rattle.fields.specs.Field.{spell}
 use Rattle.fields.proofs.Laws.{length-spell}
 use Rattle.base.proofs.Lists.{drop-behind}
-use Rattle.checks.specs.declared.legal.Row.{Row}
-use Rattle.checks.specs.Legal.{rowOf}
+use Rattle.legal.specs.declared.Row.{Row}
+use Rattle.legal.specs.Legal.{rowOf}
 use Rattle.mend.specs.declared.Plan.{Plan}
 use Rattle.mend.specs.Mended.{mendedFlags, mendedBody}
 use Rattle.mend.specs.inner.Plan.{planOf, plannedBody, dirty}

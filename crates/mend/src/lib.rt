@@ -4,26 +4,19 @@ ghost use mathlib.Core.Bool.{_&&_};
 ghost use mathlib.Core.List.{[], _∷_};
 ghost use Prim.Native.Nat.{_+_, _≤_, _<_};
 ghost use lib.Dec.{leb};
-ghost use lib.ListN.{length, getD, take};
+ghost use lib.ListN.{length, take};
 ghost use Rattle.base.specs.Lists.{flat};
 ghost use Rattle.lent.specs.Wrote.{Wrote};
 ghost use Rattle.text.specs.Response.{bytes, headerLength};
 ghost use Rattle.text.specs.Reading.{lengthAt, descAt};
 ghost use Rattle.reading.specs.Places.{descs};
 ghost use Rattle.reading.specs.Completed.{completeFault};
-ghost use Rattle.checks.specs.Legal.{maskBytes};
-ghost use Rattle.checks.specs.Rules.{maskAt};
 ghost use Rattle.mend.specs.Mended.{withBoth, forbidden, persistentMended, flagsMended, mendedDesc, mendedDescs};
 ghost use Rattle.mend.specs.Changes.{changeAt, changes, notes};
 ghost use Rattle.mend.specs.Mend.{outcome, refused, mends};
 ghost use Rattle.mend.specs.inner.Plan.{offIn, planOf, planned, plannedBody, dirty};
 ghost use Rattle.mend.specs.inner.Fixes.{Standing, Fixes};
-use checks::legal;
-use checks::legal::Length;
-use checks::legal::Masks;
-use checks::legal::Row;
-use checks::rules;
-use checks::walk;
+use legal::Row;
 use refusal::Refusal;
 use text::Feature;
 use text::Flags;
@@ -97,53 +90,6 @@ fn is_barred(row: Row, removable: bool) -> bool
 
 // ---- a body byte
 
-// The bits of the row's twelve bytes that may be 1 at a place.
-fn mask_byte(masks: Masks, j: usize) -> u8
-    ensures { λ r. ⌜ r ≡ getD (maskBytes masks) j 0 ⌝ }
-{
-    match j {
-        0 => (masks.0 / 256 / 256 / 256 % 256) as u8,
-        1 => (masks.0 / 256 / 256 % 256) as u8,
-        2 => (masks.0 / 256 % 256) as u8,
-        3 => (masks.0 % 256) as u8,
-        4 => (masks.1 / 256 / 256 / 256 % 256) as u8,
-        5 => (masks.1 / 256 / 256 % 256) as u8,
-        6 => (masks.1 / 256 % 256) as u8,
-        7 => (masks.1 % 256) as u8,
-        8 => (masks.2 / 256 / 256 / 256 % 256) as u8,
-        9 => (masks.2 / 256 / 256 % 256) as u8,
-        10 => (masks.2 / 256 % 256) as u8,
-        11 => (masks.2 % 256) as u8,
-        _ => 0,
-    }
-}
-
-// The same where byte 7 counts.
-fn counted_mask(masks: Masks, n: u8, k: usize) -> u8
-    ensures { λ r. ⌜ r ≡ maskAt Length.Counted masks n k ⌝ }
-{
-    if k < 4 {
-        return mask_byte(masks, k);
-    }
-    if k < 4 + n as usize {
-        return 255;
-    }
-    0
-}
-
-// The bits of body byte k that may be 1; n is byte 7.
-fn mask_at(row: Row, n: u8, k: usize) -> u8
-    ensures { λ r. ⌜ r ≡ maskAt (row .1) (row .2) n k ⌝ }
-{
-    let length = row.1;
-    let masks = row.2;
-    match length {
-        Length::Any => mask_byte(masks, k % 12),
-        Length::Exactly(_) => mask_byte(masks, k % 12),
-        Length::Counted => counted_mask(masks, n, k),
-    }
-}
-
 // Whether body byte k is a part of a cue sheet length that is cleared.
 fn is_cleared(off: bool, k: usize) -> bool
     ensures { λ r. ⌜ r ≡ (off && leb 1 k && leb k 3) ⌝ }
@@ -164,7 +110,7 @@ fn byte_mended(plan: Plan, k: usize, b: u8) -> u8
     if is_cleared(plan.off, k) {
         return 0;
     }
-    let mask = mask_at(plan.row, plan.n, k);
+    let mask = legal::mask_at(plan.row, plan.n, k);
     b & mask
 }
 
@@ -195,6 +141,7 @@ fn plan_of(row: Row, f: Feature, body: &[u8]) -> Plan
 fn is_dirty(row: Row, f: Feature, flags: Flags, body: &[u8]) -> bool
     ensures { λ r. ⌜ r ≡ dirty row (f .0) (flags .0) (now (body .entry)) ⌝ }
 {
+    let view = &body[..];
     if row.0.0 == legal::OTHER.0 {
         return false;
     }
@@ -202,14 +149,18 @@ fn is_dirty(row: Row, f: Feature, flags: Flags, body: &[u8]) -> bool
         return false;
     }
     let length = row.1;
-    if rules::wrong_length(length, flags, fields::byte(body, 3), body.len()) {
+    if legal::wrong_length(length, flags, fields::byte(view, 3), view.len()) {
         return false;
     }
-    let reserved = rules::reserved_fault(row, body);
+    // field by field: a row whose fields were stored one by one is not fetched by one load then, which would wait for all of them
+    let feature = row.0;
+    let masks = row.2;
+    let own = Row(feature, length, masks, row.3);
+    let reserved = legal::reserved_fault(own, view);
     if reserved.number != 0 {
         return true;
     }
-    let cue = rules::cue_fault(f, body);
+    let cue = legal::cue_fault(f, view);
     cue.number != 0
 }
 
@@ -244,8 +195,8 @@ fn count_at(removable: bool, s: &[u8], at: usize) -> usize
     requires { ⌜ at + 4 + lengthAt (now s) at ≤ length (now s) ⌝ }
     ensures { λ r. ⌜ (r ≡ length (changes 0 (bytes (descAt (now (s .entry)) at)) (bytes (mendedDesc removable (descAt (now (s .entry)) at))))) × (r ≤ 4 + lengthAt (now (s .entry)) at) ⌝ }
 {
-    let f = reading::number_at(s, at);
-    let flags = reading::flags_at(s, at);
+    let f = reading::number_in(s, at);
+    let flags = reading::flags_in(s, at);
     let body = reading::body_at(s, at);
     let row = legal::row_of(f);
     let one = differs(flags.0, flags_mended(f, is_barred(row, removable), flags));
@@ -333,8 +284,8 @@ fn fix_at(
     requires { ⌜ Standing (now s) at (now copy) ⌝ }
     ensures { λ r. ⌜ Fixes (now (copy .entry)) (now (list .entry)) n at (bytes (mendedDesc removable (descAt (now (s .entry)) at))) r (now (copy .exit)) (now (list .exit)) ⌝ }
 {
-    let f = reading::number_at(s, at);
-    let flags = reading::flags_at(s, at);
+    let f = reading::number_in(s, at);
+    let flags = reading::flags_in(s, at);
     let body = reading::body_at(s, at);
     let row = legal::row_of(f);
     let next = fix(
@@ -389,7 +340,7 @@ pub fn mend(response: &[u8], copy: &mut [u8], list: &mut [u32]) -> Mended
     if copy.len() < response.len() {
         return refused(refusal::COPY_SHORT);
     }
-    let removable = walk::reports(Feature(3), response);
+    let removable = reading::reports(Feature(3), response);
     let count = count_all(removable, response);
     if list.len() < count {
         return refused(refusal::CHANGES_SHORT);

@@ -3,9 +3,13 @@
 // text is read, whether padding is trimmed, and whether such lines are printed.
 use libc::STDERR_FILENO;
 use libc::STDOUT_FILENO;
+use program_io::dumps;
+use program_io::streams;
+use program_io::streams::say;
+use program_io::streams::say_decimal;
+use program_words::grounds;
+use program_words::words;
 use refusal::Refusal;
-use streams::say;
-use streams::say_decimal;
 use text::Feature;
 use text::Header;
 

@@ -34,7 +34,7 @@ use Rattle.needs.specs.Alone.{judgedOf}
 use Rattle.needs.specs.inner.Walk.{fitNumber}
 use Rattle.needs.specs.inner.Table.{lineAt, linesIn}
 use Rattle.needs.specs.inner.Alone.{noNeed, lineIn, lineList, saysOne}
-use Rattle.needs.proofs.Rules.{when-true, when-false, and-true}
+use Rattle.needs.proofs.Rules.{and-true}
 use Rattle.needs.proofs.Columns.{each-step, each-end}
 
 pub and-yes : (b x y : Bool) → b ≡ x → b ≡ true → y ≡ (x && y)
@@ -117,11 +117,11 @@ module _ (f : ℕ) where
   module _ (longest : ℕ) (d : Desc) (b : Bool) (e : b ≡ tooLong longest d) where
     pub free-long : b ≡ true → saysBroken f 5 ≡ saysOne f (wrongOf longest [] (d ∷ []))
     unfolding wrongOf saysOne
-    free-long h = rw (← e, h, when-true 5 0)
+    free-long h = rw (← e, h, if-true {A = ℕ} 5 0)
 
     pub free-fits : b ≡ false → saysConforms ≡ saysOne f (wrongOf longest [] (d ∷ []))
     unfolding wrongOf saysOne
-    free-fits h = rw (← e, h, when-false 5 0)
+    free-fits h = rw (← e, h, if-false {A = ℕ} 5 0)
 
   module _ (n : Need) (longest : ℕ) (d : Desc) (x : Fit) (e : fitNumber x ≡ descWrong n longest d) where
     pub needed-fits : x ≡ Fits → saysConforms ≡ saysOne f (wrongOf longest (n ∷ []) (d ∷ []))

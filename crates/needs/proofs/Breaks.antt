@@ -18,10 +18,12 @@ use Rattle.needs.specs.declared.Wrong.the-variants.{Absent, TooShort, Bi
 use Rattle.needs.specs.declared.table.Column.{Column}
 use Rattle.needs.specs.declared.table.Need.{Need}
 use Rattle.needs.specs.Required.{required, marked}
-use Rattle.needs.specs.Judge.{_when_else_, wrongNumber, tooLong, lineWrong, descWrong, lineOf, descOf, wrongOf, wrongIn}
+use Rattle.needs.specs.Judge.{wrongNumber, tooLong, lineWrong, descWrong, lineOf, descOf, wrongOf, wrongIn}
 use Rattle.needs.proofs.Broken.{In, Asked, Gives, Unmet, Overlong, Breaks, Reported, Reason}
 use Rattle.needs.specs.inner.Walk.{every, under, ascends}
-use Rattle.needs.proofs.Rules.{when-true, when-false, when-zero, when-case, and-true, every-all}
+use Rattle.refusal.specs.First.{_if_else_}
+use Rattle.refusal.proofs.First.{if-true, if-false}
+use Rattle.needs.proofs.Rules.{chosen-zero, chosen-case, and-true, every-all}
 
 -- ---- the first element that passes a test, where at most one does
 
@@ -126,10 +128,10 @@ module _ (n : Need) (longest : ℕ) (d : Desc) where
   desc-zero : descWrong n longest d ≡ 0 → d .number ≡ n .1 .0 → Gives n d × (length (d .body) ≤ longest)
   unfolding descWrong lineWrong
   desc-zero e q =
-      let w = when-zero 1 _ _ e in
-      let x = when-zero 2 _ _ (w .1) in
-      let y = when-zero 3 _ _ (x .1) in
-      let z = when-zero 4 _ _ (y .1) in (
+      let w = chosen-zero 1 _ _ e in
+      let x = chosen-zero 2 _ _ (w .1) in
+      let y = chosen-zero 3 _ _ (x .1) in
+      let z = chosen-zero 4 _ _ (y .1) in (
         record {
           names = q;
           enough = ltb-false _ _ (w .0);
@@ -147,10 +149,10 @@ module _ (n : Need) (longest : ℕ) (d : Desc) where
         eq-eqb (kept n d) (n .4) (g .bits),
         eq-eqb (set n d) (n .5) (g .flags),
         le-ltb longest (length (d .body)) l,
-        when-false 2,
-        when-false 3,
-        when-false 4,
-        when-false 5,
+        if-false {A = ℕ} 2,
+        if-false {A = ℕ} 3,
+        if-false {A = ℕ} 4,
+        if-false {A = ℕ} 5,
       )
 
 module _ (c : Column) (lo : ℕ) (ds : List Desc) (r : ascends (c .1) required ≡ true) (a : Asc lo ds) (f : ℕ) where
@@ -203,9 +205,9 @@ module _ (c : Column) (lo : ℕ) (ds : List Desc) (r : ascends (c .1) required �
   unfolding wrongOf tooLong
   wrong-breaks h = go lines refl found refl
     where
-      free : (d : Desc) → In d ds × (d .number ≡ f) → (t : Bool) → tooLong (c .2) d ≡ t → wrong ≡ (5 when tooLong (c .2) d else 0) → Breaks c ds f
+      free : (d : Desc) → In d ds × (d .number ≡ f) → (t : Bool) → tooLong (c .2) d ≡ t → wrong ≡ (5 if tooLong (c .2) d else 0) → Breaks c ds f
       free d i true t e = inr (overlong d i t)
-      free d i false t e = absurd (h (e ∙ rw t (when-false 5 0)))
+      free d i false t e = absurd (h (e ∙ rw t (if-false {A = ℕ} 5 0)))
 
       own : (n : Need) → Asked c f n → (d : Desc) → In d ds × (d .number ≡ f) → (t : Bool) → tooLong (c .2) d ≡ t → wrong ≡ descWrong n (c .2) d → Breaks c ds f
       own n x d i true t e = inr (overlong d i t)
@@ -243,7 +245,7 @@ module _ (c : Column) (lo : ℕ) (ds : List Desc) (r : ascends (c .1) required �
 
       go : (l : List Need) → lines ≡ l → ⊥
       go [] p =
-          let e : wrong ≡ 5 = wrong-is [] (o .desc ∷ []) p q ∙ rw (lt-ltb (c .2) (length (o .desc .body)) (o .longer)) (when-true 5 0) in
+          let e : wrong ≡ 5 = wrong-is [] (o .desc ∷ []) p q ∙ rw (lt-ltb (c .2) (length (o .desc .body)) (o .longer)) (if-true {A = ℕ} 5 0) in
           omega arith
       go (n ∷ l) p =
           omega (
@@ -262,17 +264,17 @@ module _ (c : Column) (lo : ℕ) (ds : List Desc) (r : ascends (c .1) required �
     where
       own : (n : Need) → Asked c f n → (d : Desc) → In d ds × (d .number ≡ f) → Says (descWrong n (c .2) d)
       own n x d i =
-          when-case Says 2 _ _ (λ t z. tell (ltb-true _ _ t))
-          (λ t. when-case Says 3 _ _ (λ u z. tell (eqb-false _ _ (not-true _ u)))
-          (λ t. when-case Says 4 _ _ (λ u z. tell (eqb-false _ _ (not-true _ u)))
-          (λ t. when-case Says 5 _ _ (λ u z. record { desc = d; reported = i .0; names = i .1; longer = ltb-true _ _ u }) (λ u z. absurd (z refl)))))
+          chosen-case Says 2 _ _ (λ t z. tell (ltb-true _ _ t))
+          (λ t. chosen-case Says 3 _ _ (λ u z. tell (eqb-false _ _ (not-true _ u)))
+          (λ t. chosen-case Says 4 _ _ (λ u z. tell (eqb-false _ _ (not-true _ u)))
+          (λ t. chosen-case Says 5 _ _ (λ u z. record { desc = d; reported = i .0; names = i .1; longer = ltb-true _ _ u }) (λ u z. absurd (z refl)))))
         where
           tell : {P : Need → Desc → Type 0} → P n d → Reported c ds f P
           tell p = record { line = n; asked = x; desc = d; reported = i .0; names = i .1; is = p }
 
       go : (l : List Need) → lines ≡ l → (e : List Desc) → found ≡ e → Says wrong
       go [] p [] q = rw (wrong-is [] [] p q) (λ z. absurd (z refl))
-      go [] p (d ∷ e) q = rw (wrong-is [] (d ∷ e) p q) (when-case Says 5 _ _ (λ t z. overlong d (desc-in d e q) t) (λ t z. absurd (z refl)))
+      go [] p (d ∷ e) q = rw (wrong-is [] (d ∷ e) p q) (chosen-case Says 5 _ _ (λ t z. overlong d (desc-in d e q) t) (λ t z. absurd (z refl)))
       go (n ∷ l) p [] q = rw (wrong-is (n ∷ l) [] p q) (λ z. absent q)
       go (n ∷ l) p (d ∷ e) q = rw (wrong-is (n ∷ l) (d ∷ e) p q) (own n (line-in n l p) d (desc-in d e q))
 

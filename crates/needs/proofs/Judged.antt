@@ -13,7 +13,7 @@ use Rattle.base.proofs.Lists.{all-map}
 use Rattle.base.specs.Pick.{pick, some}
 use Rattle.base.proofs.Pick.{pick-here, pick-past}
 use Rattle.refusal.specs.declared.Refusal.{Refusal}
-use Rattle.refusal.specs.First.{refuse, accept}
+use Rattle.refusal.specs.First.{refuse, accept, unless}
 use Rattle.refusal.proofs.First.{if-true, if-false, if-zero, orElse-none, orElse-zero, unless-none, unless-fault}
 use Rattle.text.proofs.Received.{wholes-asc}
 use Rattle.text.specs.Drive.{Desc}
@@ -27,22 +27,24 @@ use Rattle.needs.specs.declared.table.Need.{Need}
 use Rattle.needs.specs.Required.{required, columns, columnOf, noColumn, hasTable, marked}
 use Rattle.needs.specs.Judge.{Said, saysConforms, saysBroken, says, said, wrongNumber, lineWrong, descWrong, wrongOf, wrongIn, lowestFrom, lowestIn, lowest, judgeFault, judged}
 use Rattle.needs.proofs.Broken.{tabled, Breaks, Reason}
-use Rattle.needs.proofs.Rules.{every-all, when-case}
+use Rattle.needs.proofs.Rules.{every-all, chosen-case}
 use Rattle.needs.proofs.Lowest.{lowest-upto, none-lowest, found-lowest}
 use Rattle.needs.proofs.Judgements.{column-all, column-ascends, judge-input}
 use Rattle.needs.proofs.Breaks.{wrong-breaks, breaks-wrong, wrong-reason, covers, breaks-covered}
 
+-- an answer without a number: nothing was refused before it
+pub unrefused : (r : Refusal) (next x : Said) → unless r (λ (q : Refusal). said (Refused q)) next ≡ x → x .refusal .number ≡ 0 → r .number ≡ 0
+unrefused r next x e k = go (r .number) refl
+  where
+    go : (n : ℕ) → r .number ≡ n → r .number ≡ 0
+    go zero h = h
+    go (suc n) h = ap (λ (y : Said). y .refusal .number) (sym (unless-fault r (λ (q : Refusal). said (Refused q)) next (λ z. omega arith)) ∙ e) ∙ k
+
 module _ (p : ℕ) (s : List ℕ) where
-  -- an answer without a number is the lowest that breaks the profile
+  -- it is the lowest that breaks the profile
   fault-none : (x : Said) → judged p s ≡ x → x .refusal .number ≡ 0 → judgeFault p s .number ≡ 0
   unfolding judged
-  fault-none x e k = go (judgeFault p s .number) refl
-    where
-      go : (n : ℕ) → judgeFault p s .number ≡ n → judgeFault p s .number ≡ 0
-      go zero h = h
-      go (suc n) h =
-          let j = unless-fault (judgeFault p s) (λ (r : Refusal). said (Refused r)) (lowest (columnOf p) (descs s)) (λ z. omega arith) in
-          ap (λ (y : Said). y .refusal .number) (sym j ∙ e) ∙ k
+  fault-none = unrefused (judgeFault p s) (lowest (columnOf p) (descs s))
 
   judged-lowest : (x : Said) → judged p s ≡ x → x .refusal .number ≡ 0 → lowest (columnOf p) (descs s) ≡ x
   unfolding judged
@@ -105,13 +107,13 @@ data Known : ℕ → Type 0 where
 known-desc : (n : Need) (longest : ℕ) (d : Desc) → Known (descWrong n longest d)
 unfolding descWrong lineWrong
 known-desc n longest d =
-    when-case Known 2 _ _ (λ t. thing TooShort)
-    (λ t. when-case Known 3 _ _ (λ u. thing BitClear) (λ u. when-case Known 4 _ _ (λ v. thing NotCurrent) (λ v. when-case Known 5 _ _ (λ x. thing TooLong) (λ x. nothing))))
+    chosen-case Known 2 _ _ (λ t. thing TooShort)
+    (λ t. chosen-case Known 3 _ _ (λ u. thing BitClear) (λ u. chosen-case Known 4 _ _ (λ v. thing NotCurrent) (λ v. chosen-case Known 5 _ _ (λ x. thing TooLong) (λ x. nothing))))
 
 known-of : (longest : ℕ) (ns : List Need) (ds : List Desc) → Known (wrongOf longest ns ds)
 unfolding wrongOf
 known-of longest [] [] = nothing
-known-of longest [] (d ∷ ds) = when-case Known 5 _ _ (λ t. thing TooLong) (λ t. nothing)
+known-of longest [] (d ∷ ds) = chosen-case Known 5 _ _ (λ t. thing TooLong) (λ t. nothing)
 known-of longest (n ∷ ns) [] = thing Absent
 known-of longest (n ∷ ns) (d ∷ ds) = known-desc n longest d
 

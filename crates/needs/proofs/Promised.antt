@@ -30,7 +30,7 @@ use Rattle.needs.specs.declared.table.Column.{Column}
 use Rattle.needs.specs.Required.{required, columns, columnOf, marked}
 use Rattle.needs.specs.Judge.{Said, says, saysConforms, saysBroken, wrongNumber, judged}
 use Rattle.needs.proofs.Broken as lined
-use Rattle.needs.proofs.Broken.{In, Asked, Gives, Reported}
+use Rattle.needs.proofs.Broken.{In, Gives, Reported}
 use Rattle.needs.proofs.Judgements.{wrong-injective}
 use Rattle.needs.proofs.Judged.{conforms-none, none-conforms, input-refuses, broken-lowest, broken-reason, archive-too, plain-too, untabled-forty, tabled-judged, judged-cases, Cased}
 

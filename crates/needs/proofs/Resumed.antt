@@ -35,7 +35,8 @@ use Rattle.needs.specs.declared.table.Need.{Need}
 use Rattle.needs.specs.Required.{marked}
 use Rattle.needs.specs.Judge.{Said, saysConforms, saysBroken, said, wrongNumber, tooLong, descWrong, lineOf, descOf, wrongOf, wrongIn, lowestFrom}
 use Rattle.needs.specs.inner.Walk.{After, left, stops, fitNumber, after, stepBy, stepAt, stepHere, stepFrom, stepFor, every, under, ascends, firstLong}
-use Rattle.needs.proofs.Rules.{when-true, when-false, and-true, every-all}
+use Rattle.refusal.proofs.First.{if-true, if-false}
+use Rattle.needs.proofs.Rules.{and-true, every-all}
 use Rattle.needs.specs.inner.Table.{lineRead, lineAt, linesIn}
 use Rattle.needs.proofs.Columns.{each-step, each-end}
 use Rattle.needs.proofs.Lowest.{lowest-none, lowest-found, lowest-same}
@@ -197,11 +198,11 @@ module _ (c : Column) where
 
     by-long : (d : Desc) → lineOf (c .1) f ns ≡ [] → descOf f ds ≡ d ∷ [] → tooLong (c .2) d ≡ true → wrongs ns ds f ≡ 5
     unfolding wrongOf
-    by-long d p q t = by [] (d ∷ []) p q ∙ rw t (when-true 5 0)
+    by-long d p q t = by [] (d ∷ []) p q ∙ rw t (if-true {A = ℕ} 5 0)
 
     by-free : (d : Desc) → lineOf (c .1) f ns ≡ [] → descOf f ds ≡ d ∷ [] → tooLong (c .2) d ≡ false → wrongs ns ds f ≡ 0
     unfolding wrongOf
-    by-free d p q t = by [] (d ∷ []) p q ∙ rw t (when-false 5 0)
+    by-free d p q t = by [] (d ∷ []) p q ∙ rw t (if-false {A = ℕ} 5 0)
 
     by-both : (n : Need) (d : Desc) → lineOf (c .1) f ns ≡ n ∷ [] → descOf f ds ≡ d ∷ [] → wrongs ns ds f ≡ descWrong n (c .2) d
     unfolding wrongOf

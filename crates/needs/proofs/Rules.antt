@@ -9,31 +9,25 @@ use lib.Bits.{and-zero-r}
 use lib.ListN.{length, drop, getD, length-take}
 use Rattle.base.specs.Lists.{All, Bytes}
 use Rattle.text.specs.Reading.{lengthAt, descAt}
+use Rattle.refusal.specs.First.{_if_else_}
+use Rattle.refusal.proofs.First.{if-true, if-false}
 use Rattle.needs.specs.declared.table.Need.{Need}
-use Rattle.needs.specs.Judge.{_when_else_, tooLong, lineWrong, descWrong}
+use Rattle.needs.specs.Judge.{tooLong, lineWrong, descWrong}
 use Rattle.needs.specs.inner.Walk.{every, asksNothing}
 
-pub when-true : (x y : ℕ) → (x when true else y) ≡ x
-unfolding _when_else_
-when-true x y = refl
-
-pub when-false : (x y : ℕ) → (x when false else y) ≡ y
-unfolding _when_else_
-when-false x y = refl
-
 -- nothing is wrong: the test fails, and nothing is wrong behind it
-pub when-zero : (k : ℕ) (b : Bool) (y : ℕ) → (suc k when b else y) ≡ 0 → (b ≡ false) × (y ≡ 0)
-unfolding _when_else_
-when-zero k true y e = absurd (omega arith)
-when-zero k false y e = (refl, e)
+pub chosen-zero : (k : ℕ) (b : Bool) (y : ℕ) → (suc k if b else y) ≡ 0 → (b ≡ false) × (y ≡ 0)
+unfolding _if_else_
+chosen-zero k true y e = absurd (omega arith)
+chosen-zero k false y e = (refl, e)
 
-pub when-case : (P : ℕ → Type 0) (x : ℕ) (b : Bool) (y : ℕ) → (b ≡ true → P x) → (b ≡ false → P y) → P (x when b else y)
-unfolding _when_else_
-when-case P x true y f g = f refl
-when-case P x false y f g = g refl
+pub chosen-case : (P : ℕ → Type 0) (x : ℕ) (b : Bool) (y : ℕ) → (b ≡ true → P x) → (b ≡ false → P y) → P (x if b else y)
+unfolding _if_else_
+chosen-case P x true y f g = f refl
+chosen-case P x false y f g = g refl
 
 -- the tests on a way turned into the answer's case
-pub ruleset rules = (lt-ltb, le-ltb, eq-eqb, ne-eqb, when-true, when-false)
+pub ruleset rules = (lt-ltb, le-ltb, eq-eqb, ne-eqb, if-true, if-false)
 
 pub and-true : (a b : Bool) → (a && b) ≡ true → (a ≡ true) × (b ≡ true)
 and-true true b e = (refl, e)
@@ -71,8 +65,8 @@ asked-nothing n longest s at b e =
       and-zero-r (getD (descAt s at .body) (n .3) 0),
       le-ltb (length (descAt s at .body)) 0 (omega arith),
       le-ltb 255 (length (descAt s at .body)) l,
-      when-false 2,
-      when-false 3,
-      when-false 4,
-      when-false 5,
+      if-false {A = ℕ} 2,
+      if-false {A = ℕ} 3,
+      if-false {A = ℕ} 4,
+      if-false {A = ℕ} 5,
     )

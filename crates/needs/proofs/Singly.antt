@@ -5,7 +5,7 @@ use mathlib.Core.List.{[], _∷_, List}
 use Prim.Native.Nat.{ℕ, zero, suc, _+_, _≤_, _<_}
 use native.Mathlib.Omega.{arith}
 use Rattle.refusal.specs.declared.Refusal.{Refusal}
-use Rattle.refusal.proofs.First.{unless-none, unless-fault}
+use Rattle.refusal.proofs.First.{unless-none}
 use Rattle.text.proofs.Received.{wholes-asc}
 use Rattle.reading.specs.Places.{descs}
 use Rattle.reading.specs.Completed.{completeFault}
@@ -17,6 +17,7 @@ use Rattle.needs.specs.Alone.{judgedOf}
 use Rattle.needs.proofs.Lowest.{Lowest, none-lowest, found-lowest, lowest-past, lowest-here}
 use Rattle.needs.proofs.Judgements.{column-ascends}
 use Rattle.needs.proofs.Alone.{one-input}
+use Rattle.needs.proofs.Judged.{unrefused}
 use Rattle.needs.proofs.Broken.{Breaks, Reason}
 use Rattle.needs.proofs.Breaks.{wrong-breaks, breaks-wrong, wrong-reason}
 
@@ -44,19 +45,9 @@ module _ (p f : ℕ) (s : List ℕ) where
   abbrev wrongs : ℕ → ℕ
   wrongs = wrongIn required (columnOf p) (descs s)
 
-  fault-none : (x : Said) → judgedOf p f s ≡ x → x .refusal .number ≡ 0 → judgeFault p s .number ≡ 0
-  unfolding judgedOf
-  fault-none x e k = go (judgeFault p s .number) refl
-    where
-      go : (n : ℕ) → judgeFault p s .number ≡ n → judgeFault p s .number ≡ 0
-      go zero h = h
-      go (suc n) h =
-          let j = unless-fault (judgeFault p s) (λ (r : Refusal). said (Refused r)) (lowestFrom wrongs f 1) (λ z. omega arith) in
-          ap (λ (y : Said). y .refusal .number) (sym j ∙ e) ∙ k
-
   one-is : (x : Said) → judgedOf p f s ≡ x → x .refusal .number ≡ 0 → lowestFrom wrongs f 1 ≡ x
   unfolding judgedOf
-  one-is x e k = sym (unless-none (judgeFault p s) _ _ (fault-none x e k)) ∙ e
+  one-is x e k = sym (unless-none (judgeFault p s) _ _ (unrefused (judgeFault p s) _ x e k)) ∙ e
 
   pub judged-so : Judged p f s (judgedOf p f s)
   judged-so = record {

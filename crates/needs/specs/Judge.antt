@@ -19,7 +19,6 @@ use Rattle.needs.specs.declared.table.Column.{Column}
 use Rattle.needs.specs.declared.table.Need.{Need}
 use Rattle.needs.specs.Required.{required, marked, columnOf, hasTable}
 
-infixr 20 _when_else_
 -- ---- the answer
 
 -- the number of each thing that can be wrong with a feature; 0 is nothing
@@ -54,11 +53,6 @@ said (Refused r) = says r false [] 0
 
 -- ---- the rule
 
--- x where the test holds, else y
-unfoldable pub _when_else_ : ℕ → Bool → ℕ → ℕ
-x when true else y = x
-x when false else y = y
-
 -- a descriptor is longer than a body may be
 unfoldable pub tooLong : (longest : ℕ) → Desc → Bool
 tooLong longest d = ltb longest (length (d .body))
@@ -67,10 +61,10 @@ tooLong longest d = ltb longest (length (d .body))
 -- 5: longer than a body may be
 unfoldable pub lineWrong : Need → (longest flags len byte : ℕ) → ℕ
 lineWrong n longest flags len byte =
-    2 when ltb len (n .2) else
-    3 when not (eqb (bitAnd byte (n .4)) (n .4)) else
-    4 when not (eqb (bitAnd flags (n .5)) (n .5)) else
-    5 when ltb longest len else
+    2 if ltb len (n .2) else
+    3 if not (eqb (bitAnd byte (n .4)) (n .4)) else
+    4 if not (eqb (bitAnd flags (n .5)) (n .5)) else
+    5 if ltb longest len else
     0
 
 unfoldable pub descWrong : Need → (longest : ℕ) → Desc → ℕ
@@ -86,7 +80,7 @@ descOf f ds = pick (λ d. eqb (d .number) f) (λ d. d ∷ []) [] ds
 -- what is wrong by this line with this descriptor. 1: needed, and not there. A descriptor that is not needed may only be too long
 unfoldable pub wrongOf : (longest : ℕ) → (line : List Need) (desc : List Desc) → ℕ
 wrongOf longest [] [] = 0
-wrongOf longest [] (d ∷ ds) = 5 when tooLong longest d else 0
+wrongOf longest [] (d ∷ ds) = 5 if tooLong longest d else 0
 wrongOf longest (n ∷ ns) [] = 1
 wrongOf longest (n ∷ ns) (d ∷ ds) = descWrong n longest d
 

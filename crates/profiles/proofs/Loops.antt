@@ -1,12 +1,13 @@
 -- The loops over records: a return, a further turn, the end. Assumes nothing.
 use borrow.Author.Tests.{eq-eqb, ne-eqb}
-use mathlib.Core.Bool.{Bool, true, false}
+use mathlib.Core.Bool.{Bool, true, false, _||_}
 use mathlib.Core.Path.{_≡_, refl, sym, ap, _∙_}
 use mathlib.Core.List.{List, _∷_}
 use Prim.Native.Nat.{ℕ, zero, suc, _+_, _-_, _*_, _%_, _≤_, _<_, min}
 use native.Mathlib.Numerals.{add-one}
 use native.Mathlib.Decide.{decLe}
 use native.Mathlib.Omega.{arith}
+use lib.Dec.{eqb}
 use lib.ListN.{getD}
 use Rattle.base.specs.Lists.{each}
 use Rattle.fields.specs.Field.{field}
@@ -43,6 +44,27 @@ module _ (w : Bool) (m : ℕ) (b : List ℕ) (n i : ℕ) (e : w ≡ lists m b i 
   pub lists-none : n ≤ i → false ≡ w
   unfolding lists
   lists-none h = sym (e ∙ ap (lists m b i) {x = n - i} {y = 0} (omega arith))
+
+-- with what was found so far
+or-step : (f t l : Bool) → (f || elim t [ true ↦ true | false ↦ l ]) ≡ ((f || t) || l)
+or-step true t l = refl
+or-step false true l = refl
+or-step false false l = refl
+
+or-none : (f : Bool) → (f || false) ≡ f
+or-none true = refl
+or-none false = refl
+
+module _ (w f : Bool) (m : ℕ) (b : List ℕ) (n i : ℕ) (e : w ≡ (f || lists m b i (n - i))) where
+  pub seen-go : (x : ℕ) (r : Bool) → i < n → x ≡ field 2 b (4 * i) → r ≡ (f || eqb x m) → w ≡ (r || lists m b (i + 1) (n - (i + 1)))
+  unfolding profileNumber lists
+  seen-go x r h p q =
+      let k : n - i ≡ suc (n - suc i) = omega arith in
+      rw (add-one, q, p) (e ∙ ap (λ (j : ℕ). f || lists m b i j) k ∙ or-step f (eqb (field 2 b (4 * i)) m) (lists m b (suc i) (n - suc i)))
+
+  pub seen-end : n ≤ i → f ≡ w
+  unfolding lists
+  seen-end h = sym (e ∙ ap (λ (j : ℕ). f || lists m b i j) {x = n - i} {y = 0} (omega arith) ∙ or-none f)
 
 -- none of the records has a number that they all differ from
 lists-nowhere : (m : ℕ) (b : List ℕ) (i k : ℕ) → ((j : ℕ) → j < i + k → profileNumber b j ≡ m → ⊥) → lists m b i k ≡ false

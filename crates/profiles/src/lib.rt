@@ -1,5 +1,6 @@
 // A list of profiles as bytes, four each: a sheet's profile part and the body of feature 0 are such a list.
 ghost use mathlib.Core.Path.{_≡_};
+ghost use mathlib.Core.Bool.{_||_};
 ghost use Prim.Native.Nat.{_+_, _-_, _/_, _≤_, _<_, min};
 ghost use lib.ListN.{length};
 ghost use Rattle.text.specs.Response.{currentProfile};
@@ -43,6 +44,30 @@ fn listed(b: &[u8], number: Profile, n: usize) -> bool
     false
 }
 
+fn either(a: bool, b: bool) -> bool
+    ensures { λ r. ⌜ r ≡ (a || b) ⌝ }
+{
+    if a {
+        return true;
+    }
+    b
+}
+
+// The same with no way out at a record: for a number that is most likely new, a walk to the end without a branch is quicker.
+// Asks: the same as `listed`.
+fn seen(b: &[u8], number: Profile, n: usize) -> bool
+    requires { ⌜ n ≤ length (now b) / 4 ⌝ }
+    ensures { λ r. ⌜ r ≡ lists (number .0) (now (b .entry)) 0 n ⌝ }
+{
+    let mut found = false;
+    let mut i = 0;
+    while i < n {
+        found = either(found, fields::inside2(b, 4 * i) == number.0);
+        i += 1;
+    }
+    found
+}
+
 // The same, where the numbers of the first n records lie from low to high: a number outside is looked for nowhere.
 // Asks: no more records than the list has, and their lowest and highest number; the walk carries them along.
 fn among(b: &[u8], number: Profile, n: usize, low: Profile, high: Profile) -> bool
@@ -55,7 +80,7 @@ fn among(b: &[u8], number: Profile, n: usize, low: Profile, high: Profile) -> bo
     if high.0 < number.0 {
         return false;
     }
-    listed(b, number, n)
+    seen(b, number, n)
 }
 
 // The place of record i, counted from 1. It is a sixteen-bit number and stops at the highest.

@@ -41,17 +41,8 @@ module _ (s : List ℕ) (at : ℕ) where
 
 -- where the four header bytes were received, each of them stands there
 module _ (r : Bool) (at n : ℕ) (e : r ≡ leb (at + 4) n) (t : r ≡ true) where
-  all-stand : at + 4 ≤ n
+  pub all-stand : at + 4 ≤ n
   all-stand = leb-true (at + 4) n (sym e ∙ t)
-
-  pub number-stands : at + 2 ≤ n
-  number-stands = omega (arith, all-stand)
-
-  pub flags-stand : at + 2 < n
-  flags-stand = omega (arith, all-stand)
-
-  pub length-stand : at + 3 < n
-  length-stand = omega (arith, all-stand)
 
 -- the empty part at the end is the body there
 pub body-behind : (s r : RefT (List ℕ)) (at : ℕ) → length (now s) ≤ at → PartOf s at (take 0 (drop at (now s))) r → PartOf s (at + 4) (descAt (now s) at .body) r

@@ -1,12 +1,14 @@
--- Flags that a drive sheet may not have: one descriptor's, and those of a response's descriptors. Assumes nothing.
+-- Odd flags: one descriptor's, and those of a response's descriptors. Assumes nothing.
 use mathlib.Core.Path.{_≡_, refl, sym, ap, _∙_}
-use mathlib.Core.Bool.{true, false, not}
+use mathlib.Core.Bool.{Bool, true, false, not}
 use mathlib.Core.List.{List}
-use Prim.Native.Nat.{ℕ, zero, suc}
+use Prim.Native.Nat.{ℕ}
 use native.Mathlib.Omega.{arith}
 use Rattle.refusal.specs.declared.Refusal.{Refusal}
-use Rattle.refusal.specs.First.{refuse}
-use Rattle.text.specs.Flags.{flagsGiving}
+use Rattle.refusal.specs.First.{refuse, accept}
+use Rattle.text.specs.Drive.{bit}
+use Rattle.text.specs.Flags.{odd, flagsGiving}
+use Rattle.text.proofs.FlagsRule.{flags-even}
 use Rattle.text.specs.declared.Reading.{Reading}
 use Rattle.text.specs.Reading.{reading}
 use Rattle.reading.specs.declared.Scanned.{Scanned}
@@ -17,28 +19,24 @@ use Rattle.reading.specs.Judged.{oddFlags, judged}
 use Rattle.reading.specs.inner.Tally.{refusal, scanJudged}
 use Rattle.reading.proofs.Completed.{complete-refused, complete-cut, complete-whole}
 
--- by the refusal r of flags f: there is one, there is none
-module _ (f : ℕ) (r : Refusal) (q : r ≡ flagsGiving (refuse 5) (refuse 44) f) where
-  pub odd-fault : (r .number ≡ 0 → ⊥) → 1 ≡ oddFlags f
+-- by whether flags f are odd
+module _ (f : ℕ) (t : Bool) (q : t ≡ odd f) where
+  pub odd-yes : t ≡ true → 1 ≡ oddFlags f
   unfolding oddFlags
-  odd-fault k = go (r .number) refl
-    where
-      go : (n : ℕ) → r .number ≡ n → 1 ≡ oddFlags f
-      go zero e = absurd (k e)
-      go (suc n) e = rw (sym (ap (λ (x : Refusal). x .number) q) ∙ e, oddFlags)
+  odd-yes e = ap bit (sym e ∙ q)
 
-  pub odd-none : r .number ≡ 0 → 0 ≡ oddFlags f
+  pub odd-no : t ≡ false → 0 ≡ oddFlags f
   unfolding oddFlags
-  odd-none e = rw (sym (ap (λ (x : Refusal). x .number) q) ∙ e, oddFlags)
+  odd-no e = ap bit (sym e ∙ q)
 
--- and back: flags that are not odd are not refused
-pub odd-zero : (f : ℕ) → oddFlags f ≡ 0 → flagsGiving (refuse 5) (refuse 44) f .number ≡ 0
+-- and back: no rule for flags refuses flags that are not odd
+pub odd-zero : (a b : Refusal) (f : ℕ) → oddFlags f ≡ 0 → flagsGiving a b f ≡ accept
 unfolding oddFlags
-odd-zero f e = go (flagsGiving (refuse 5) (refuse 44) f .number) refl
+odd-zero a b f e = flags-even a b f (go (odd f) e)
   where
-    go : (n : ℕ) → flagsGiving (refuse 5) (refuse 44) f .number ≡ n → flagsGiving (refuse 5) (refuse 44) f .number ≡ 0
-    go zero k = k
-    go (suc n) k = let z : oddFlags f ≡ 1 = rw (k, oddFlags) in absurd (omega (arith, e, z))
+    go : (t : Bool) → bit t ≡ 0 → t ≡ false
+    go true k = absurd (omega (arith, k))
+    go false k = refl
 
 -- ---- the answer, by the scan j at hand: refused, cut, complete
 

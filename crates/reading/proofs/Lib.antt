@@ -8,6 +8,7 @@ pub mod Places
 pub mod Rest
 pub mod Stopped
 pub mod Completed
+pub mod Loops
 pub mod Decides
 pub mod Promised
 pub mod Flagged

@@ -1,16 +1,15 @@
--- A response to RT 0 from 0 that has to be complete, and how many of its whole descriptors a drive sheet may not have for their flags. Assumes nothing: these are definitions.
+-- A response to RT 0 from 0 that has to be complete, and how many of its whole descriptors have odd flags. Assumes nothing: these are definitions.
 use mathlib.Core.List.{List, [], _∷_}
-use Prim.Native.Nat.{ℕ, zero, suc, _+_}
-use Rattle.refusal.specs.First.{refuse}
-use Rattle.text.specs.Drive.{Desc}
-use Rattle.text.specs.Flags.{flagsGiving}
+use Prim.Native.Nat.{ℕ, _+_}
+use Rattle.text.specs.Drive.{Desc, bit}
+use Rattle.text.specs.Flags.{odd}
 use Rattle.reading.specs.declared.Judged.{Judged}
 use Rattle.reading.specs.Places.{descs}
 use Rattle.reading.specs.Completed.{completed}
 
--- 1 where a sheet refuses such flags, by 5 or 44; else 0
+-- 1 for odd flags, else 0
 unfoldable pub oddFlags : ℕ → ℕ
-oddFlags f = elim (flagsGiving (refuse 5) (refuse 44) f .number) [ zero ↦ 0 | suc k ↦ 1 ]
+oddFlags f = bit (odd f)
 
 -- how many of ds have such flags
 unfoldable pub oddIn : List Desc → ℕ

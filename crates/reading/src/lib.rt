@@ -8,12 +8,12 @@ ghost use Rattle.fields.specs.Part.{PartOf};
 ghost use Rattle.text.specs.Flags.{current};
 ghost use Rattle.text.specs.Response.{headerLength, returnLimit};
 ghost use Rattle.text.specs.Reading.{headerRule, headRule, numberAt, flagsAt, lengthAt, descAt, walk, reading};
-ghost use Rattle.reading.specs.Places.{nextAt};
+ghost use Rattle.reading.specs.Places.{descs, reported, nextAt};
 ghost use Rattle.reading.specs.Scan.{scanned};
 ghost use Rattle.reading.specs.Stop.{standing, stopped};
 ghost use Rattle.reading.specs.Judged.{oddFlags, judged};
 ghost use Rattle.reading.specs.inner.Tally.{refusal, headAt, tally, walkJudged, scanJudged};
-ghost use Rattle.reading.specs.Completed.{completed};
+ghost use Rattle.reading.specs.Completed.{completeFault, completed};
 ghost use Rattle.reading.specs.Held.{placeIn, HeldIn, HeldOf};
 use refusal::Refusal;
 use text::Feature;
@@ -34,7 +34,7 @@ pub struct Stop {
     pub feature: Feature,
 }
 
-// The reading of a response to RT 0 from 0 that has to be complete, and how many of its whole descriptors have flags that a drive sheet may not have.
+// The reading of a response to RT 0 from 0 that has to be complete, and how many of its whole descriptors have odd flags.
 pub struct Judged {
     pub reading: Reading,
     pub odd: u32,
@@ -71,6 +71,33 @@ struct ScanJudged {
     odd: u32,
 }
 
+// ---- the header bytes of a descriptor at a place that has them, with no look at the end of s
+
+// Asks: a place that has four bytes; whoever walks over the descriptors has looked.
+pub fn number_in(s: &[u8], at: usize) -> Feature
+    requires { ⌜ at + 4 ≤ length (now s) ⌝ }
+    ensures { λ r. ⌜ r .0 ≡ numberAt (now (s .entry)) at ⌝ }
+{
+    Feature(fields::inside2(s, at))
+}
+
+// Asks: the same.
+pub fn flags_in(s: &[u8], at: usize) -> Flags
+    requires { ⌜ at + 4 ≤ length (now s) ⌝ }
+    ensures { λ r. ⌜ r .0 ≡ flagsAt (now (s .entry)) at ⌝ }
+{
+    Flags(fields::inside(s, at + 2))
+}
+
+// Additional Length.
+// Asks: the same.
+pub fn length_in(s: &[u8], at: usize) -> u8
+    requires { ⌜ at + 4 ≤ length (now s) ⌝ }
+    ensures { λ r. ⌜ r ≡ lengthAt (now (s .entry)) at ⌝ }
+{
+    fields::inside(s, at + 3)
+}
+
 // ---- a descriptor at a place; behind the end of s there is an empty one whose fields are 0
 
 // Whether the four header bytes at a place were received. Each accessor looks first, so that where several read one descriptor one look serves them all.
@@ -90,7 +117,7 @@ pub fn number_at(s: &[u8], at: usize) -> Feature
     ensures { λ r. ⌜ r .0 ≡ numberAt (now (s .entry)) at ⌝ }
 {
     if headed(s, at) {
-        return Feature(fields::inside2(s, at));
+        return number_in(s, at);
     }
     Feature(fields::get2(s, at))
 }
@@ -99,7 +126,7 @@ pub fn flags_at(s: &[u8], at: usize) -> Flags
     ensures { λ r. ⌜ r .0 ≡ flagsAt (now (s .entry)) at ⌝ }
 {
     if headed(s, at) {
-        return Flags(fields::inside(s, at + 2));
+        return flags_in(s, at);
     }
     if s.len() <= at {
         return Flags(0);
@@ -112,7 +139,7 @@ pub fn length_at(s: &[u8], at: usize) -> u8
     ensures { λ r. ⌜ r ≡ lengthAt (now (s .entry)) at ⌝ }
 {
     if headed(s, at) {
-        return fields::inside(s, at + 3);
+        return length_in(s, at);
     }
     if s.len() <= at {
         return 0;
@@ -308,7 +335,7 @@ pub fn scan(limit: usize, rt: u8, sfn: Feature, s: &[u8]) -> Scanned
         return refusing(fault);
     }
     let end = stated as usize + 4;
-    match walk_over(rt, sfn, end, s) {
+    match walk_over(rt, sfn, end, &s[..]) {
         Walk::Refused { fault, at } => refusing(fault),
         Walk::Whole {
             count,
@@ -405,14 +432,32 @@ pub fn place_of(feature: Feature, s: &[u8]) -> usize
     at
 }
 
+// ---- a complete response, whose descriptors stand one behind the other from behind the header on
+
+// Whether a feature is reported: they ascend, so the first that is not below it tells.
+// Asks: a response that is accepted and complete, which the reading's numbers and 29 have shown before.
+pub fn reports(f: Feature, s: &[u8]) -> bool
+    requires { ⌜ completeFault (now s) .number ≡ 0 ⌝ }
+    ensures { λ r. ⌜ r ≡ reported (f .0) (descs (now (s .entry))) ⌝ }
+{
+    let mut at = Header::LENGTH;
+    while at + 4 <= s.len() {
+        let number = number_at(s, at);
+        if f.0 <= number.0 {
+            return number.0 == f.0;
+        }
+        at = next_at(s, at);
+    }
+    false
+}
+
 // ---- the flags, on the same walk
 
-// 1 where a drive sheet may not have such flags, else 0.
+// 1 for odd flags, else 0.
 fn odd(flags: Flags) -> u32
     ensures { λ r. ⌜ (r ≡ oddFlags (flags .0)) × (r ≤ 1) ⌝ }
 {
-    let fault = flags.fault(refusal::FLAGS_BAD, refusal::PERSISTENT_UNCURRENT);
-    if fault.number != 0 {
+    if flags.odd() {
         return 1;
     }
     0

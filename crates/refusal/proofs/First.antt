@@ -10,11 +10,11 @@ use Rattle.refusal.specs.First.{refuse, accept, _if_else_, pickZero, _or
 
 -- ---- a chain of early returns
 
-pub if-true : (x y : Refusal) → (x if true else y) ≡ x
+pub if-true : {A : Type 0} (x y : A) → (x if true else y) ≡ x
 unfolding _if_else_
 if-true x y = refl
 
-pub if-false : (x y : Refusal) → (x if false else y) ≡ y
+pub if-false : {A : Type 0} (x y : A) → (x if false else y) ≡ y
 unfolding _if_else_
 if-false x y = refl
 

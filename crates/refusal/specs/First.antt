@@ -17,7 +17,7 @@ unfoldable pub placed : Refusal → (place : ℕ) → Refusal
 placed r place = elim (r .number) [ zero ↦ accept | suc k ↦ record { number = suc k; place = place } ]
 
 -- x where the test holds, else y
-unfoldable pub _if_else_ : Refusal → Bool → Refusal → Refusal
+unfoldable pub _if_else_ : {A : Type 0} → A → Bool → A → A
 x if true else y = x
 x if false else y = y
 

@@ -76,6 +76,6 @@ module _ (s : Sheet) (rt sfn : ℕ) (b : Bytes (s .bytes)) (e : Accepted s) wher
   found-low : (takenSize s rt sfn + 4) % 2 ^ 32 ≡ 4 + length (flat bytes (selected rt sfn (meaning s)))
   found-low = mod-eq-of-lt (omega (arith, found-length, full-low (meaning-fine s b e .sound) rt sfn)) ∙ omega (arith, found-size)
 
-  pub found-full : fullBytes s rt sfn (planOf s rt sfn from (takenSize s rt sfn)) ≡ full rt sfn (meaning s)
+  pub found-full : fullBytes s (planOf s rt sfn from (takenSize s rt sfn)) ≡ full rt sfn (meaning s)
   unfolding planOf takenTo full fullBytes dataLength
   found-full = rw (found-low, found-parts, current-from, append-assoc)

@@ -1,6 +1,6 @@
 -- The response by index, case by case and turn by turn: what the box's functions and loops need. Assumes nothing.
 use mathlib.Core.Path.{_≡_, refl, sym, ap, _∙_}
-use mathlib.Core.Bool.{true, false}
+use mathlib.Core.Bool.{Bool, true, false}
 use mathlib.Core.List.{List, [], _++_, append-assoc, append-nil}
 use Prim.Native.Nat.{ℕ, zero, suc, _+_, _-_, _*_, _/_, _%_, _^_, _≤_, _<_}
 use native.Mathlib.Nat.{add-zero, add-suc}
@@ -13,7 +13,7 @@ use Rattle.fields.specs.Field.{field, spell}
 use lib.Arith.{digits-div, digits-mod}
 use Rattle.fields.proofs.Laws.{field-lt, spell-split}
 use Rattle.lent.specs.Wrote.{Wrote}
-use Rattle.lent.proofs.Laws.{nowhere, then}
+use Rattle.lent.proofs.Laws.{nowhere, then, written-as}
 use Rattle.text.specs.declared.Header.{Header}
 use Rattle.text.specs.Response.{header, headerOf, currentProfile}
 use Rattle.profiles.specs.Profiles.{profilesOf}
@@ -23,7 +23,7 @@ use Rattle.layout.specs.inner.Found.{foundOf}
 use Rattle.layout.proofs.Heads.{found-offset}
 use Rattle.layout.specs.Layout.{Sheet, features, profiles, number, lengthPlace, offsetPlace, flags, bodyLength, offset, profilesIn}
 use Rattle.sheet.specs.Check.{endBefore}
-use Rattle.responder.specs.inner.Index.{wantedEnd, skips, descOf, descBytes, piece, wholeBytes, foundBytes, pieces, pieceSize, piecesSize, span, entriesSize, zeroOf, atZero, zeroBytes, zeroPart, zeroSize}
+use Rattle.responder.specs.inner.Index.{wantedEnd, skips, descOf, descBytes, piece, wholeBytes, foundBytes, going, pieces, pieceSize, foundSize, piecesSize, span, entriesSize, zeroOf, atZero, zeroBytes, zeroPart, zeroSize}
 
 -- ---- what goes as numbers of four bytes
 
@@ -58,7 +58,34 @@ module _ (rt : ℕ) (s : Sheet) (i : ℕ) where
   unfolding pieceSize
   size-some e = rw (e, pieceSize)
 
+-- ---- a walk that stops or goes on
+
+module _ {d e f : List ℕ} {at r q : ℕ} {xs : List ℕ} (stops : Bool) (bs : List ℕ) (v : Wrote d at xs r e) (w : Wrote e r (going stops bs) q f) where
+  pub stopping : stops ≡ true → Wrote d at xs q f
+  unfolding going
+  stopping h = written-as (ap (λ (b : Bool). xs ++ going b bs) h ∙ append-nil xs) (then v w)
+
+  pub going-on : stops ≡ false → Wrote d at (xs ++ bs) q f
+  unfolding going
+  going-on h = written-as (ap (λ (b : Bool). xs ++ going b bs) h) (then v w)
+
 -- ---- one that was found
+
+module _ (rt f len : ℕ) where
+  pub found-size-none : skips rt f ≡ true → foundSize rt f len ≡ 0
+  unfolding foundSize
+  found-size-none e = rw (e, foundSize)
+
+  pub found-size-some : skips rt f ≡ false → foundSize rt f len ≡ 4 + len
+  unfolding foundSize
+  found-size-some e = rw (e, foundSize)
+
+size-entry : (rt : ℕ) (s : Sheet) (i : ℕ) → foundSize rt (foundOf s i .flags .0) (foundOf s i .length) ≡ pieceSize rt s i
+unfolding foundSize pieceSize foundOf
+size-entry rt s i = refl
+
+pub found-size : (rt : ℕ) (s : Sheet) (i : ℕ) (f : Found) → f ≡ foundOf s i → foundSize rt (f .flags .0) (f .length) ≡ pieceSize rt s i
+found-size rt s i f e = (λ j. foundSize rt (e j .flags .0) (e j .length)) ∙ size-entry rt s i
 
 module _ (rt : ℕ) (s : Sheet) (i f body len : ℕ) where
   pub found-none : skips rt f ≡ true → foundBytes rt s i f body len ≡ []

@@ -22,16 +22,16 @@ module _ (s : Sheet) (rt sfn a from size : ℕ) (d : List ℕ) (n : ℕ) (is : n
   pub sized-short : length d < n → (m : Made) → m ≡ refused (refuse 12) → outcome m d ≡ sized s rt sfn a from size d
   unfolding sized
   sized-short h m e =
-      rw (← is, lt-ltb (length d) n h, if-true) (refused-unless (making (take n (fullBytes s rt sfn (planOf s rt sfn from size))) d) e refl (λ z. omega arith))
+      rw (← is, lt-ltb (length d) n h, if-true) (refused-unless (making (take n (fullBytes s (planOf s rt sfn from size))) d) e refl (λ z. omega arith))
 
-  pub sized-sent : (p : Plan) (count : ℕ) (e : List ℕ) (m : Made) → p ≡ planOf s rt sfn from size → n ≤ length d → Wrote (take n d) 0 (fullBytes s rt sfn p) count e → m ≡ written count
+  pub sized-sent : (p : Plan) (count : ℕ) (e : List ℕ) (m : Made) → p ≡ planOf s rt sfn from size → n ≤ length d → Wrote (take n d) 0 (fullBytes s p) count e → m ≡ written count
       → outcome m (e ++ drop n d) ≡ sized s rt sfn a from size d
   unfolding sized
   sized-sent p count e m is-plan room w made =
-      let xs = take n (fullBytes s rt sfn (planOf s rt sfn from size)) in
+      let xs = take n (fullBytes s (planOf s rt sfn from size)) in
       rw (← is, le-ltb (length d) n room, if-false)
       (ap (λ (k : Made). outcome k (e ++ drop n d)) made
-      ∙ written-making (omega (arith, length-take n (fullBytes s rt sfn (planOf s rt sfn from size)))) (cut room (rw is-plan at w)) ∙ sym (unless-none accept (refusing d) (making xs d) refl))
+      ∙ written-making (omega (arith, length-take n (fullBytes s (planOf s rt sfn from size)))) (cut room (rw is-plan at w)) ∙ sym (unless-none accept (refusing d) (making xs d) refl))
 
 -- told the request's own numbers
 pub sized-trusting : (s : Sheet) (rt sfn a : ℕ) (d : List ℕ) → sized s rt sfn a (takenFrom s sfn) (takenSize s rt sfn) d ≡ trusting s rt sfn a d

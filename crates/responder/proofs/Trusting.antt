@@ -35,7 +35,7 @@ module _ (s : Sheet) (b : Bytes (s .bytes)) (ok : Accepted s) where
   unfolding limit
   limit-sent rt sfn a = sym (length-sent rt sfn a (meaning s) ∙ ap (min (most a)) (found-length s rt sfn b ok))
 
-  found-sent : (rt sfn a : ℕ) → take (limit a (takenSize s rt sfn)) (fullBytes s rt sfn (planOf s rt sfn (takenFrom s sfn) (takenSize s rt sfn))) ≡ sent rt sfn a (meaning s)
+  found-sent : (rt sfn a : ℕ) → take (limit a (takenSize s rt sfn)) (fullBytes s (planOf s rt sfn (takenFrom s sfn) (takenSize s rt sfn))) ≡ sent rt sfn a (meaning s)
   unfolding sent
   found-sent rt sfn a = ap₂ take (limit-sent rt sfn a) (found-full s rt sfn b ok) ∙ sym (take-prefix (most a) (full rt sfn (meaning s)))
 

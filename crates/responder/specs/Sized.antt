@@ -13,4 +13,4 @@ use Rattle.responder.specs.inner.Index.{planOf, fullBytes, limit}
 -- the answer to a request: 12 where the buffer is shorter than what is due, else what is due, or all there is where that is less
 unfoldable pub sized : (s : Sheet) (rt sfn a from size : ℕ) (d : List ℕ) → Outcome
 sized s rt sfn a from size d =
-    unless (refuse 12 if ltb (length d) (limit a size) else accept) (refusing d) (making (take (limit a size) (fullBytes s rt sfn (planOf s rt sfn from size))) d)
+    unless (refuse 12 if ltb (length d) (limit a size) else accept) (refusing d) (making (take (limit a size) (fullBytes s (planOf s rt sfn from size))) d)

@@ -1,8 +1,9 @@
 // The box: a sheet, a command and a lent buffer in; the refusal or the count of bytes sent out.
 ghost use mathlib.Core.Path.{_≡_};
-ghost use Prim.Native.Nat.{_+_, _-_, _*_, _%_, _^_, _≤_, _<_, min};
+ghost use Prim.Native.Nat.{_+_, _-_, _*_, _%_, _^_, _≤_, _<_};
 ghost use lib.ListN.{length};
 ghost use Rattle.layout.specs.Layout.{stored};
+ghost use Rattle.layout.specs.declared.Layout.the-variants.{Rows, Columns};
 ghost use Rattle.layout.specs.inner.Room.{Room};
 ghost use Rattle.sheet.specs.Check.{endBefore};
 ghost use Rattle.lent.specs.Wrote.{Wrote};
@@ -12,7 +13,7 @@ ghost use Rattle.responder.specs.Answer.{answered};
 ghost use Rattle.responder.specs.Trusting.{trusting, trustingCommand};
 ghost use Rattle.responder.specs.Sized.{sized};
 ghost use Rattle.responder.specs.inner.Fitted.{Fitted};
-ghost use Rattle.responder.specs.inner.Index.{wantedEnd, skips, descOf, descBytes, piece, wholeBytes, foundBytes, pieces, pieceSize, piecesSize, span, entriesSize, zeroOf, atZero, zeroSize, takenFrom, takenSize, planOf, fullBytes, limit};
+ghost use Rattle.responder.specs.inner.Index.{wantedEnd, skips, descOf, descBytes, piece, wholeBytes, foundBytes, going, pieces, pieceSize, foundSize, piecesSize, span, entriesSize, zeroOf, atZero, zeroSize, takenFrom, takenSize, planOf, fullBytes, limit};
 use command::Command;
 use layout::Layout;
 use lent::Made;
@@ -60,7 +61,8 @@ fn piece_size(lay: Layout, s: &[u8], rt: u8, i: u16) -> usize
     4 + layout::length_at(lay, s, i) as usize
 }
 
-fn pieces_size(lay: Layout, s: &[u8], rt: u8, from: u16, to: u16) -> usize
+// Of any sheet.
+fn pieces_slowly(lay: Layout, s: &[u8], rt: u8, from: u16, to: u16) -> usize
     ensures { λ r. ⌜ (r ≡ piecesSize rt (stored lay (now (s .entry))) from (to - from)) × (r ≤ 259 * (to - from)) ⌝ }
 {
     let mut size: usize = 0;
@@ -72,14 +74,44 @@ fn pieces_size(lay: Layout, s: &[u8], rt: u8, from: u16, to: u16) -> usize
     size
 }
 
-// a - b, 0 where b is larger.
-fn difference(a: usize, b: usize) -> usize
-    ensures { λ r. ⌜ r ≡ a - b ⌝ }
+// Of an entry with these flags and a body so long: cases so plain that no branch is left of them.
+fn found_size(rt: u8, flags: Flags, len: u8) -> u32
+    ensures { λ r. ⌜ (r ≡ foundSize rt (flags .0) len) × (r < 260) ⌝ }
 {
-    if a < b {
+    if skipped(rt, flags) {
         return 0;
     }
-    a - b
+    4 + len as u32
+}
+
+// With no look at the sheet's end, by numbers of which a register has room for several.
+// Asks: entries of a sheet that has its contents; `pieces_size` has looked.
+fn pieces_in(lay: Layout, s: &[u8], rt: u8, n: u16, from: u16, to: u16) -> usize
+    requires { ⌜ Room (now s) n × (to ≤ n) ⌝ }
+    ensures { λ r. ⌜ (r ≡ piecesSize rt (stored lay (now (s .entry))) from (to - from)) × (r ≤ 259 * (to - from)) ⌝ }
+{
+    let mut size: u32 = 0;
+    let mut i = from;
+    while i < to {
+        let entry = layout::find(lay, s, n, i);
+        size += found_size(rt, entry.flags, entry.length);
+        i += 1;
+    }
+    size as usize
+}
+
+// The same, quickly where the sheet has its contents.
+fn pieces_size(lay: Layout, s: &[u8], rt: u8, from: u16, to: u16) -> usize
+    ensures { λ r. ⌜ (r ≡ piecesSize rt (stored lay (now (s .entry))) from (to - from)) × (r ≤ 259 * (to - from)) ⌝ }
+{
+    let n = layout::feature_count(s);
+    if n < to {
+        return pieces_slowly(lay, s, rt, from, to);
+    }
+    if s.len() < layout::profiles_behind(n) {
+        return pieces_slowly(lay, s, rt, from, to);
+    }
+    pieces_in(lay, s, rt, n, from, to)
 }
 
 // Where the body before that of entry i of n ends, with no look at the sheet's end.
@@ -101,7 +133,7 @@ fn span_slowly(lay: Layout, s: &[u8], from: u16, to: u16) -> usize
 {
     let start = sheet::end_before(lay, s, from);
     let end = sheet::end_before(lay, s, to);
-    4 * difference(to as usize, from as usize) + difference(end, start)
+    4 * base::difference(to as usize, from as usize) + base::difference(end, start)
 }
 
 // The same, quickly where the sheet has its contents.
@@ -120,7 +152,7 @@ fn span_size(lay: Layout, s: &[u8], from: u16, to: u16) -> usize
     }
     let start = end_in(lay, s, n, from);
     let end = end_in(lay, s, n, to);
-    4 * difference(to as usize, from as usize) + difference(end, start)
+    4 * base::difference(to as usize, from as usize) + base::difference(end, start)
 }
 
 fn entries_size(lay: Layout, s: &[u8], rt: u8, from: u16, to: u16) -> usize
@@ -142,6 +174,8 @@ fn zero_size(s: &[u8], sfn: Feature) -> usize
 }
 
 struct Plan {
+    rt: u8,
+    sfn: Feature,
     from: u16,
     to: u16,
     size: usize,
@@ -154,6 +188,8 @@ fn taken(lay: Layout, s: &[u8], rt: u8, sfn: Feature, from: u16, size: usize) ->
     let n = layout::feature_count(s);
     let to = wanted_end(lay, s, rt, n, sfn, from);
     Plan {
+        rt: rt,
+        sfn: sfn,
         from: from,
         to: to,
         size: size,
@@ -164,12 +200,15 @@ fn taken(lay: Layout, s: &[u8], rt: u8, sfn: Feature, from: u16, size: usize) ->
 fn planned(lay: Layout, s: &[u8], rt: u8, sfn: Feature) -> Plan
     ensures { λ r. ⌜ r ≡ planOf (stored lay (now (s .entry))) rt (sfn .0) (takenFrom (stored lay (now (s .entry))) (sfn .0)) (takenSize (stored lay (now (s .entry))) rt (sfn .0)) ⌝ }
 {
-    let n = layout::feature_count(s);
-    let from = sheet::first_from(lay, s, n, sfn);
-    let part = taken(lay, s, rt, sfn, from, 0);
-    let zero = zero_size(s, sfn);
-    let rest = entries_size(lay, s, rt, part.from, part.to);
+    let view = &s[..];
+    let n = layout::feature_count(view);
+    let from = sheet::first_from(lay, view, n, sfn);
+    let part = taken(lay, view, rt, sfn, from, 0);
+    let zero = zero_size(view, sfn);
+    let rest = entries_size(lay, view, rt, part.from, part.to);
     Plan {
+        rt: rt,
+        sfn: sfn,
         from: part.from,
         to: part.to,
         size: zero + rest,
@@ -216,7 +255,7 @@ fn put_slowly(out: &mut [u8], at: usize, lay: Layout, s: &[u8], rt: u8, i: u16) 
 }
 
 // The descriptor of entry i of n from where its body stands and how long that is, with no look at the room.
-// Asks: an entry of a sheet that has its contents, room for the descriptor, and a sheet that has the body, which `put_fitting` has shown before.
+// Asks: an entry of a sheet that has its contents, room for the descriptor, and a sheet that has the body, which `put_next` has shown before.
 fn put_whole(
     out: &mut [u8],
     at: usize,
@@ -270,7 +309,76 @@ struct Progress {
     next: usize,
 }
 
-// Entries one by one, as long as the sheet has the body and the buffer room for the descriptor.
+// What became of one entry: whether the walk stops before it, and where the next descriptor starts.
+struct Stepped {
+    stops: bool,
+    next: usize,
+}
+
+// Entry i of n, where the sheet has the body and the buffer room for the descriptor; else nothing.
+// Asks: an entry of a sheet that has its contents, and a place inside the buffer; the walks have both.
+fn put_next(out: &mut [u8], at: usize, lay: Layout, s: &[u8], rt: u8, n: u16, i: u16) -> Stepped
+    requires { ⌜ Room (now s) n × (i < n) × (at ≤ length (now out)) ⌝ }
+    ensures { λ r. ⌜ Wrote (now (out .entry)) at (going (r .stops) (piece rt (stored lay (now (s .entry))) i)) (r .next) (now (out .exit)) ⌝ }
+{
+    let entry = layout::find(lay, s, n, i);
+    let len = entry.length as usize;
+    if out.len() < at + 4 + len {
+        return Stepped {
+            stops: true,
+            next: at,
+        };
+    }
+    let body = fields::inside4(s, entry.place) as usize;
+    if s.len() < body + len {
+        return Stepped {
+            stops: true,
+            next: at,
+        };
+    }
+    let next = put_piece(out, at, lay, s, rt, n, i, entry.flags, body, len);
+    Stepped { stops: false, next }
+}
+
+// Entries one by one, as long as they fit. One walk for each layout, so that no round asks for it.
+// Asks: entries of a sheet that has its contents, and a place inside the buffer; `put_fitting` has looked.
+fn put_rows(out: &mut [u8], at: usize, s: &[u8], rt: u8, n: u16, from: u16, to: u16) -> Progress
+    requires { ⌜ Room (now s) n × (to ≤ n) × (at ≤ length (now out)) ⌝ }
+    ensures { λ r. ⌜ Fitted rt (stored Rows (now (s .entry))) from to (now (out .entry)) at r (now (out .exit)) ⌝ }
+{
+    let mut next = at;
+    let mut i = from;
+    while i < to {
+        let step = put_next(out, next, Layout::Rows, s, rt, n, i);
+        next = step.next;
+        if step.stops {
+            return Progress { i, next };
+        }
+        i += 1;
+    }
+    Progress { i, next }
+}
+
+// The same in columns.
+// Asks: entries of a sheet that has its contents, and a place inside the buffer; `put_fitting` has looked.
+fn put_columns(out: &mut [u8], at: usize, s: &[u8], rt: u8, n: u16, from: u16, to: u16) -> Progress
+    requires { ⌜ Room (now s) n × (to ≤ n) × (at ≤ length (now out)) ⌝ }
+    ensures { λ r. ⌜ Fitted rt (stored Columns (now (s .entry))) from to (now (out .entry)) at r (now (out .exit)) ⌝ }
+{
+    let mut next = at;
+    let mut i = from;
+    while i < to {
+        let step = put_next(out, next, Layout::Columns, s, rt, n, i);
+        next = step.next;
+        if step.stops {
+            return Progress { i, next };
+        }
+        i += 1;
+    }
+    Progress { i, next }
+}
+
+// The same of any sheet.
 fn put_fitting(
     out: &mut [u8],
     at: usize,
@@ -282,32 +390,20 @@ fn put_fitting(
 ) -> Progress
     ensures { λ r. ⌜ Fitted rt (stored lay (now (s .entry))) from to (now (out .entry)) at r (now (out .exit)) ⌝ }
 {
-    let mut next = at;
-    let mut i = from;
     let n = layout::feature_count(s);
     if n < to {
-        return Progress { i, next };
+        return Progress { i: from, next: at };
     }
     if out.len() < at {
-        return Progress { i, next };
+        return Progress { i: from, next: at };
     }
     if s.len() < layout::profiles_behind(n) {
-        return Progress { i, next };
+        return Progress { i: from, next: at };
     }
-    while i < to {
-        let entry = layout::find(lay, s, n, i);
-        let len = entry.length as usize;
-        if out.len() < next + 4 + len {
-            return Progress { i, next };
-        }
-        let body = fields::inside4(s, entry.place) as usize;
-        if s.len() < body + len {
-            return Progress { i, next };
-        }
-        next = put_piece(out, next, lay, s, rt, n, i, entry.flags, body, len);
-        i += 1;
+    match lay {
+        Layout::Rows => put_rows(out, at, s, rt, n, from, to),
+        Layout::Columns => put_columns(out, at, s, rt, n, from, to),
     }
-    Progress { i, next }
 }
 
 // Entries whatever the sheet has of them and the buffer of room. Stops where the buffer is full.
@@ -369,36 +465,29 @@ fn data_length(size: usize) -> u32
 }
 
 // The whole response that a plan takes. The profiles are looked for once, for the header and for feature 0.
-fn put_full(out: &mut [u8], lay: Layout, s: &[u8], rt: u8, sfn: Feature, p: Plan) -> usize
-    ensures { λ r. ⌜ Wrote (now (out .entry)) 0 (fullBytes (stored lay (now (s .entry))) rt (sfn .0) p) r (now (out .exit)) ⌝ }
+fn put_full(out: &mut [u8], lay: Layout, s: &[u8], p: Plan) -> usize
+    ensures { λ r. ⌜ Wrote (now (out .entry)) 0 (fullBytes (stored lay (now (s .entry))) p) r (now (out .exit)) ⌝ }
 {
-    let count = layout::profile_count(s);
-    let list = layout::profiles_part(s);
+    let view = &s[..];
+    let sfn = p.sfn;
+    let count = layout::profile_count(view);
+    let list = layout::profiles_part(view);
     let profile = profiles::current(list);
     let header = Header::new(data_length(p.size), profile);
     let a = put_header(out, 0, header);
     let b = put_zero_part(out, a, sfn, count, list);
-    put_pieces(out, b, lay, s, rt, p.from, p.to)
+    put_pieces(out, b, lay, view, p.rt, p.from, p.to)
 }
 
 // ---- the answers
-
-fn least(a: usize, b: usize) -> usize
-    ensures { λ r. ⌜ r ≡ min a b ⌝ }
-{
-    if a < b {
-        return a;
-    }
-    b
-}
 
 // How many bytes are due where so many stand behind the header.
 fn due(a: u16, size: usize) -> usize
     ensures { λ r. ⌜ r ≡ limit a size ⌝ }
 {
     let most = text::most(a);
-    let rest = least(size, most);
-    least(most, Header::LENGTH + rest)
+    let rest = base::least(size, most);
+    base::least(most, Header::LENGTH + rest)
 }
 
 // Answers a request with no check of the sheet: from an accepted one, what `respond` answers.
@@ -410,7 +499,7 @@ pub fn send(lay: Layout, s: &[u8], rt: u8, sfn: Feature, a: u16, out: &mut [u8])
     if out.len() < limit {
         return Made::refused(refusal::BUFFER_SHORT);
     }
-    let count = put_full(&mut out[..limit], lay, s, rt, sfn, plan);
+    let count = put_full(&mut out[..limit], lay, s, plan);
     Made::written(count)
 }
 
@@ -440,7 +529,7 @@ pub fn send_sized(
         return Made::refused(refusal::BUFFER_SHORT);
     }
     let told = taken(lay, s, rt, sfn, from, size);
-    let count = put_full(&mut out[..cut], lay, s, rt, sfn, told);
+    let count = put_full(&mut out[..cut], lay, s, told);
     Made::written(count)
 }
 

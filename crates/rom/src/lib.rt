@@ -126,22 +126,12 @@ fn put_wanted(out: &mut [u8], at: usize, image: &[u8], rt: u8, sfn: Feature, pla
     lent::copy(out, at, one_part(image, rt, sfn, place))
 }
 
-// a - b, 0 where b is larger.
-fn difference(a: usize, b: usize) -> usize
-    ensures { λ r. ⌜ r ≡ a - b ⌝ }
-{
-    if a < b {
-        return 0;
-    }
-    a - b
-}
-
 // Data Length without what is passed over, where so many bytes behind the header are wanted.
 fn less_passed(stated: u32, bytes: usize, size: usize) -> u32
     ensures { λ r. ⌜ r ≡ lessPassed stated bytes size ⌝ }
 {
-    let passed = difference(difference(bytes, Header::LENGTH), size);
-    difference(stated as usize, passed) as u32
+    let passed = base::difference(base::difference(bytes, Header::LENGTH), size);
+    base::difference(stated as usize, passed) as u32
 }
 
 // The header: that Data Length, and the rest as it stands.
@@ -173,22 +163,13 @@ fn put_response(
 
 // ---- the answers
 
-fn least(a: usize, b: usize) -> usize
-    ensures { λ r. ⌜ r ≡ min a b ⌝ }
-{
-    if a < b {
-        return a;
-    }
-    b
-}
-
 // How many bytes are due of a response with so many behind the header.
 fn due(image: &[u8], a: u16, size: usize) -> usize
     ensures { λ r. ⌜ r ≡ min (most a) (length (headOf (now (image .entry)) size) + size) ⌝ }
 {
     let most = text::most(a);
     let rest = fields::part(image, 4, 4);
-    least(most, 4 + rest.len() + least(size, most))
+    base::least(most, 4 + rest.len() + base::least(size, most))
 }
 
 // Answers a request with no check of the image: from an accepted one, what the box of its sheet sends.

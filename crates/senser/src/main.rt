@@ -3,6 +3,10 @@
 // Argument: whether hexadecimal text is read.
 use libc::STDERR_FILENO;
 use libc::STDOUT_FILENO;
+use program_io::dumps;
+use program_io::streams;
+use program_words::tables;
+use program_words::words;
 use refusal::Refusal;
 use sense::Kind;
 use sense::Sense;

@@ -54,10 +54,11 @@ fn entry_rule(
 pub fn end_before(lay: Layout, s: &[u8], i: u16) -> usize
     ensures { λ r. ⌜ r ≡ endBefore (stored lay (now (s .entry))) i ⌝ }
 {
+    let view = &s[..];
     if i == 0 {
-        return layout::bodies_at(s);
+        return layout::bodies_at(view);
     }
-    layout::offset_at(lay, s, i - 1) as usize + layout::length_at(lay, s, i - 1) as usize
+    layout::offset_at(lay, view, i - 1) as usize + layout::length_at(lay, view, i - 1) as usize
 }
 
 // The first refusal of the entries and of what stands behind the last body. Each entry is read once; what it leaves for the next one is carried along.
@@ -108,13 +109,19 @@ fn counted_fault(lay: Layout, s: &[u8], n: u16, p: u16) -> Refusal
 pub fn check(lay: Layout, s: &[u8]) -> Refusal
     ensures { λ r. ⌜ r ≡ verdict (stored lay (now (s .entry))) ⌝ }
 {
-    if s.len() < 4 {
+    let view = &s[..];
+    if view.len() < 4 {
         return refusal::SHEET_SHORT;
     }
-    if s.len() < layout::bodies_at(s) {
+    if view.len() < layout::bodies_at(view) {
         return refusal::SHEET_SHORT;
     }
-    counted_fault(lay, s, layout::feature_count(s), layout::profile_count(s))
+    counted_fault(
+        lay,
+        view,
+        layout::feature_count(view),
+        layout::profile_count(view),
+    )
 }
 
 // ---- the search for an entry

@@ -1,5 +1,7 @@
 // Reads a capture from standard input and writes its bytes, so that what is shown beside a reading are the bytes that were read. Arguments: whether hexadecimal text is
 // read, which may be bytes all the same, and whether padding is trimmed.
+use program_io::dumps;
+use program_io::streams;
 use text::Header;
 
 // One byte more than a response may have: who takes these bytes refuses an input that fills it.

@@ -258,17 +258,18 @@ impl Sweep {
     pub fn take(self, response: &[u8], out: &mut [u8]) -> Step
         ensures { λ r. ⌜ turn r (now (out .exit)) ≡ stepped self (now (response .entry)) (now (out .entry)) ⌝ }
     {
+        let view = &response[..];
         let fault = self.closed_rule();
         if fault.number != 0 {
             return self.refused(fault);
         }
-        let scan = reading::scan(text::most(self.allocation), self.rt, self.next, response);
-        let fault = self.scan_rule(scan, response.len(), out.len());
+        let scan = reading::scan(text::most(self.allocation), self.rt, self.next, view);
+        let fault = self.scan_rule(scan, view.len(), out.len());
         if fault.number != 0 {
             return self.refused(fault);
         }
         let reading = scan.reading;
-        let whole = fields::part(response, Header::LENGTH, behind_header(reading.end));
+        let whole = fields::part(view, Header::LENGTH, behind_header(reading.end));
         let collected = lent::copy(out, self.collected, whole);
         Step {
             refusal: fault,

@@ -3,8 +3,15 @@
 use command::Command;
 use layout::Layout;
 use libc::STDERR_FILENO;
-use streams::say;
-use streams::say_decimal;
+use program_io::asked;
+use program_io::dumps;
+use program_io::packets;
+use program_io::streams;
+use program_io::streams::say;
+use program_io::streams::say_decimal;
+use program_words::grounds;
+use program_words::sheets;
+use program_words::told;
 use sweep::Sweep;
 use text::Feature;
 use text::Header;

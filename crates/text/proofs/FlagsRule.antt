@@ -6,7 +6,8 @@ use Prim.Native.Nat.{ℕ}
 use Rattle.refusal.specs.declared.Refusal.{Refusal}
 use Rattle.refusal.specs.First.{accept, _if_else_}
 use Rattle.refusal.proofs.First.{orElse-none, orElse-zero}
-use Rattle.text.specs.Flags.{reserved, persistent, current, flagsGiving}
+use Rattle.text.specs.Flags.{reserved, persistent, current, odd, flagsGiving}
+use Rattle.base.proofs.Bools.{or-false}
 
 -- reserved bits 0, Persistent only with Current
 pub record Flagged (f : ℕ) : Type 0 where
@@ -50,6 +51,13 @@ module _ (a b : Refusal) (f : ℕ) where
   flags-accept g =
       orElse-none _ _ (none a _ (ap not (eq-eqb (reserved f) 0 (g .reserved-zero))))
       ∙ if-accept b _ (not-alone _ _ (λ p. eq-eqb (current f) 1 (g .current-too (eqb-true (persistent f) 1 p))))
+
+  -- flags that are not odd
+  pub flags-even : odd f ≡ false → flagsGiving a b f ≡ accept
+  unfolding flagsGiving
+  flags-even e =
+      let x = or-false _ _ e in
+      orElse-none _ _ (none a _ (x .0)) ∙ if-accept b _ (x .1)
 
   -- only the reserved bits, Persistent and Current count: the Version does not
   pub version-free : (g : ℕ) → reserved f ≡ reserved g → persistent f ≡ persistent g → current f ≡ current g → flagsGiving a b f ≡ flagsGiving a b g

@@ -1,5 +1,5 @@
 -- The flags byte of a descriptor: bits 7-6 reserved, 5-2 Version, 1 Persistent, 0 Current. Assumes nothing: these are definitions.
-use mathlib.Core.Bool.{Bool, not, _&&_}
+use mathlib.Core.Bool.{Bool, not, _&&_, _||_}
 use Prim.Native.Nat.{ℕ, _/_, _%_}
 use lib.Dec.{eqb}
 use Rattle.refusal.specs.declared.Refusal.{Refusal}
@@ -24,6 +24,10 @@ newer f = not (eqb (version f) 0)
 -- Persistent without Current
 abbrev pub alone : ℕ → Bool
 alone f = eqb (persistent f) 1 && not (eqb (current f) 1)
+
+-- reserved bits not 0, or Persistent without Current
+abbrev pub odd : ℕ → Bool
+odd f = not (eqb (reserved f) 0) || alone f
 
 -- the first refusal of a flags byte, where whoever asks gives a refusal for each rule: reserved bits not 0; Persistent without Current. The Version
 -- may be any

@@ -3,7 +3,7 @@ ghost use mathlib.Core.Path.{_≡_};
 ghost use mathlib.Core.Bool.{not};
 ghost use lib.Dec.{eqb};
 ghost use Rattle.refusal.specs.First.{accept, _if_else_};
-ghost use Rattle.text.specs.Flags.{reserved, version, persistent, current, alone, flagsGiving};
+ghost use Rattle.text.specs.Flags.{reserved, version, persistent, current, alone, odd, flagsGiving};
 ghost use Rattle.text.specs.Response.{headerOf, most};
 use refusal::Refusal;
 
@@ -53,6 +53,16 @@ impl Flags {
             return false;
         }
         !self.current()
+    }
+
+    // Reserved bits that are not 0, or Persistent without Current: flags that a rule refuses.
+    pub fn odd(self) -> bool
+        ensures { λ r. ⌜ r ≡ odd (self .0) ⌝ }
+    {
+        if self.reserved() != 0 {
+            return true;
+        }
+        self.alone()
     }
 
     fn reserved_fault(self, given: Refusal) -> Refusal

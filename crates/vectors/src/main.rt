@@ -4,6 +4,7 @@ ghost use mathlib.Core.Path.{_≡_};
 ghost use Rattle.sweep.specs.Sweep.{turn, stepped};
 use libc::STDIN_FILENO;
 use libc::STDOUT_FILENO;
+use program_words::tables;
 use sweep::Step;
 use sweep::Sweep;
 use text::Feature;

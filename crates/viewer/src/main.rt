@@ -3,11 +3,17 @@
 // length (`asked`), whether JSON is wanted, whether hexadecimal text is read, and whether padding is trimmed. Of its input only numbers and plain characters get into JSON, so that it is valid
 // whatever comes.
 use libc::STDOUT_FILENO;
-use names::bodies;
-use names::forms;
+use program_io::asked;
+use program_io::dumps;
+use program_io::streams;
+use program_io::streams::say;
+use program_words::bodies;
+use program_words::forms;
+use program_words::grounds;
+use program_words::strays;
+use program_words::words;
 use reading::Stop;
 use refusal::Refusal;
-use streams::say;
 use text::Flags;
 use text::Header;
 

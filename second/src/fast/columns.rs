@@ -15,8 +15,8 @@ pub(super) struct Columns<'a> {
     pub parts: Parts<'a>,
     pub numbers: &'a [u8],
     pub flags: &'a [u8],
-    lengths: &'a [u8],
-    offsets: &'a [u8],
+    pub lengths: &'a [u8],
+    pub offsets: &'a [u8],
 }
 
 impl<'a> Columns<'a> {

@@ -82,15 +82,22 @@ pub(super) fn accept(bytes: &[u8]) -> Result<Parts<'_>, Refusal> {
 
 /// Checks that each of at most 63 profiles has a new number that isn't 0, a current byte of 0 or 1, and a zero byte.
 pub(super) fn check_profiles(profiles: &[u8]) -> Result<(), Refusal> {
-    let mut numbers = [0; PROFILES_MOST];
+    // The highest number so far: one above it is new, and is looked for nowhere.
+    let mut highest = 0;
     for (index, profile) in profiles.chunks_exact(PROFILE_BYTES).enumerate() {
         let number = first16(profile);
-        if number == 0 || profile[2] > 1 || profile[3] != 0 || numbers[..index].contains(&number) {
+        let known = number <= highest && lists(&profiles[..PROFILE_BYTES * index], number);
+        if number == 0 || profile[2] > 1 || profile[3] != 0 || known {
             return Err(Refusal::of_index(PROFILE_BAD, index));
         }
-        numbers[index] = number;
+        highest = highest.max(number);
     }
     Ok(())
+}
+
+/// Whether a profile has this number, without a branch for each.
+fn lists(profiles: &[u8], number: u16) -> bool {
+    profiles.chunks_exact(PROFILE_BYTES).fold(false, |found, profile| found | (first16(profile) == number))
 }
 
 /// Whether the reserved bits are 0, and Persistent isn't set without Current.

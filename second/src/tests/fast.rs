@@ -7,8 +7,11 @@ use super::{ask, command, response, told, Numbers, E, E_FULL, FILL};
 use crate::convert::rearranged;
 use crate::sheet::Layout::{Columns, Rows};
 use crate::sheet::{build, ListedProfile, Sheet};
+use crate::sweep::Record;
 use crate::wire::{Descriptor, Feature, Profile};
-use crate::{bench, checks, command as plain_command, fast, import, reading, rom, sheet};
+use crate::{
+    bench, checks, command as plain_command, convert, fast, find, import, lister, reading, rom, sheet,
+};
 
 /// The numbers that a function answered with; a test sees that none is left out.
 #[derive(Default)]
@@ -127,6 +130,44 @@ fn same_image(seen: &mut Seen, image: &[u8], command: &[u8], room: usize) {
     }
 }
 
+/// Both conversions, there and back.
+fn same_conversion(seen: &mut Seen, rows: &[u8], room: usize) {
+    let columns = rearranged(Columns, Rows, rows);
+    let (mut plain, mut fast) = (vec![FILL; room], vec![FILL; room]);
+    let answer = convert::convert(Columns, Rows, rows, &mut plain);
+    seen.same(told(answer).0, answer, fast::convert::to_columns(rows, &mut fast));
+    assert!(plain == fast);
+    let answer = convert::convert(Rows, Columns, &columns, &mut plain);
+    seen.same(told(answer).0, answer, fast::convert::to_rows(&columns, &mut fast));
+    assert!(plain == fast);
+}
+
+/// Both searches for a descriptor in two responses; what is noted is whether one was found.
+fn same_find(seen: &mut Seen, feature: u16, fresh: &[u8], kept: &[u8]) {
+    let found = find::find(Feature(feature), fresh, kept);
+    let other = fast::find::find(Feature(feature), fresh, kept);
+    seen.same(u8::from(!found.is_empty()), found, other);
+    assert!(found.is_empty() || found.as_ptr() == other.as_ptr());
+}
+
+/// Both listings, in a room; what is noted is whether it has room for all.
+fn same_list(seen: &mut Seen, received: &[u8], room: usize) {
+    let mut whole = lister::list(received);
+    let mut text = vec![FILL; room];
+    let count = fast::lister::list(received, &mut text);
+    whole.truncate(room);
+    seen.same(u8::from(whole.len() < room), &whole[..], &text[..count]);
+    assert!(text[count..].iter().all(|&byte| byte == FILL));
+}
+
+/// Both takings of a response.
+fn same_take(seen: &mut Seen, record: Record, received: &[u8], room: usize) {
+    let (mut plain, mut fast) = (vec![FILL; room], vec![FILL; room]);
+    let answer = record.take(received, &mut plain);
+    seen.same(answer.0, answer, fast::sweep::take(record, received, &mut fast));
+    assert!(plain == fast);
+}
+
 /// Changes up to three bytes, and sometimes the length.
 fn damage(numbers: &mut Numbers, bytes: &mut Vec<u8>) {
     for _ in 0..numbers.below(4) {
@@ -237,7 +278,7 @@ fn pad(numbers: &mut Numbers, command: &mut Vec<u8>) {
 #[test]
 fn sheets_and_commands() {
     let mut numbers = Numbers(0x5EED_0000_0000_0001);
-    let (mut checked, mut answered) = (Seen::default(), Seen::default());
+    let (mut checked, mut answered, mut converted) = (Seen::default(), Seen::default(), Seen::default());
     for _ in 0..8_000 {
         let most = [4, 24][numbers.below(2) as usize];
         let mut bytes = make_sheet(&mut numbers, most);
@@ -245,6 +286,8 @@ fn sheets_and_commands() {
             damage(&mut numbers, &mut bytes);
         }
         same_check(&mut checked, &bytes);
+        let room = (bytes.len() + numbers.below(9) as usize).saturating_sub(numbers.below(3) as usize);
+        same_conversion(&mut converted, &bytes, room);
         for _ in 0..4 {
             let (rt, sfn) = (numbers.below(3) as u8, numbers.below(70) as u16);
             let allocation = [numbers.below(300) as u16, 65_535][numbers.below(2) as usize];
@@ -262,12 +305,23 @@ fn sheets_and_commands() {
         bytes[bit / 8] ^= 1 << (bit % 8);
         same_check(&mut checked, &bytes);
     }
+    // Profiles in no order, and with one number twice.
+    for (first, twice) in [(1, false), (5, false), (17, false), (40, true), (62, true)] {
+        let number = |index: u16| Profile(1 + (index * first) % 61 + 61 * (index / 61));
+        let mut listed: Vec<_> =
+            (0..63).map(|index| ListedProfile { number: number(index), current: false }).collect();
+        if twice {
+            listed[first as usize].number = number(first / 2);
+        }
+        same_check(&mut checked, &build(&listed, &[]).unwrap());
+    }
     // One profile too many, with all else as it should be.
     let listed = |number| ListedProfile { number: Profile(number), current: number == 64 };
     for most in [63, 64] {
         same_check(&mut checked, &build(&(1..=most).map(listed).collect::<Vec<_>>(), &[]).unwrap());
     }
     checked.are((0..=8).chain([44]));
+    converted.are((0..=1).chain(3..=8).chain([42, 44]));
     answered.are((0..=1).chain(3..=12).chain([44]));
 }
 
@@ -357,6 +411,44 @@ fn readings_checks_and_imports() {
     found.are((14..=18).chain([0, 20]).chain(29..=37).chain([39]));
     conforming.are((14..=18).chain([0, 20, 29, 40]));
     imported.are((14..=18).chain([0, 3, 5, 20, 29, 41, 42, 44]));
+}
+
+#[test]
+fn searches_listings_and_takings() {
+    let mut numbers = Numbers(0x5EED_0000_0000_0005);
+    let (mut found, mut listed, mut taken) = (Seen::default(), Seen::default(), Seen::default());
+    for _ in 0..12_000 {
+        let (rt, sfn) = (numbers.below(2) as u8, [0, 0, 1, 9][numbers.below(4) as usize]);
+        let allocation = [numbers.below(200) as u16, 4_000][numbers.below(2) as usize];
+        let sheet = make_sheet(&mut numbers, 8);
+        let (mut received, kept) = (ask(&sheet, rt, sfn, allocation).1, ask(&sheet, 0, 0, 4_000).1);
+        if numbers.below(3) == 0 {
+            damage(&mut numbers, &mut received);
+        }
+        same_find(&mut found, numbers.below(70) as u16, &received, &kept);
+        let room = [numbers.below(200) as usize, 4_000][numbers.below(2) as usize];
+        same_list(&mut listed, &received, room);
+        let commands = [0, 1, 65_535, 65_536][numbers.below(4) as usize];
+        let profile = Profile(crate::wire::be16(&received, 6) ^ u16::from(numbers.below(4) == 0));
+        let rt = [rt, rt, rt, 2][numbers.below(4) as usize];
+        let (collected, ended) = (numbers.below(30) as usize, numbers.below(9) == 0);
+        let record = Record { rt, allocation, next: Feature(sfn), commands, collected, ended, profile };
+        same_take(&mut taken, record, &received, room);
+    }
+    // The last feature there is, and something cut behind it.
+    let last = Record {
+        rt: 0,
+        allocation: 12,
+        next: Feature(0),
+        commands: 0,
+        collected: 0,
+        ended: false,
+        profile: Profile(0),
+    };
+    same_take(&mut taken, last, &[0, 0, 0, 12, 0, 0, 0, 0, 0xFF, 0xFF, 1, 0], 4);
+    found.are([0, 1]);
+    listed.are([0, 1]);
+    taken.are((14..=24).chain([0, 26, 27, 28, 45]));
 }
 
 #[test]

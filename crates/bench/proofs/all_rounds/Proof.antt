@@ -34,7 +34,8 @@ loop-holds c =
 
 one-round-requires : tie.Need-one-round-requires Inv-loop μ-loop
 one-round-requires c κs =
-    let o = c .before .before .before .before .before .before .before .before .before .before .before .before .before .before in
+    let early = c .before .before .before .before .before .before .before .before .before in
+    let o = early .before .before .before .before .before in
     let inv = c .before .before .before .before .before .loop .inv in
     let goes = not-true _ (c .before .before .before .if1 .taken) in
     (o .pre .0, standing-room (inv .0) (o .pre .1), inv .1 .size goes, inv .1 .clean, inv .2 goes)
@@ -53,29 +54,37 @@ returns c = let k = c .before .before .before .before .before .before .before .b
 
 sub-left : tie.Need-sub-left Inv-loop μ-loop
 sub-left c =
-    let k = c .before .before .before .before .before .before .before .before .before .before .before .before in
-    let o = c .before .before .before .before .before .before .before .before .before .before .before .before .before .before .before .before .before .before .before .before .before .before .before .before .before .before .before in
-    let bytes : Bytes (o .args .s .now) = (λ i. omega (arith, c .before .before .before .before .before .before .before .before .before .before .before .before .before .before .before .before .before .before .before .before .before .before .before .before .before .before .shared-slice-known .given i)) in
+    let early = c .before .before .before .before .before .before .before .before .before in
+    let origin = early .before .before .before .before .before .before .before .before .before in
+    let k = early .before .before .before in
+    let o = origin .before .before .before .before .before .before .before .before .before in
+    let bytes : Bytes (o .args .s .now) = (λ i. omega (arith, origin .before .before .before .before .before .before .before .before .shared-slice-known .given i)) in
     along-gains (k .before .before .before .before .before .before .loop .inv .0) (k .before .before .before .before .if1 .taken) (k .one-round .ensures) (c .before .before .before .if2 .left) (meaning-fine (stored (o .args .lay) (o .args .s .now)) bytes (o .pre .0) .sound) (o .pre .1) (k .before .before .before .before .before .before .loop .inv .1)
 
 sub-left-2 : tie.Need-sub-left-2 Inv-loop μ-loop
 sub-left-2 c =
-    let k = c .before .before .before .before .before .before .before .before .before .before .before .before in
-    let o = c .before .before .before .before .before .before .before .before .before .before .before .before .before .before .before .before .before .before .before .before .before .before .before .before .before .before .before in
-    let bytes : Bytes (o .args .s .now) = (λ i. omega (arith, c .before .before .before .before .before .before .before .before .before .before .before .before .before .before .before .before .before .before .before .before .before .before .before .before .before .before .shared-slice-known .given i)) in
+    let early = c .before .before .before .before .before .before .before .before .before in
+    let origin = early .before .before .before .before .before .before .before .before .before in
+    let k = early .before .before .before in
+    let o = origin .before .before .before .before .before .before .before .before .before in
+    let bytes : Bytes (o .args .s .now) = (λ i. omega (arith, origin .before .before .before .before .before .before .before .before .shared-slice-known .given i)) in
     along-within (k .before .before .before .before .before .before .loop .inv .0) (k .before .before .before .before .if1 .taken) (k .one-round .ensures) (c .before .before .before .if2 .left) (meaning-fine (stored (o .args .lay) (o .args .s .now)) bytes (o .pre .0) .sound) (o .pre .1) (k .before .before .before .before .before .before .loop .inv .1)
 
 loop-less : tie.Need-loop-less Inv-loop μ-loop
-loop-less c = let k = c .before .before .before .before .before .before .before .before .before .before .before .before .before in standing-less (k .before .before .before .before .before .before .loop .inv .0) (k .before .before .before .before .if1 .taken) (k .one-round .ensures) (c .before .before .before .before .if2 .left)
+loop-less c =
+    let early = c .before .before .before .before .before .before .before .before .before in
+    let k = early .before .before .before .before in standing-less (k .before .before .before .before .before .before .loop .inv .0) (k .before .before .before .before .if1 .taken) (k .one-round .ensures) (c .before .before .before .before .if2 .left)
 
 loop-again : tie.Need-loop-again Inv-loop μ-loop
 loop-again c =
-    let k = c .before .before .before .before .before .before .before .before .before .before .before .before .before in
-    let o = c .before .before .before .before .before .before .before .before .before .before .before .before .before .before .before .before .before .before .before .before .before .before .before .before .before .before .before .before in
-    let bytes : Bytes (o .args .s .now) = (λ i. omega (arith, c .before .before .before .before .before .before .before .before .before .before .before .before .before .before .before .before .before .before .before .before .before .before .before .before .before .before .before .shared-slice-known .given i)) in
+    let early = c .before .before .before .before .before .before .before .before .before .before in
+    let origin = early .before .before .before .before .before .before .before .before .before .before in
+    let k = early .before .before .before in
+    let o = origin .before .before .before .before .before .before .before .before in
+    let bytes : Bytes (o .args .s .now) = (λ i. omega (arith, origin .before .before .before .before .before .before .before .shared-slice-known .given i)) in
     let forward = along-forward (k .before .before .before .before .before .before .loop .inv .0) (k .before .before .before .before .if1 .taken) (k .one-round .ensures) (c .before .before .before .before .if2 .left) (meaning-fine (stored (o .args .lay) (o .args .s .now)) bytes (o .pre .0) .sound) in
     let was = k .before .before .before .before .before .before .loop .inv .2 (not-true _ (k .before .before .before .before .if1 .taken)) in
-    (standing-again (k .before .before .before .before .before .before .loop .inv .0) (k .before .before .before .before .if1 .taken) (k .one-round .ensures) (c .before .before .before .before .if2 .left), along-again (k .before .before .before .before .before .before .loop .inv .0) (k .before .before .before .before .if1 .taken) (k .one-round .ensures) (c .before .before .before .before .if2 .left) (meaning-fine (stored (o .args .lay) (o .args .s .now)) bytes (o .pre .0) .sound) (o .pre .1) (k .before .before .before .before .before .before .loop .inv .1) (c .before .before .before .before .before .before .before .before .before .before .before .before .before .before .before .before .before .before .before .before .before .before .before .most .ensures), λ e. first-left (stored (o .args .lay) (o .args .s .now)) bytes (o .pre .0) (c .before .before .before .before .before .before .before .before .before .before .before .before .before .before .before .before .before .before .before .before .before .before .feature-count .ensures) was (forward e) (c .next-from .ensures))
+    (standing-again (k .before .before .before .before .before .before .loop .inv .0) (k .before .before .before .before .if1 .taken) (k .one-round .ensures) (c .before .before .before .before .if2 .left), along-again (k .before .before .before .before .before .before .loop .inv .0) (k .before .before .before .before .if1 .taken) (k .one-round .ensures) (c .before .before .before .before .if2 .left) (meaning-fine (stored (o .args .lay) (o .args .s .now)) bytes (o .pre .0) .sound) (o .pre .1) (k .before .before .before .before .before .before .loop .inv .1) (origin .before .before .before .most .ensures), λ e. first-left (stored (o .args .lay) (o .args .s .now)) bytes (o .pre .0) (origin .before .before .feature-count .ensures) was (forward e) (c .next-from .ensures))
 
 same-length-4 : tie.Need-same-length-4 Inv-loop μ-loop
 same-length-4 c = c .before .before .loop .inv .0 .kept .response
@@ -90,6 +99,4 @@ returns-2 : tie.Need-returns-2 Inv-loop μ-loop
 returns-2 c = standing-ended (c .before .before .loop .inv .0) (c .if1 .left)
 
 pub all-rounds-spec : {M : Type 1} → statement M
-all-rounds-spec =
-    tie.close
-    (tie.spec Inv-loop μ-loop (λ c κs. search needs) (λ c κs. search needs) (λ c κs. search needs) (λ c κs. search needs) loop-holds one-round-requires same-length same-length-2 same-length-3 returns sub-left sub-left-2 (λ c κs. search needs) loop-less loop-again same-length-4 same-length-5 same-length-6 returns-2)
+all-rounds-spec = tie.close (tie.spec Inv-loop μ-loop (λ c κs. search needs) (λ c κs. search needs) (λ c κs. search needs) (λ c κs. search needs) loop-holds one-round-requires same-length same-length-2 same-length-3 returns sub-left sub-left-2 (λ c κs. search needs) loop-less loop-again same-length-4 same-length-5 same-length-6 returns-2)

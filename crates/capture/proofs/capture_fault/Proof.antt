@@ -4,18 +4,18 @@ use borrow.Author.Needs.{needs}
 use Rattle.capture.proofs.capture_fault.Statement.{statement}
 use Rattle.capture.proofs.capture_fault.Tie as tie
 
-returns : tie.Need-returns
-returns c = search capture-refused
-
-returns-2 : tie.Need-returns-2
-returns-2 c = search capture-own
-
 sheet-fault-requires : tie.Need-sheet-fault-requires
 sheet-fault-requires c κs = (
   own-there (c .before .before .before .before .before .before .before .args .s .now) (c .before .before .before .before .before .before .before .args .read) (c .before .before .before .before .before .before .before .pre .0) (c .before .before .before .if1 .left) _ (c .before .before .own-fault .ensures) (c .if2 .left),
   own-most (c .before .before .before .before .before .before .before .args .s .now) (c .before .before .before .before .before .before .before .args .read) (c .before .before .before .before .before .before .before .pre .0) (c .before .before .before .if1 .left) _ (c .before .before .own-fault .ensures),
   own-odd (c .before .before .before .before .before .before .before .args .s .now) (c .before .before .before .before .before .before .before .args .read) (c .before .before .before .before .before .before .before .pre .0) (c .before .before .before .if1 .left) _ (c .before .before .own-fault .ensures) _ (c .before .before .before .before .before .before .before .pre .1),
 )
+
+returns : tie.Need-returns
+returns c = search capture-refused
+
+returns-2 : tie.Need-returns-2
+returns-2 c = search capture-own
 
 returns-3 : tie.Need-returns-3
 returns-3 c = search capture-sheet

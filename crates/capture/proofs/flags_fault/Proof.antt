@@ -17,19 +17,5 @@ Inv-loop s first at₀ place₀ at place = (flagsFaults 1 (from s first) ≡ fla
 abbrev μ-loop : tie.MeasureT-loop
 μ-loop s first at₀ place₀ at place = length s - at
 
-returns : tie.Need-returns Inv-loop μ-loop
-returns c = search flags-stop
-
-loop-less : tie.Need-loop-less Inv-loop μ-loop
-loop-less c = search from-less
-
-loop-again : tie.Need-loop-again Inv-loop μ-loop
-loop-again c = (search flags-go, search place-next)
-
-returns-2 : tie.Need-returns-2 Inv-loop μ-loop
-returns-2 c = search flags-none
-
 pub flags-fault-spec : {M : Type 1} → statement M
-flags-fault-spec =
-    tie.close
-    (tie.spec Inv-loop μ-loop (λ c. (refl, omega arith)) (λ c κs. search needs) (λ c κs. search needs) (λ c κs. search needs) returns (λ c κs. search needs) (λ c. search needs) loop-less loop-again returns-2)
+flags-fault-spec = tie.close (tie.spec Inv-loop μ-loop (λ c. (refl, omega arith)) (λ c κs. search needs) (λ c κs. search needs) (λ c κs. search needs) (λ c. search flags-stop) (λ c κs. search needs) (λ c. search needs) (λ c. search from-less) (λ c. (search flags-go, search place-next)) (λ c. search flags-none))

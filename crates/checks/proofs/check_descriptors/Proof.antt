@@ -10,13 +10,9 @@ returns : tie.Need-returns
 unfolding checked
 returns c = search (next-call, complete-fault)
 
-check-all-requires : tie.Need-check-all-requires
-check-all-requires c κs = search complete-none
-
 returns-2 : tie.Need-returns-2
 unfolding checked
 returns-2 c = search (next-none, complete-none)
 
 pub check-descriptors-spec : {M : Type 1} → statement M
-check-descriptors-spec =
-    tie.close (tie.spec (λ c κs. search needs) returns check-all-requires returns-2)
+check-descriptors-spec {M} = let met = tie.spec {M = M} (λ c κs. search needs) returns (λ c κs. search complete-none) returns-2 in tie.close met

@@ -14,13 +14,14 @@ use Rattle.convert.proofs.put_laid.Tie as tie
 returns : tie.Need-returns
 unfolding laid
 returns c =
-    let a = c .before .before .before .before .before .before .before .before .before .before .before .before .before .before .before .before .before .before .args in
-    let n = c .before .before .before .before .before .before .before .before .before .before .before .before .before .before .before .feature-count in
-    let at = c .before .before .before .before .before .before .before .before .before .before .before .before .before .before .profiles-behind in
+    let early = c .before .before .before .before .before .before .before .before .before in
+    let a = early .before .before .before .before .before .before .before .before .before .args in
+    let n = early .before .before .before .before .before .before .feature-count in
+    let at = early .before .before .before .before .before .profiles-behind in
     let rest : take (length (a .s .now) - at .result) (drop (at .result) (a .s .now)) ≡ drop (profilesBehind (features (a .s .now))) (a .s .now) =
     take-all (length (a .s .now) - at .result) (drop (at .result) (a .s .now)) (omega (arith, length-drop (at .result) (a .s .now))) ∙ rw (at .ensures, n .ensures) in
-    rw (← rest, ← c .before .before .before .before .before .before .before .before .before .before .before .before .part .ensures .holds, ← n .ensures)
-    (then (then (c .before .before .before .before .before .before .before .before .before .before .before .copy .ensures) (c .before .before .before .before .before .before .before .put-contents .ensures)) (c .before .before .copy2 .ensures))
+    rw (← rest, ← early .before .before .before .part .ensures .holds, ← n .ensures)
+    (then (then (early .before .before .copy .ensures) (c .before .before .before .before .before .before .before .put-contents .ensures)) (c .before .before .copy2 .ensures))
 
 pub put-laid-spec : {M : Type 1} → statement M
 put-laid-spec =

@@ -8,11 +8,5 @@ use Rattle.fields.proofs.Laws.{shifted}
 use Rattle.fields.proofs.has2.Statement.{statement}
 use Rattle.fields.proofs.has2.Tie as tie
 
-returns : tie.Need-returns
-returns c = sym (lt-leb (c .before .args .at + 2) _ (omega arith))
-
-returns-2 : tie.Need-returns-2
-returns-2 c = shifted (c .before .args .at) 2 _ (omega arith)
-
 pub has2-spec : {M : Type 1} → statement M
-has2-spec = tie.close (tie.spec returns (λ c. search needs) returns-2)
+has2-spec = tie.close (tie.spec (λ c. sym (lt-leb (c .before .args .at + 2) _ (omega arith))) (λ c. search needs) (λ c. shifted (c .before .args .at) 2 _ (omega arith)))

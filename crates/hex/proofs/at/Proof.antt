@@ -5,13 +5,6 @@ use borrow.Author.Needs.{needs}
 use Rattle.hex.proofs.at.Statement.{statement}
 use Rattle.hex.proofs.at.Tie as tie
 
-returns : tie.Need-returns
-unfolding at
-returns c = search tests
-
-returns-2 : tie.Need-returns-2
-unfolding at
-returns-2 c = search tests
-
 pub at-spec : {M : Type 1} → statement M
-at-spec = tie.close (tie.spec (λ c. search needs) returns returns-2)
+unfolding at
+at-spec = tie.close (tie.spec (λ c. search needs) (λ c. search tests) (λ c. search tests))

@@ -5,13 +5,6 @@ use borrow.Author.Needs.{needs}
 use Rattle.hex.proofs.digit.Statement.{statement}
 use Rattle.hex.proofs.digit.Tie as tie
 
-returns : tie.Need-returns
-unfolding digit
-returns c = search tests
-
-returns-2 : tie.Need-returns-2
-unfolding digit
-returns-2 c = search tests
-
 pub digit-spec : {M : Type 1} → statement M
-digit-spec = tie.close (tie.spec (λ c. search needs) (λ c. search needs) returns (λ c κs. search needs) returns-2)
+unfolding digit
+digit-spec = tie.close (tie.spec (λ c. search needs) (λ c. search needs) (λ c. search tests) (λ c κs. search needs) (λ c. search tests))

@@ -18,11 +18,5 @@ apart n m k h = go (eqb n (m + k)) refl
 below : (n m k : ℕ) → n < m → false ≡ eqb n (m + k)
 below n m k h = sym (ne-eqb n (m + k) (λ z. omega arith))
 
-returns : tie.Need-returns
-returns c = below _ _ _ (c .if1 .taken)
-
-returns-2 : tie.Need-returns-2
-returns-2 c = apart _ _ _ (c .if1 .left)
-
 pub is-sum-spec : {M : Type 1} → statement M
-is-sum-spec = tie.close (tie.spec returns returns-2)
+is-sum-spec = tie.close (tie.spec (λ c. below _ _ _ (c .if1 .taken)) (λ c. apart _ _ _ (c .if1 .left)))

@@ -13,16 +13,5 @@ Inv-loop s i line₀ k₀ line k = (line ≡ lineAt s k) × ((line ≤ k + 1) ×
 abbrev μ-loop : tie.MeasureT-loop
 μ-loop s i line₀ k₀ line k = i - k
 
-loop-holds : tie.Need-loop-holds Inv-loop μ-loop
-loop-holds c = (sym (line-first _), (search needs, search needs))
-
-loop-again : tie.Need-loop-again Inv-loop μ-loop
-loop-again c = (search line-more, (search needs, search needs))
-
-returns : tie.Need-returns Inv-loop μ-loop
-returns c = search line-at-end
-
 pub line-at-spec : {M : Type 1} → statement M
-line-at-spec =
-    tie.close
-    (tie.spec Inv-loop μ-loop loop-holds (λ c κs. search needs) (λ c κs. search needs) (λ c. search needs) (λ c. search needs) (λ c. search needs) loop-again returns)
+line-at-spec = tie.close (tie.spec Inv-loop μ-loop (λ c. (sym (line-first _), (search needs, search needs))) (λ c κs. search needs) (λ c κs. search needs) (λ c. search needs) (λ c. search needs) (λ c. search needs) (λ c. (search line-more, (search needs, search needs))) (λ c. search line-at-end))

@@ -4,10 +4,6 @@ use borrow.Author.Needs.{needs}
 use Rattle.hex.proofs.opened.Statement.{statement}
 use Rattle.hex.proofs.opened.Tie as tie
 
-returns : tie.Need-returns
-unfolding opened
-returns c = cc
-
 pub opened-spec : {M : Type 1} → statement M
-opened-spec =
-    tie.close (tie.spec (λ c κs. search needs) (λ c κs. search needs) (λ c κs. search needs) (λ c κs. search needs) returns)
+unfolding opened
+opened-spec = tie.close (tie.spec (λ c κs. search needs) (λ c κs. search needs) (λ c κs. search needs) (λ c κs. search needs) (λ c. cc))

@@ -6,13 +6,6 @@ use borrow.Author.Needs.{needs}
 use Rattle.hex.proofs.other.Statement.{statement}
 use Rattle.hex.proofs.other.Tie as tie
 
-returns : tie.Need-returns
-unfolding other
-returns c = Y _ _ _ (lt-ltb _ _ (c .before .if1 .taken)) (c .prefix .ensures)
-
-returns-2 : tie.Need-returns-2
-unfolding other
-returns-2 c = N _ _ _ (le-ltb _ _ (c .before .if1 .left)) (c .between .ensures)
-
 pub other-spec : {M : Type 1} → statement M
-other-spec = tie.close (tie.spec (λ c κs. search needs) returns (λ c κs. search needs) returns-2)
+unfolding other
+other-spec = tie.close (tie.spec (λ c κs. search needs) (λ c. Y _ _ _ (lt-ltb _ _ (c .before .if1 .taken)) (c .prefix .ensures)) (λ c κs. search needs) (λ c. N _ _ _ (le-ltb _ _ (c .before .if1 .left)) (c .between .ensures)))

@@ -7,8 +7,5 @@ use Rattle.hex.proofs.put_some.Tie as tie
 returns : tie.Need-returns
 returns c = some-put _ _ _ _ _ _ (c .before .before .before .before .if1 .taken) (c .before .before .put .ensures)
 
-returns-2 : tie.Need-returns-2
-returns-2 c = some-none _ _ _ _ (c .if1 .left)
-
 pub put-some-spec : {M : Type 1} → statement M
-put-some-spec = tie.close (tie.spec (λ c κs. search needs) (λ c. search needs) returns returns-2)
+put-some-spec = tie.close (tie.spec (λ c κs. search needs) (λ c. search needs) returns (λ c. some-none _ _ _ _ (c .if1 .left)))

@@ -19,6 +19,4 @@ unfolding space
 returns-3 c = N _ _ _ (ne-eqb _ _ (c .before .before .if1 .left)) (N _ _ _ (ne-eqb _ _ (c .before .if2 .left)) (c .on2 .ensures))
 
 pub space-spec : {M : Type 1} → statement M
-space-spec =
-    tie.close
-    (tie.spec (λ c κs. search needs) returns (λ c κs. search needs) returns-2 (λ c. search needs) (λ c κs. search needs) returns-3)
+space-spec = tie.close (tie.spec (λ c κs. search needs) returns (λ c κs. search needs) returns-2 (λ c. search needs) (λ c κs. search needs) returns-3)

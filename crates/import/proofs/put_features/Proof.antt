@@ -24,7 +24,7 @@ loop-holds : tie.Need-loop-holds Inv-loop μ-loop
 loop-holds c = (passed-start (c .before .before .pre), refl)
 
 length-in-requires : tie.Need-length-in-requires Inv-loop μ-loop
-length-in-requires c κs = here-whole (c .before .loop .inv .0) (c .loop-test .taken)
+length-in-requires c κs = omega (arith, here-whole (c .before .loop .inv .0) (c .loop-test .taken))
 
 cast-put-entry : tie.Need-cast-put-entry Inv-loop μ-loop
 cast-put-entry c = omega (arith, c .before .before .before .loop .inv .0 .fits .low)
@@ -63,4 +63,4 @@ returns c =
 pub put-features-spec : {M : Type 1} → statement M
 put-features-spec =
     tie.close
-    (tie.spec Inv-loop μ-loop loop-holds length-in-requires cast-put-entry put-entry-requires put-body-requires add-place add-place-2 (λ c. search needs) loop-again same-length returns)
+    (tie.spec Inv-loop μ-loop loop-holds length-in-requires (λ c. search needs) cast-put-entry put-entry-requires put-body-requires add-place add-place-2 (λ c. search needs) loop-again same-length returns)

@@ -11,13 +11,13 @@ cast-put-counts c = omega (arith, body-short _ _ _ (c .before .body-at .ensures 
 
 put-features-requires : tie.Need-put-features-requires
 put-features-requires c κs =
-    whole-fits (c .before .before .before .before .before .before .before .before .before .before .before .before .before .before .pre) (c .before .before .before .before .before .before .before .before .before .before .before .body-at .ensures .holds) (c .before .before .before .before .before .before .before .before .before .put-counts .ensures) (c .before .before .before .before .before .profiles-behind .ensures) (c .before .before .before .before .copy .ensures) (c .next-at .ensures)
+    let k = c .before .before .before .before .before .before .before .before .before in
+    whole-fits (k .before .before .before .before .before .pre) (k .before .before .body-at .ensures .holds) (k .put-counts .ensures) (c .before .before .before .before .before .profiles-behind .ensures) (c .before .before .before .before .copy .ensures) (c .next-at .ensures)
 
 returns : tie.Need-returns
 returns c =
-    whole-written (c .before .before .before .before .before .before .before .before .before .before .before .before .before .before .before .before .before .pre) (c .before .before .before .before .before .before .before .before .before .before .before .before .before .before .body-at .ensures .holds) (c .before .before .before .before .before .before .before .before .before .before .before .before .put-counts .ensures) (c .before .before .before .before .before .before .before .before .profiles-behind .ensures) (c .before .before .before .before .before .before .before .copy .ensures) (c .before .before .before .next-at .ensures) (c .before .before .put-features .ensures)
+    let k = c .before .before .before .before .before .before .before .before .before .before .before .before in
+    whole-written (k .before .before .before .before .before .pre) (k .before .before .body-at .ensures .holds) (k .put-counts .ensures) (c .before .before .before .before .before .before .before .before .profiles-behind .ensures) (c .before .before .before .before .before .before .before .copy .ensures) (c .before .before .before .next-at .ensures) (c .before .before .put-features .ensures)
 
 pub put-sheet-spec : {M : Type 1} → statement M
-put-sheet-spec =
-    tie.close
-    (tie.spec (λ c κs. search needs) cast-put-counts (λ c κs. search needs) (λ c κs. search needs) (λ c κs. search needs) (λ c κs. search needs) put-features-requires (λ c. search needs) returns)
+put-sheet-spec = tie.close (tie.spec (λ c κs. search needs) cast-put-counts (λ c κs. search needs) (λ c κs. search needs) (λ c κs. search needs) (λ c κs. search needs) put-features-requires (λ c. search needs) returns)

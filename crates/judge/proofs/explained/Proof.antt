@@ -25,15 +25,8 @@ loop-holds c =
     let a = c .before .before .before .args in
     (omega arith, refl, explained-start (a .c .rt) (a .c .sfn .0) (a .c .allocation) (meaning (stored (a .lay) (a .s .now))) (a .response .now))
 
-mistake-at-requires : tie.Need-mistake-at-requires Inv-loop μ-loop
-unfolding mistakes
-mistake-at-requires c κs = search needs
-
 is-box-requires : tie.Need-is-box-requires Inv-loop μ-loop
 is-box-requires c κs = (c .before .before .before .before .before .before .before .pre .0, omega (arith, c .before .before .before .before .before .before .before .pre .1, c .before .before .before .loop .inv .1))
-
-same-length : tie.Need-same-length Inv-loop μ-loop
-same-length c = c .before .before .before .is-box .ensures .0 ∙ c .before .before .before .before .before .before .before .loop .inv .1
 
 returns : tie.Need-returns Inv-loop μ-loop
 returns c =
@@ -52,9 +45,6 @@ loop-again c =
       explained-next (a .c .rt) (a .c .sfn .0) (a .c .allocation) (meaning (stored (a .lay) (a .s .now))) (a .response .now) _ (c .before .before .before .before .before .before .before .loop .inv .2) _ _ h (c .before .before .before .before .before .mistake-at .ensures) (c .before .before .before .is-box .ensures .1) (c .if1 .left),
     )
 
-same-length-2 : tie.Need-same-length-2 Inv-loop μ-loop
-same-length-2 c = c .before .loop .inv .1
-
 returns-2 : tie.Need-returns-2 Inv-loop μ-loop
 returns-2 c =
     let a = c .before .before .before .before .before .args in
@@ -62,6 +52,5 @@ returns-2 c =
     (c .before .loop .inv .1, explained-none (a .c .rt) (a .c .sfn .0) (a .c .allocation) (meaning (stored (a .lay) (a .s .now))) (a .response .now) _ (c .before .loop .inv .2) h)
 
 pub explained-spec : {M : Type 1} → statement M
-explained-spec =
-    tie.close
-    (tie.spec Inv-loop μ-loop loop-holds mistake-at-requires is-box-requires same-length returns (λ c. search needs) (λ c. search needs) loop-again same-length-2 returns-2)
+unfolding mistakes
+explained-spec = tie.close (tie.spec Inv-loop μ-loop loop-holds (λ c κs. search needs) is-box-requires (λ c. c .before .before .before .is-box .ensures .0 ∙ c .before .before .before .before .before .before .before .loop .inv .1) returns (λ c. search needs) (λ c. search needs) loop-again (λ c. c .before .loop .inv .1) returns-2)

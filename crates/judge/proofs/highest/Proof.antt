@@ -20,13 +20,5 @@ loop-holds : tie.Need-loop-holds Inv-loop μ-loop
 unfolding profilesOf
 loop-holds c = (omega arith, ap (λ (k : ℕ). highest (c .before .args .every) (each (listed (c .before .args .b .now)) 0 k) 0) (omega arith))
 
-loop-again : tie.Need-loop-again Inv-loop μ-loop
-loop-again c = (omega arith, search highest-go)
-
-returns : tie.Need-returns Inv-loop μ-loop
-returns c = search highest-end
-
 pub highest-spec : {M : Type 1} → statement M
-highest-spec =
-    tie.close
-    (tie.spec Inv-loop μ-loop loop-holds (λ c. search needs) (λ c. search needs) (λ c κs. search needs) (λ c. search needs) (λ c κs. search needs) (λ c κs. search needs) (λ c. search needs) (λ c. search needs) loop-again returns)
+highest-spec = tie.close (tie.spec Inv-loop μ-loop loop-holds (λ c. search needs) (λ c. search needs) (λ c κs. search needs) (λ c. search needs) (λ c κs. search needs) (λ c κs. search needs) (λ c. search needs) (λ c. search needs) (λ c. (omega arith, search highest-go)) (λ c. search highest-end))

@@ -12,9 +12,6 @@ use borrow.Author.Needs.{needs}
 use Rattle.judge.proofs.is_box.Statement.{statement}
 use Rattle.judge.proofs.is_box.Tie as tie
 
-slice-aggregate-compared : tie.Need-slice-aggregate-compared
-slice-aggregate-compared c = sym (length-take-le _ _ (c .before .before .before .put-box .ensures .0))
-
 returns : tie.Need-returns
 returns c =
     let a = c .before .before .before .before .before .before .before .before .before .before .before .args in
@@ -25,6 +22,4 @@ returns c =
     )
 
 pub is-box-spec : {M : Type 1} → statement M
-is-box-spec =
-    tie.close
-    (tie.spec (λ c κs. search needs) (λ c κs. search needs) (λ c. search needs) slice-aggregate-compared (λ c κs. search needs) (λ c κs. search needs) (λ c. search needs) returns)
+is-box-spec = tie.close (tie.spec (λ c κs. search needs) (λ c κs. search needs) (λ c. search needs) (λ c. sym (length-take-le _ _ (c .before .before .before .put-box .ensures .0))) (λ c κs. search needs) (λ c κs. search needs) (λ c. search needs) returns)

@@ -19,16 +19,18 @@ returns-2 c =
 
 returns-3 : tie.Need-returns-3
 returns-3 c =
-    let a = c .before .before .before .before .before .before .before .before .before .before .before .before .before .args in
-    judged-room (stored (a .lay) (a .s .now)) (a .command .now) (a .response .now) (a .scratch .now) _ (c .before .before .before .before .before .before .before .before .check .ensures) (c .before .before .before .before .before .before .if1 .left) _ (c .before .before .before .before .before .fault .ensures) (c .before .before .before .if2 .left) _ (c .before .before .read .ensures) _ (c .before .most .ensures) (c .if3 .taken)
+    let f = c .before .before .before .before .before .before in
+    let a = f .before .before .before .before .before .before .before .args in
+    judged-room (stored (a .lay) (a .s .now)) (a .command .now) (a .response .now) (a .scratch .now) _ (f .before .before .check .ensures) (f .if1 .left) _ (c .before .before .before .before .before .fault .ensures) (c .before .before .before .if2 .left) _ (c .before .before .read .ensures) _ (c .before .most .ensures) (c .if3 .taken)
 
 requested-requires : tie.Need-requested-requires
 requested-requires c κs = (sym (ap (λ r. r .number) (c .before .before .before .before .before .before .before .before .before .check .ensures)) ∙ c .before .before .before .before .before .before .before .if1 .left, omega (arith, c .before .if3 .left, c .before .before .most .ensures))
 
 returns-4 : tie.Need-returns-4
 returns-4 c =
-    let a = c .before .before .before .before .before .before .before .before .before .before .before .before .before .before .before .before .before .args in
-    judged-asked (stored (a .lay) (a .s .now)) (a .command .now) (a .response .now) (a .scratch .now) _ (c .before .before .before .before .before .before .before .before .before .before .before .before .check .ensures) (c .before .before .before .before .before .before .before .before .before .before .if1 .left) _ (c .before .before .before .before .before .before .before .before .before .fault .ensures) (c .before .before .before .before .before .before .before .if2 .left) _ (c .before .before .before .before .before .before .read .ensures) _ (c .before .before .before .before .before .most .ensures) (c .before .before .before .before .if3 .left) _
+    let f = c .before .before .before .before .before .before .before .before .before .before in
+    let a = f .before .before .before .before .before .before .before .args in
+    judged-asked (stored (a .lay) (a .s .now)) (a .command .now) (a .response .now) (a .scratch .now) _ (f .before .before .check .ensures) (f .if1 .left) _ (c .before .before .before .before .before .before .before .before .before .fault .ensures) (c .before .before .before .before .before .before .before .if2 .left) _ (c .before .before .before .before .before .before .read .ensures) _ (c .before .before .before .before .before .most .ensures) (c .before .before .before .before .if3 .left) _
     (c .before .before .requested .ensures)
 
 pub judge-spec : {M : Type 1} → statement M

@@ -4,11 +4,5 @@ use Rattle.judge.proofs.Same.{unasked-none, unasked-some}
 use Rattle.judge.proofs.unasked.Statement.{statement}
 use Rattle.judge.proofs.unasked.Tie as tie
 
-returns : tie.Need-returns
-returns c = search unasked-none
-
-returns-2 : tie.Need-returns-2
-returns-2 c = search unasked-some
-
 pub unasked-spec : {M : Type 1} → statement M
-unasked-spec = tie.close (tie.spec returns returns-2)
+unasked-spec = tie.close (tie.spec (λ c. search unasked-none) (λ c. search unasked-some))

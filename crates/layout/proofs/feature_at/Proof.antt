@@ -4,9 +4,6 @@ use borrow.Author.Needs.{needs}
 use Rattle.layout.proofs.feature_at.Statement.{statement}
 use Rattle.layout.proofs.feature_at.Tie as tie
 
-returns : tie.Need-returns
-unfolding number
-returns c = cc
-
 pub feature-at-spec : {M : Type 1} → statement M
-feature-at-spec = tie.close (tie.spec (λ c κs. search needs) (λ c κs. search needs) (λ c κs. search needs) returns)
+unfolding number
+feature-at-spec = tie.close (tie.spec (λ c κs. search needs) (λ c κs. search needs) (λ c κs. search needs) (λ c. cc))

@@ -4,9 +4,6 @@ use borrow.Author.Needs.{needs}
 use Rattle.layout.proofs.flags_at.Statement.{statement}
 use Rattle.layout.proofs.flags_at.Tie as tie
 
-returns : tie.Need-returns
-unfolding flags
-returns c = cc
-
 pub flags-at-spec : {M : Type 1} → statement M
-flags-at-spec = tie.close (tie.spec (λ c κs. search needs) (λ c κs. search needs) (λ c κs. search needs) returns)
+unfolding flags
+flags-at-spec = tie.close (tie.spec (λ c κs. search needs) (λ c κs. search needs) (λ c κs. search needs) (λ c. cc))

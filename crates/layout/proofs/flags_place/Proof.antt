@@ -5,15 +5,6 @@ use borrow.Author.Needs.{needs}
 use Rattle.layout.proofs.flags_place.Statement.{statement}
 use Rattle.layout.proofs.flags_place.Tie as tie
 
-returns : tie.Need-returns
-unfolding flagsPlace
-returns c = rw (c .enum-told .given .1, flagsPlace) (omega arith)
-
-returns-2 : tie.Need-returns-2
-unfolding flagsPlace
-returns-2 c = rw (c .enum-told2 .given .1, flagsPlace) (omega arith)
-
 pub flags-place-spec : {M : Type 1} → statement M
-flags-place-spec =
-    tie.close
-    (tie.spec (λ c. search needs) (λ c. search needs) (λ c. search needs) (λ c. search needs) (λ c. search needs) (λ c. search needs) (λ c. search needs) (λ c. search needs) returns returns-2)
+unfolding flagsPlace
+flags-place-spec = tie.close (tie.spec (λ c. search needs) (λ c. search needs) (λ c. search needs) (λ c. search needs) (λ c. search needs) (λ c. search needs) (λ c. search needs) (λ c. search needs) (λ c. rw (c .enum-told .given .1, flagsPlace) (omega arith)) (λ c. rw (c .enum-told2 .given .1, flagsPlace) (omega arith)))

@@ -4,9 +4,6 @@ use borrow.Author.Needs.{needs}
 use Rattle.layout.proofs.length_at.Statement.{statement}
 use Rattle.layout.proofs.length_at.Tie as tie
 
-returns : tie.Need-returns
-unfolding bodyLength
-returns c = cc
-
 pub length-at-spec : {M : Type 1} → statement M
-length-at-spec = tie.close (tie.spec (λ c κs. search needs) (λ c κs. search needs) (λ c κs. search needs) returns)
+unfolding bodyLength
+length-at-spec = tie.close (tie.spec (λ c κs. search needs) (λ c κs. search needs) (λ c κs. search needs) (λ c. cc))

@@ -5,15 +5,6 @@ use borrow.Author.Needs.{needs}
 use Rattle.layout.proofs.length_place.Statement.{statement}
 use Rattle.layout.proofs.length_place.Tie as tie
 
-returns : tie.Need-returns
-unfolding lengthPlace
-returns c = rw (c .enum-told .given .1, lengthPlace) (omega arith)
-
-returns-2 : tie.Need-returns-2
-unfolding lengthPlace
-returns-2 c = rw (c .enum-told2 .given .1, lengthPlace) (omega arith)
-
 pub length-place-spec : {M : Type 1} → statement M
-length-place-spec =
-    tie.close
-    (tie.spec (λ c. search needs) (λ c. search needs) (λ c. search needs) (λ c. search needs) (λ c. search needs) (λ c. search needs) (λ c. search needs) (λ c. search needs) returns returns-2)
+unfolding lengthPlace
+length-place-spec = tie.close (tie.spec (λ c. search needs) (λ c. search needs) (λ c. search needs) (λ c. search needs) (λ c. search needs) (λ c. search needs) (λ c. search needs) (λ c. search needs) (λ c. rw (c .enum-told .given .1, lengthPlace) (omega arith)) (λ c. rw (c .enum-told2 .given .1, lengthPlace) (omega arith)))

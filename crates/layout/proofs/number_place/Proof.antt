@@ -5,15 +5,6 @@ use borrow.Author.Needs.{needs}
 use Rattle.layout.proofs.number_place.Statement.{statement}
 use Rattle.layout.proofs.number_place.Tie as tie
 
-returns : tie.Need-returns
-unfolding numberPlace
-returns c = rw (c .enum-told .given .1, numberPlace) (omega arith)
-
-returns-2 : tie.Need-returns-2
-unfolding numberPlace
-returns-2 c = rw (c .enum-told2 .given .1, numberPlace) (omega arith)
-
 pub number-place-spec : {M : Type 1} → statement M
-number-place-spec =
-    tie.close
-    (tie.spec (λ c. search needs) (λ c. search needs) (λ c. search needs) (λ c. search needs) (λ c. search needs) (λ c. search needs) returns returns-2)
+unfolding numberPlace
+number-place-spec = tie.close (tie.spec (λ c. search needs) (λ c. search needs) (λ c. search needs) (λ c. search needs) (λ c. search needs) (λ c. search needs) (λ c. rw (c .enum-told .given .1, numberPlace) (omega arith)) (λ c. rw (c .enum-told2 .given .1, numberPlace) (omega arith)))

@@ -4,9 +4,6 @@ use borrow.Author.Needs.{needs}
 use Rattle.layout.proofs.offset_at.Statement.{statement}
 use Rattle.layout.proofs.offset_at.Tie as tie
 
-returns : tie.Need-returns
-unfolding offset
-returns c = cc
-
 pub offset-at-spec : {M : Type 1} → statement M
-offset-at-spec = tie.close (tie.spec (λ c κs. search needs) (λ c κs. search needs) (λ c κs. search needs) returns)
+unfolding offset
+offset-at-spec = tie.close (tie.spec (λ c κs. search needs) (λ c κs. search needs) (λ c κs. search needs) (λ c. cc))

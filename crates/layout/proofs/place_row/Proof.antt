@@ -4,8 +4,5 @@ use borrow.Author.Needs.{needs}
 use Rattle.layout.proofs.place_row.Statement.{statement}
 use Rattle.layout.proofs.place_row.Tie as tie
 
-returns : tie.Need-returns
-returns c = search then
-
 pub place-row-spec : {M : Type 1} → statement M
-place-row-spec = tie.close (tie.spec (λ c κs. search needs) (λ c κs. search needs) (λ c. search needs) returns)
+place-row-spec = tie.close (tie.spec (λ c κs. search needs) (λ c κs. search needs) (λ c. search needs) (λ c. search then))

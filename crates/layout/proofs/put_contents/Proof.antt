@@ -13,10 +13,9 @@ returns c = rw (c .before .before .before .before .enum-told .given .1, contents
 returns-2 : tie.Need-returns-2
 unfolding contents pieceBytes
 returns-2 c =
-    rw (c .before .before .before .before .before .before .before .before .before .before .before .before .before .before .before .before .enum-told2 .given .1, contents)
-    (then (then (then (c .before .before .before .before .before .before .before .before .before .before .before .before .before .before .put-pieces2 .ensures) (c .before .before .before .before .before .before .before .before .before .before .put-pieces3 .ensures)) (c .before .before .before .before .before .before .put-pieces4 .ensures)) (c .before .before .put-pieces5 .ensures))
+    let k = c .before .before .before .before .before .before .before .before .before .before in
+    rw (k .before .before .before .before .before .before .enum-told2 .given .1, contents)
+    (then (then (then (k .before .before .before .before .put-pieces2 .ensures) (k .put-pieces3 .ensures)) (c .before .before .before .before .before .before .put-pieces4 .ensures)) (c .before .before .put-pieces5 .ensures))
 
 pub put-contents-spec : {M : Type 1} → statement M
-put-contents-spec =
-    tie.close
-    (tie.spec (λ c. search needs) (λ c κs. search needs) (λ c. search needs) (λ c κs. search needs) (λ c κs. search needs) (λ c κs. search needs) (λ c κs. search needs) (λ c. search needs) returns (λ c. search needs) returns-2)
+put-contents-spec = tie.close (tie.spec (λ c. search needs) (λ c κs. search needs) (λ c. search needs) (λ c κs. search needs) (λ c κs. search needs) (λ c κs. search needs) (λ c κs. search needs) (λ c. search needs) returns (λ c. search needs) returns-2)

@@ -40,13 +40,12 @@ returns c =
 
 returns-2 : tie.Need-returns-2
 returns-2 c =
-    let a = c .before .before .before .before .before .before .before .before .before .before .before .before .before .args in
-    let p = c .before .before .before .before .before .before .before .before .before .before .before .before .before .pre in
+    let o = c .before .before .before .before .before .before .before .before .before .before .before in
+    let a = o .before .before .args in
+    let p = o .before .before .pre in
     let e : c .before .before .before .before .before .gathered .result ≡ headBytes (entryOf (stored (a .lay) (a .s .now)) (a .i)) =
-    cc (head-gathered (a .lay) (a .s .now) (a .n) (a .i) (λ j. c .before .before .before .before .before .before .before .before .before .before .before .shared-slice-known .given j .fits) (p .0) (p .1)) in
+    cc (head-gathered (a .lay) (a .s .now) (a .n) (a .i) (λ j. o .shared-slice-known .given j .fits) (p .0) (p .1)) in
     rw (← e) (c .before .before .place42 .ensures)
 
 pub put-head-spec : {M : Type 1} → statement M
-put-head-spec =
-    tie.close
-    (tie.spec (λ c κs. search needs) (λ c. search needs) add-end (λ c. search needs) (λ c. search needs) part-place4-end (λ c κs. search needs) (λ c. search needs) (λ c κs. search needs) (λ c κs. search needs) gathered-requires (λ c. search needs) (λ c κs. search needs) (λ c. search needs) returns (λ c. search needs) returns-2)
+put-head-spec = tie.close (tie.spec (λ c κs. search needs) (λ c. search needs) add-end (λ c. search needs) (λ c. search needs) part-place4-end (λ c κs. search needs) (λ c. search needs) (λ c κs. search needs) (λ c κs. search needs) gathered-requires (λ c. search needs) (λ c κs. search needs) (λ c. search needs) returns (λ c. search needs) returns-2)

@@ -23,17 +23,11 @@ loop-holds : tie.Need-loop-holds Inv-loop μ-loop
 unfolding flat each
 loop-holds c = (omega arith, nothing (c .before .before .args .out .now) (c .before .before .args .at))
 
-entry-in-requires : tie.Need-entry-in-requires Inv-loop μ-loop
-entry-in-requires c κs = (c .before .before .before .before .before .pre, omega arith)
-
 loop-again : tie.Need-loop-again Inv-loop μ-loop
 loop-again c =
     let a = c .before .before .before .before .before .before .before .before .before .args in
     let l = c .before .before .before .before .before .before .loop in
     (omega arith, rw (pieces-more (pieceBytes (a .piece)) (entryOf (stored (a .lay) (a .s .now))) (l .i), ← c .before .before .before .entry-in .ensures) (then (l .inv .1) (c .before .before .put-piece .ensures)))
-
-same-length : tie.Need-same-length Inv-loop μ-loop
-same-length c = kept (c .before .loop .inv .1)
 
 returns : tie.Need-returns Inv-loop μ-loop
 returns c =
@@ -41,7 +35,11 @@ returns c =
     let e : c .before .before .before .before .args .n ≡ l .i = omega arith in
     rw e (l .inv .1)
 
+entry-in-requires : tie.Need-entry-in-requires Inv-loop μ-loop
+entry-in-requires c κs = (c .before .before .before .before .before .pre, omega arith)
+
+same-length : tie.Need-same-length Inv-loop μ-loop
+same-length c = kept (c .before .loop .inv .1)
+
 pub put-pieces-spec : {M : Type 1} → statement M
-put-pieces-spec =
-    tie.close
-    (tie.spec Inv-loop μ-loop loop-holds entry-in-requires (λ c κs. search needs) (λ c. search needs) (λ c. search needs) loop-again same-length returns)
+put-pieces-spec = tie.close (tie.spec Inv-loop μ-loop loop-holds entry-in-requires (λ c κs. search needs) (λ c. search needs) (λ c. search needs) loop-again same-length returns)

@@ -8,7 +8,8 @@ use Rattle.layout.proofs.put_row.Tie as tie
 returns : tie.Need-returns
 unfolding rowBytes
 returns c =
-    then (then (then (c .before .before .before .before .before .before .before .before .before .before .before .before .before .before .put2 .ensures) (c .before .before .before .before .before .before .before .before .before .before .put .ensures)) (c .before .before .before .before .before .before .put3 .ensures)) (c .before .before .put4 .ensures)
+    let k = c .before .before .before .before .before .before .before .before .before .before in
+    then (then (then (k .before .before .before .before .put2 .ensures) (k .put .ensures)) (c .before .before .before .before .before .before .put3 .ensures)) (c .before .before .put4 .ensures)
 
 pub put-row-spec : {M : Type 1} → statement M
 put-row-spec =

@@ -14,22 +14,5 @@ Inv-loop out₀ i₀ out i = Wrote out₀ 0 (replicate i 0) i out
 abbrev μ-loop : tie.MeasureT-loop
 μ-loop out₀ i₀ out i = length out₀ - i
 
-loop-holds : tie.Need-loop-holds Inv-loop μ-loop
-loop-holds c = search nothing
-
-loop-less : tie.Need-loop-less Inv-loop μ-loop
-loop-less c = omega (arith, kept (c .before .loop .inv))
-
-loop-again : tie.Need-loop-again Inv-loop μ-loop
-loop-again c = search filled-more
-
-same-length : tie.Need-same-length Inv-loop μ-loop
-same-length c = search kept
-
-returns : tie.Need-returns Inv-loop μ-loop
-returns c = search filled-whole
-
 pub clear-spec : {M : Type 1} → statement M
-clear-spec =
-    tie.close
-    (tie.spec Inv-loop μ-loop loop-holds (λ c. search needs) (λ c. search needs) loop-less loop-again same-length returns)
+clear-spec = tie.close (tie.spec Inv-loop μ-loop (λ c. search nothing) (λ c. search needs) (λ c. search needs) (λ c. omega (arith, kept (c .before .loop .inv))) (λ c. search filled-more) (λ c. search kept) (λ c. search filled-whole))

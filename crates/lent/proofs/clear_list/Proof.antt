@@ -14,22 +14,5 @@ Inv-loop out₀ at₀ out at = Wrote out₀ 0 (replicate at 0) at out
 abbrev μ-loop : tie.MeasureT-loop
 μ-loop out₀ at₀ out at = length out₀ - at
 
-loop-holds : tie.Need-loop-holds Inv-loop μ-loop
-loop-holds c = search nothing
-
-loop-less : tie.Need-loop-less Inv-loop μ-loop
-loop-less c = omega (arith, kept (c .before .loop .inv))
-
-loop-again : tie.Need-loop-again Inv-loop μ-loop
-loop-again c = search filled-more
-
-same-length : tie.Need-same-length Inv-loop μ-loop
-same-length c = search kept
-
-returns : tie.Need-returns Inv-loop μ-loop
-returns c = search filled-whole
-
 pub clear-list-spec : {M : Type 1} → statement M
-clear-list-spec =
-    tie.close
-    (tie.spec Inv-loop μ-loop loop-holds (λ c. search needs) (λ c. search needs) (λ c. search needs) loop-less loop-again same-length returns)
+clear-list-spec = tie.close (tie.spec Inv-loop μ-loop (λ c. search nothing) (λ c. search needs) (λ c. search needs) (λ c. search needs) (λ c. omega (arith, kept (c .before .loop .inv))) (λ c. search filled-more) (λ c. search kept) (λ c. search filled-whole))

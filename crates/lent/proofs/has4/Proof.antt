@@ -7,11 +7,5 @@ use Rattle.fields.proofs.Laws.{shifted}
 use Rattle.lent.proofs.has4.Statement.{statement}
 use Rattle.lent.proofs.has4.Tie as tie
 
-returns : tie.Need-returns
-returns c = sym (lt-leb (c .before .args .at + 4) _ (omega arith))
-
-returns-2 : tie.Need-returns-2
-returns-2 c = shifted (c .before .args .at) 4 _ (omega arith)
-
 pub has4-spec : {M : Type 1} → statement M
-has4-spec = tie.close (tie.spec returns returns-2)
+has4-spec = tie.close (tie.spec (λ c. sym (lt-leb (c .before .args .at + 4) _ (omega arith))) (λ c. shifted (c .before .args .at) 4 _ (omega arith)))

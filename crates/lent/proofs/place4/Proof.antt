@@ -8,6 +8,4 @@ returns : tie.Need-returns
 returns c = search copied-all
 
 pub place4-spec : {M : Type 1} → statement M
-place4-spec =
-    tie.close
-    (tie.spec (λ c. search needs) (λ c. search needs) (λ c. search needs) (λ c. search needs) (λ c κs. search needs) (λ c. search needs) returns)
+place4-spec = tie.close (tie.spec (λ c. search needs) (λ c. search needs) (λ c. search needs) (λ c. search needs) (λ c κs. search needs) (λ c. search needs) returns)

@@ -10,5 +10,4 @@ unfolding spell
 returns c = search then
 
 pub put2-spec : {M : Type 1} → statement M
-put2-spec =
-    tie.close (tie.spec (λ c. search needs) (λ c κs. search needs) (λ c. search needs) (λ c κs. search needs) (λ c. search needs) returns)
+put2-spec = tie.close (tie.spec (λ c. search needs) (λ c κs. search needs) (λ c. search needs) (λ c κs. search needs) (λ c. search needs) returns)

@@ -5,10 +5,5 @@ use borrow.Author.Needs.{needs}
 use Rattle.lent.proofs.set4.Statement.{statement}
 use Rattle.lent.proofs.set4.Tie as tie
 
-returns : tie.Need-returns
-returns c = search (copied-all, length-spell)
-
 pub set4-spec : {M : Type 1} → statement M
-set4-spec =
-    tie.close
-    (tie.spec (λ c. search needs) (λ c. search needs) (λ c. search needs) (λ c. search needs) (λ c κs. search needs) (λ c. search needs) returns)
+set4-spec = tie.close (tie.spec (λ c. search needs) (λ c. search needs) (λ c. search needs) (λ c. search needs) (λ c κs. search needs) (λ c. search needs) (λ c. search (copied-all, length-spell)))

@@ -5,11 +5,5 @@ use borrow.Author.Needs.{needs}
 use Rattle.listing.proofs.digit.Statement.{statement}
 use Rattle.listing.proofs.digit.Tie as tie
 
-returns : tie.Need-returns
-returns c = sym (search digit-low)
-
-returns-2 : tie.Need-returns-2
-returns-2 c = sym (search digit-high)
-
 pub digit-spec : {M : Type 1} → statement M
-digit-spec = tie.close (tie.spec (λ c. search needs) returns (λ c. search needs) (λ c. search needs) returns-2)
+digit-spec = tie.close (tie.spec (λ c. search needs) (λ c. sym (search digit-low)) (λ c. search needs) (λ c. search needs) (λ c. sym (search digit-high)))

@@ -8,8 +8,10 @@ use Rattle.listing.proofs.put_first.Tie as tie
 returns : tie.Need-returns
 unfolding words firstLine
 returns c =
-    then (then (c .before .before .before .before .before .before .before .before .before .before .before .before .before .before .before .before .before .before .before .before .before .before .put-hex4 .ensures) (c .before .before .before .before .before .before .before .before .before .before .before .before .before .before .before .before .before .before .put .ensures))
-    (then (then (c .before .before .before .before .before .before .before .before .before .before .before .before .before .before .put-decimal .ensures) (c .before .before .before .before .before .before .before .before .before .before .put2 .ensures))
+    let early = c .before .before .before .before .before .before .before .before in
+    let origin = early .before .before .before .before .before .before .before .before in
+    then (then (origin .before .before .before .before .before .before .put-hex4 .ensures) (origin .before .before .put .ensures))
+    (then (then (early .before .before .before .before .before .before .put-decimal .ensures) (early .before .before .put2 .ensures))
     (then (c .before .before .before .before .before .before .put-decimal2 .ensures) (c .before .before .put3 .ensures)))
 
 pub put-first-spec : {M : Type 1} → statement M

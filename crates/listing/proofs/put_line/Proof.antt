@@ -8,10 +8,12 @@ use Rattle.listing.proofs.put_line.Tie as tie
 returns : tie.Need-returns
 unfolding words lineOf
 returns c =
-    rw (← c .before .before .before .before .before .before .before .before .before .before .before .before .before .before .before .version .ensures)
-    (then (then (c .before .before .before .before .before .before .before .before .before .before .before .before .before .before .before .before .before .before .before .before .before .before .before .before .before .before .before .before .before .before .before .put-hex4 .ensures) (c .before .before .before .before .before .before .before .before .before .before .before .before .before .before .before .before .before .before .before .before .before .before .before .before .before .before .before .put .ensures))
-    (then (then (c .before .before .before .before .before .before .before .before .before .before .before .before .before .before .before .before .before .before .before .before .before .before .before .put-marks .ensures) (c .before .before .before .before .before .before .before .before .before .before .before .before .before .before .before .before .before .before .before .put2 .ensures))
-    (then (then (c .before .before .before .before .before .before .before .before .before .before .before .before .before .before .put-decimal .ensures) (c .before .before .before .before .before .before .before .before .before .before .put3 .ensures))
+    let early = c .before .before .before .before .before .before .before .before .before .before .before in
+    let origin = early .before .before .before .before .before .before .before .before .before .before .before in
+    rw (← early .before .before .before .before .version .ensures)
+    (then (then (origin .before .before .before .before .before .before .before .before .before .put-hex4 .ensures) (origin .before .before .before .before .before .put .ensures))
+    (then (then (origin .before .put-marks .ensures) (early .before .before .before .before .before .before .before .before .put2 .ensures))
+    (then (then (early .before .before .before .put-decimal .ensures) (c .before .before .before .before .before .before .before .before .before .before .put3 .ensures))
     (then (c .before .before .before .before .before .before .put-decimal2 .ensures) (c .before .before .put4 .ensures)))))
 
 pub put-line-spec : {M : Type 1} → statement M

@@ -20,13 +20,13 @@ loop-holds c =
     let a = c .before .before .args in
     (passed-within (a .s .now) (a .end) (c .before .before .pre), passed-start (a .s .now) (a .end) (c .before .before .pre) (a .out .now) (a .at))
 
-loop-less : tie.Need-loop-less Inv-loop μ-loop
-loop-less c = search left-less
-
 loop-again : tie.Need-loop-again Inv-loop μ-loop
 loop-again c =
     let l = c .before .before .before .before .before .before .loop .inv in
     (l .0, passed-more (l .1) (l .0) (c .before .before .before .before .before .loop-test .taken) (c .before .before .before .put-line-at .ensures) (c .next-at .ensures))
+
+loop-less : tie.Need-loop-less Inv-loop μ-loop
+loop-less c = search left-less
 
 same-length : tie.Need-same-length Inv-loop μ-loop
 same-length c = kept (c .before .loop .inv .1 .wrote)

@@ -15,19 +15,5 @@ Inv-loop list i₀ i = (1 ≤ i) × (ascends list ≡ ascends (drop (i - 1) list
 abbrev μ-loop : tie.MeasureT-loop
 μ-loop list i₀ i = length list - i
 
-loop-holds : tie.Need-loop-holds Inv-loop μ-loop
-loop-holds c = (omega arith, search needs)
-
-returns : tie.Need-returns Inv-loop μ-loop
-returns c = search ascends-not
-
-loop-again : tie.Need-loop-again Inv-loop μ-loop
-loop-again c = (omega arith, search ascends-on)
-
-returns-2 : tie.Need-returns-2 Inv-loop μ-loop
-returns-2 c = search ascends-over
-
 pub ascends-spec : {M : Type 1} → statement M
-ascends-spec =
-    tie.close
-    (tie.spec Inv-loop μ-loop loop-holds (λ c. search needs) (λ c. search needs) (λ c. search needs) (λ c. search needs) (λ c. search needs) returns (λ c. search needs) (λ c. search needs) loop-again returns-2)
+ascends-spec = tie.close (tie.spec Inv-loop μ-loop (λ c. (omega arith, search needs)) (λ c. search needs) (λ c. search needs) (λ c. search needs) (λ c. search needs) (λ c. search needs) (λ c. search ascends-not) (λ c. search needs) (λ c. search needs) (λ c. (omega arith, search ascends-on)) (λ c. search ascends-over))

@@ -4,9 +4,6 @@ use borrow.Author.Needs.{needs}
 use Rattle.load.proofs.fault.Statement.{statement}
 use Rattle.load.proofs.fault.Tie as tie
 
-returns : tie.Need-returns
-returns c = fault-sheet _ _ _ (c .before .before .check .ensures) (c .if1 .taken)
-
 returns-2 : tie.Need-returns-2
 returns-2 c =
     let d = c .before .before in
@@ -29,6 +26,9 @@ returns-4 c =
     let u = c .before .before .before in
     let d = u .before in
     fault-none _ _ _ (d .before .before .check .ensures) (d .if1 .left) (u .unordered .ensures) (c .before .before .if2 .left) (c .before .lacking .ensures) (c .if3 .left)
+
+returns : tie.Need-returns
+returns c = fault-sheet _ _ _ (c .before .before .check .ensures) (c .if1 .taken)
 
 pub fault-spec : {M : Type 1} → statement M
 fault-spec = tie.close (tie.spec (λ c κs. search needs) returns (λ c κs. search needs) returns-2 lacking-requires returns-3 returns-4)

@@ -27,10 +27,5 @@ returns c = some-found _ _ _ _ (c .before .before .before .before .loop .inv) (c
 loop-again : tie.Need-loop-again Inv-loop μ-loop
 loop-again c = some-more _ _ _ _ (c .before .before .before .before .loop .inv) (c .before .before .before .loop-test .taken) (ne-eqb _ _ (c .if1 .left))
 
-returns-2 : tie.Need-returns-2 Inv-loop μ-loop
-returns-2 c = some-over _ _ _ _ (c .before .loop .inv) (c .loop-test .left)
-
 pub has-spec : {M : Type 1} → statement M
-has-spec =
-    tie.close
-    (tie.spec Inv-loop μ-loop loop-holds (λ c. search needs) (λ c. search needs) returns (λ c. search needs) (λ c. search needs) loop-again returns-2)
+has-spec = tie.close (tie.spec Inv-loop μ-loop loop-holds (λ c. search needs) (λ c. search needs) returns (λ c. search needs) (λ c. search needs) loop-again (λ c. some-over _ _ _ _ (c .before .loop .inv) (c .loop-test .left)))

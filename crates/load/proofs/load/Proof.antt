@@ -32,10 +32,9 @@ put-loaded-requires c κs =
 
 returns-3 : tie.Need-returns-3
 returns-3 c =
-    let a = c .before .before .before .before .before .before .before .before .before .before .before .before .before .args in
-    all-written (a .features .now) (a .profiles .now) (stored (a .lay) (a .s .now)) (a .out .now) (λ i. c .before .before .before .before .before .before .before .before .before .before .before .before .shared-slice-known .given i .fits) (c .before .before .before .before .before .before .before .before .fault .ensures) (c .before .before .before .before .before .before .if1 .left) (c .before .before .before .before .before .if2 .left) (c .before .before .before .put-loaded .ensures) refl (c .written .ensures)
+    let early = c .before .before .before .before .before .before .before .before .before in
+    let a = early .before .before .before .before .args in
+    all-written (a .features .now) (a .profiles .now) (stored (a .lay) (a .s .now)) (a .out .now) (λ i. early .before .before .before .shared-slice-known .given i .fits) (c .before .before .before .before .before .before .before .before .fault .ensures) (c .before .before .before .before .before .before .if1 .left) (c .before .before .before .before .before .if2 .left) (c .before .before .before .put-loaded .ensures) refl (c .written .ensures)
 
 pub load-spec : {M : Type 1} → statement M
-load-spec =
-    tie.close
-    (tie.spec (λ c κs. search needs) (λ c κs. search needs) returns (λ c κs. search needs) returns-2 (λ c. search needs) slice-aggregate-put-loaded put-loaded-requires (λ c κs. search needs) (λ c. search needs) returns-3)
+load-spec = tie.close (tie.spec (λ c κs. search needs) (λ c κs. search needs) returns (λ c κs. search needs) returns-2 (λ c. search needs) slice-aggregate-put-loaded put-loaded-requires (λ c κs. search needs) (λ c. search needs) returns-3)

@@ -5,8 +5,5 @@ use borrow.Author.Needs.{needs}
 use Rattle.load.proofs.number_at.Statement.{statement}
 use Rattle.load.proofs.number_at.Tie as tie
 
-returns-2 : tie.Need-returns-2
-returns-2 c = sym (List·getD-eq-default (c .before .args .list .now) 0 (c .if1 .left))
-
 pub number-at-spec : {M : Type 1} → statement M
-number-at-spec = tie.close (tie.spec (λ c. search needs) (λ c. search needs) (λ c. search needs) returns-2)
+number-at-spec = tie.close (tie.spec (λ c. search needs) (λ c. search needs) (λ c. search needs) (λ c. sym (List·getD-eq-default (c .before .args .list .now) 0 (c .if1 .left))))

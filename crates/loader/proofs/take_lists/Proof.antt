@@ -3,7 +3,7 @@ use Prim.Native.Nat.{_-_, _≤_}
 use mathlib.Core.Path.{_≡_, _∙_}
 use native.Mathlib.Omega.{arith}
 use lib.ListN.{length, length-set}
-use Rattle.streams.proofs.Counted.{counted}
+use Rattle.program_io.proofs.Counted.{counted}
 use borrow.Author.Needs.{needs}
 use Rattle.loader.proofs.take_lists.Statement.{statement}
 use Rattle.loader.proofs.take_lists.Tie as tie

@@ -12,8 +12,8 @@ returns c =
     let z = y .before .before .before in
     count-dirty
     (record {
-      number = z .before .before .before .number-at .ensures;
-      flags = z .before .before .flags-at .ensures;
+      number = z .before .before .before .number-in .ensures;
+      flags = z .before .before .flags-in .ensures;
       body = z .before .body-at .ensures .holds;
       row-is = z .row-of .ensures;
       mends = y .before .flags-mended .ensures ∙ barred-is _ _ _ _ (y .before .before .is-barred .ensures);
@@ -27,8 +27,8 @@ returns-2 c =
     let z = y .before .before .before in
     count-clean
     (record {
-      number = z .before .before .before .number-at .ensures;
-      flags = z .before .before .flags-at .ensures;
+      number = z .before .before .before .number-in .ensures;
+      flags = z .before .before .flags-in .ensures;
       body = z .before .body-at .ensures .holds;
       row-is = z .row-of .ensures;
       mends = y .before .flags-mended .ensures ∙ barred-is _ _ _ _ (y .before .before .is-barred .ensures);

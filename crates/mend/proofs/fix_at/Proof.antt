@@ -17,33 +17,37 @@ fix-requires c κs =
     (omega (arith, p .whole, p .room), omega (arith, p .whole, p .short))
 
 add-fix-body : tie.Need-add-fix-body
-add-fix-body c = let p = c .before .before .before .before .before .before .before .before .before .before .before .before .before .before .before .before .before .before .before .before .pre in omega (arith, p .whole, p .short)
+add-fix-body c =
+    let early = c .before .before .before .before .before .before .before .before .before in
+    let p = early .before .before .before .before .before .before .before .before .before .before .before .pre in omega (arith, p .whole, p .short)
 
 fix-body-requires : tie.Need-fix-body-requires
 fix-body-requires c κs =
-    let p = c .before .before .before .before .before .before .before .before .before .before .before .before .before .before .before .before .before .before .before .before .before .pre in
-    let n = place-length _ _ _ (p .whole) (c .before .before .before .before .before .before .before .before .before .before .before .before .before .before .before .body-at .ensures .holds) in
-    (omega (arith, p .whole, p .room, n, fixes-length (c .before .before .before .before .before .before .before .before .before .fix .ensures)), omega (arith, p .whole, p .short, n))
+    let early = c .before .before .before .before .before .before .before .before .before in
+    let p = early .before .before .before .before .before .before .before .before .before .before .before .before .pre in
+    let n = place-length _ _ _ (p .whole) (early .before .before .before .before .before .before .body-at .ensures .holds) in
+    (omega (arith, p .whole, p .room, n, fixes-length (early .fix .ensures)), omega (arith, p .whole, p .short, n))
 
 returns : tie.Need-returns
 returns c =
-    let y = c .before .before .before .before .before .before .before .before .before .before .before .before .before .before in
+    let early = c .before .before .before .before .before .before .before .before .before in
+    let y = early .before .before .before .before .before in
     fixed-dirty (record {
-      number = y .before .before .before .before .before .before .before .before .number-at .ensures;
-      flags = y .before .before .before .before .before .before .before .flags-at .ensures;
+      number = y .before .before .before .before .before .before .before .before .number-in .ensures;
+      flags = y .before .before .before .before .before .before .before .flags-in .ensures;
       body = y .before .before .before .before .before .before .body-at .ensures .holds;
       row-is = y .before .before .before .before .before .row-of .ensures;
       mends = y .before .flags-mended .ensures ∙ barred-is _ _ _ _ (y .before .before .is-barred .ensures);
     })
     (λ i. omega (arith, y .before .before .before .before .before .before .before .before .before .shared-slice-known .given i)) (y .before .before .before .before .before .before .before .before .before .before .before .before .pre)
-    (y .fix .ensures) _ (c .before .before .before .before .before .before .before .before .before .is-dirty .ensures) (c .before .before .before .before .before .before .before .before .if1 .taken) _ (c .before .before .before .before .before .plan-of .ensures) (c .before .before .before .before .fix-body .ensures)
+    (y .fix .ensures) _ (early .is-dirty .ensures) (c .before .before .before .before .before .before .before .before .if1 .taken) _ (c .before .before .before .before .before .plan-of .ensures) (c .before .before .before .before .fix-body .ensures)
 
 returns-2 : tie.Need-returns-2
 returns-2 c =
     let y = c .before .before .before .before .before .before in
     fixed-clean (record {
-      number = y .before .before .before .before .before .before .before .before .number-at .ensures;
-      flags = y .before .before .before .before .before .before .before .flags-at .ensures;
+      number = y .before .before .before .before .before .before .before .before .number-in .ensures;
+      flags = y .before .before .before .before .before .before .before .flags-in .ensures;
       body = y .before .before .before .before .before .before .body-at .ensures .holds;
       row-is = y .before .before .before .before .before .row-of .ensures;
       mends = y .before .flags-mended .ensures ∙ barred-is _ _ _ _ (y .before .before .is-barred .ensures);

@@ -4,11 +4,5 @@ use Rattle.mend.proofs.Steps.{persistent-cleared, persistent-kept}
 use Rattle.mend.proofs.persistent_mended.Statement.{statement}
 use Rattle.mend.proofs.persistent_mended.Tie as tie
 
-returns : tie.Need-returns
-returns c = search persistent-cleared
-
-returns-2 : tie.Need-returns-2
-returns-2 c = search persistent-kept
-
 pub persistent-mended-spec : {M : Type 1} → statement M
-persistent-mended-spec = tie.close (tie.spec (λ c κs. search needs) (λ c. search needs) (λ c. search needs) returns returns-2)
+persistent-mended-spec = tie.close (tie.spec (λ c κs. search needs) (λ c. search needs) (λ c. search needs) (λ c. search persistent-cleared) (λ c. search persistent-kept))

@@ -3,11 +3,5 @@ use borrow.Author.Needs.{needs}
 use Rattle.mend.proofs.with_both.Statement.{statement}
 use Rattle.mend.proofs.with_both.Tie as tie
 
-returns : tie.Need-returns
-returns c = rw (c .if1 .taken)
-
-returns-2 : tie.Need-returns-2
-returns-2 c = rw (c .if1 .left)
-
 pub with-both-spec : {M : Type 1} → statement M
-with-both-spec = tie.close (tie.spec (λ c. search needs) (λ c. search needs) returns returns-2)
+with-both-spec = tie.close (tie.spec (λ c. search needs) (λ c. search needs) (λ c. rw (c .if1 .taken)) (λ c. rw (c .if1 .left)))

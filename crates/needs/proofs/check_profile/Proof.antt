@@ -18,6 +18,4 @@ returns-3 : tie.Need-returns-3
 returns-3 c = search (judge-lowest, complete-fault)
 
 pub check-profile-spec : {M : Type 1} → statement M
-check-profile-spec =
-    tie.close
-    (tie.spec (λ c κs. search needs) returns (λ c κs. search needs) returns-2 lowest-broken-requires returns-3)
+check-profile-spec = tie.close (tie.spec (λ c κs. search needs) returns (λ c κs. search needs) returns-2 lowest-broken-requires returns-3)

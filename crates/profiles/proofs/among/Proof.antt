@@ -4,11 +4,5 @@ use borrow.Author.Needs.{needs}
 use Rattle.profiles.proofs.among.Statement.{statement}
 use Rattle.profiles.proofs.among.Tie as tie
 
-returns : tie.Need-returns
-returns c = search lists-below
-
-returns-2 : tie.Need-returns-2
-returns-2 c = search lists-above
-
 pub among-spec : {M : Type 1} → statement M
-among-spec = tie.close (tie.spec returns returns-2 (λ c κs. search needs) (λ c. search needs))
+among-spec = tie.close (tie.spec (λ c. search lists-below) (λ c. search lists-above) (λ c κs. search needs) (λ c. search needs))

@@ -20,16 +20,5 @@ loop-holds : tie.Need-loop-holds Inv-loop μ-loop
 unfolding profilesOf
 loop-holds c = (omega arith, ap (λ (k : ℕ). currentProfile (each (listed (c .before .args .b .now)) 0 k)) (omega arith))
 
-returns : tie.Need-returns Inv-loop μ-loop
-returns c = search current-stop
-
-loop-again : tie.Need-loop-again Inv-loop μ-loop
-loop-again c = (omega arith, search current-go)
-
-returns-2 : tie.Need-returns-2 Inv-loop μ-loop
-returns-2 c = search current-none
-
 pub current-spec : {M : Type 1} → statement M
-current-spec =
-    tie.close
-    (tie.spec Inv-loop μ-loop loop-holds (λ c. search needs) (λ c. search needs) (λ c κs. search needs) (λ c. search needs) (λ c κs. search needs) returns (λ c. search needs) (λ c. search needs) loop-again returns-2)
+current-spec = tie.close (tie.spec Inv-loop μ-loop loop-holds (λ c. search needs) (λ c. search needs) (λ c κs. search needs) (λ c. search needs) (λ c κs. search needs) (λ c. search current-stop) (λ c. search needs) (λ c. search needs) (λ c. (omega arith, search current-go)) (λ c. search current-none))

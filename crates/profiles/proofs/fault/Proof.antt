@@ -18,9 +18,6 @@ Inv-loop b n i₀ low₀ high₀ i low high = (i ≤ n) × Within (low .0) (high
 abbrev μ-loop : tie.MeasureT-loop
 μ-loop b n i₀ low₀ high₀ i low high = n - i
 
-loop-holds : tie.Need-loop-holds Inv-loop μ-loop
-loop-holds c = (omega arith, within-none _ _ _, search first-start)
-
 returns : tie.Need-returns Inv-loop μ-loop
 unfolding recordsFault
 returns c = search records-stop
@@ -37,6 +34,4 @@ unfolding recordsFault
 returns-2 c = search records-none
 
 pub fault-spec : {M : Type 1} → statement M
-fault-spec =
-    tie.close
-    (tie.spec Inv-loop μ-loop loop-holds (λ c κs. search needs) returns (λ c. search needs) (λ c κs. search needs) (λ c κs. search needs) (λ c κs. search needs) (λ c. search needs) (λ c. search needs) loop-again returns-2)
+fault-spec = tie.close (tie.spec Inv-loop μ-loop (λ c. (omega arith, within-none _ _ _, search first-start)) (λ c κs. search needs) returns (λ c. search needs) (λ c κs. search needs) (λ c κs. search needs) (λ c κs. search needs) (λ c. search needs) (λ c. search needs) loop-again returns-2)

@@ -17,16 +17,5 @@ abbrev μ-loop : tie.MeasureT-loop
 loop-holds : tie.Need-loop-holds Inv-loop μ-loop
 loop-holds c = (omega arith, ap (lists (c .before .args .number .0) (c .before .args .b .now) 0) (omega arith))
 
-returns : tie.Need-returns Inv-loop μ-loop
-returns c = search lists-stop
-
-loop-again : tie.Need-loop-again Inv-loop μ-loop
-loop-again c = (omega arith, search lists-go)
-
-returns-2 : tie.Need-returns-2 Inv-loop μ-loop
-returns-2 c = search lists-none
-
 pub listed-spec : {M : Type 1} → statement M
-listed-spec =
-    tie.close
-    (tie.spec Inv-loop μ-loop loop-holds (λ c. search needs) (λ c κs. search needs) returns (λ c. search needs) (λ c. search needs) loop-again returns-2)
+listed-spec = tie.close (tie.spec Inv-loop μ-loop loop-holds (λ c. search needs) (λ c κs. search needs) (λ c. search lists-stop) (λ c. search needs) (λ c. search needs) (λ c. (omega arith, search lists-go)) (λ c. search lists-none))

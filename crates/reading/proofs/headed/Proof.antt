@@ -7,9 +7,6 @@ use borrow.Author.Needs.{needs}
 use Rattle.reading.proofs.headed.Statement.{statement}
 use Rattle.reading.proofs.headed.Tie as tie
 
-returns : tie.Need-returns
-returns c = let a = c .before .args in rw (lt-leb (a .at + 4) (length (a .s .now)) (omega arith))
-
 returns-2 : tie.Need-returns-2
 returns-2 c = let a = c .before .before .args in rw (lt-leb (a .at + 4) (length (a .s .now)) (omega arith))
 
@@ -17,4 +14,4 @@ returns-3 : tie.Need-returns-3
 returns-3 c = let a = c .before .before .args in rw (le-leb (a .at + 4) (length (a .s .now)) (omega arith))
 
 pub headed-spec : {M : Type 1} → statement M
-headed-spec = tie.close (tie.spec returns (λ c. search needs) returns-2 returns-3)
+headed-spec = tie.close (tie.spec (λ c. let a = c .before .args in rw (lt-leb (a .at + 4) (length (a .s .now)) (omega arith))) (λ c. search needs) returns-2 returns-3)

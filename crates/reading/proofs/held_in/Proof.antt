@@ -23,16 +23,14 @@ returns c = search rest-here
 returns-2 : tie.Need-returns-2 Inv-loop μ-loop
 returns-2 c = search rest-above
 
+loop-less : tie.Need-loop-less Inv-loop μ-loop
+loop-less c = search left-less
+
 loop-again : tie.Need-loop-again Inv-loop μ-loop
 loop-again c = (search needs, search rest-next)
 
 returns-3 : tie.Need-returns-3 Inv-loop μ-loop
 returns-3 c = search rest-end
 
-loop-less : tie.Need-loop-less Inv-loop μ-loop
-loop-less c = search left-less
-
 pub held-in-spec : {M : Type 1} → statement M
-held-in-spec =
-    tie.close
-    (tie.spec Inv-loop μ-loop (λ c κs. search needs) loop-holds (λ c κs. search needs) (λ c κs. search needs) (λ c. search needs) (λ c. search needs) (λ c κs. search needs) returns (λ c κs. search needs) returns-2 (λ c κs. search needs) loop-less loop-again (λ c κs. search needs) returns-3)
+held-in-spec = tie.close (tie.spec Inv-loop μ-loop (λ c κs. search needs) loop-holds (λ c κs. search needs) (λ c κs. search needs) (λ c. search needs) (λ c. search needs) (λ c κs. search needs) returns (λ c κs. search needs) returns-2 (λ c κs. search needs) loop-less loop-again (λ c κs. search needs) returns-3)

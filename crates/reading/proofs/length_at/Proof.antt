@@ -1,25 +1,16 @@
 -- `reading::length_at` meets its contract: the byte that stands there, 0 behind the end.
 use Rattle.text.specs.Reading.{lengthAt}
-use Rattle.reading.proofs.At.{length-behind, length-stand}
-use native.Mathlib.Omega.{arith}
-use lib.ListN.{length}
+use Rattle.reading.proofs.At.{length-behind, all-stand}
 use borrow.Author.Needs.{needs}
 use Rattle.reading.proofs.length_at.Statement.{statement}
 use Rattle.reading.proofs.length_at.Tie as tie
-
-add-inside : tie.Need-add-inside
-add-inside c =
-    let a = c .before .before .before .args in
-    omega (arith, length-stand (c .before .headed .result) (a .at) (length (a .s .now)) (c .before .headed .ensures) (c .if1 .taken))
-
-inside : tie.Need-inside-requires
-inside c κs = search length-stand
 
 returns : tie.Need-returns
 unfolding lengthAt
 returns c = search needs
 
 returns-2 : tie.Need-returns-2
+unfolding lengthAt
 returns-2 c = search length-behind
 
 returns-3 : tie.Need-returns-3
@@ -27,4 +18,4 @@ unfolding lengthAt
 returns-3 c = search needs
 
 pub length-at-spec : {M : Type 1} → statement M
-length-at-spec = tie.close (tie.spec (λ c κs. search needs) add-inside inside returns returns-2 (λ c. search needs) (λ c κs. search needs) returns-3)
+length-at-spec = tie.close (tie.spec (λ c κs. search needs) (λ c κs. search all-stand) returns returns-2 (λ c. search needs) (λ c κs. search needs) returns-3)

@@ -4,11 +4,5 @@ use Rattle.refusal.proofs.First.{tests}
 use Rattle.reading.proofs.not_current.Statement.{statement}
 use Rattle.reading.proofs.not_current.Tie as tie
 
-returns : tie.Need-returns
-returns c = search tests
-
-returns-2 : tie.Need-returns-2
-returns-2 c = search (tests, c .current .ensures)
-
 pub not-current-spec : {M : Type 1} → statement M
-not-current-spec = tie.close (tie.spec returns (λ c κs. search needs) returns-2)
+not-current-spec = tie.close (tie.spec (λ c. search tests) (λ c κs. search needs) (λ c. search (tests, c .current .ensures)))

@@ -1,15 +1,9 @@
--- `reading::odd` meets its contract: 1 for a refusal, 0 for none.
+-- `reading::odd` meets its contract: 1 for odd flags, 0 for others.
 use native.Mathlib.Omega.{arith}
-use Rattle.reading.proofs.Flagged.{odd-fault, odd-none}
+use Rattle.reading.proofs.Flagged.{odd-yes, odd-no}
 use borrow.Author.Needs.{needs}
 use Rattle.reading.proofs.odd.Statement.{statement}
 use Rattle.reading.proofs.odd.Tie as tie
 
-returns : tie.Need-returns
-returns c = (odd-fault _ _ (c .before .before .fault .ensures) (c .if1 .taken), omega arith)
-
-returns-2 : tie.Need-returns-2
-returns-2 c = (odd-none _ _ (c .before .before .fault .ensures) (c .if1 .left), omega arith)
-
 pub odd-spec : {M : Type 1} → statement M
-odd-spec = tie.close (tie.spec (λ c κs. search needs) returns returns-2)
+odd-spec = tie.close (tie.spec (λ c κs. search needs) (λ c. (search odd-yes, omega arith)) (λ c. (search odd-no, omega arith)))

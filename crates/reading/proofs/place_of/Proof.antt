@@ -20,14 +20,14 @@ loop-holds c = (search rest-within, rest-start _ _ _ (c .read .ensures) (λ i. c
 returns : tie.Need-returns Inv-loop μ-loop
 returns c = search rest-reached
 
+loop-less : tie.Need-loop-less Inv-loop μ-loop
+loop-less c = search left-less
+
 loop-again : tie.Need-loop-again Inv-loop μ-loop
 loop-again c = (search needs, search rest-passed)
 
 returns-2 : tie.Need-returns-2 Inv-loop μ-loop
 returns-2 c = search rest-behind
-
-loop-less : tie.Need-loop-less Inv-loop μ-loop
-loop-less c = search left-less
 
 pub place-of-spec : {M : Type 1} → statement M
 place-of-spec = tie.close (tie.spec Inv-loop μ-loop (λ c κs. search needs) loop-holds (λ c κs. search needs) returns (λ c κs. search needs) loop-less loop-again returns-2)

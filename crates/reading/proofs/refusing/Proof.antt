@@ -5,9 +5,6 @@ use Rattle.reading.specs.inner.Tally.{refusal}
 use Rattle.reading.proofs.refusing.Statement.{statement}
 use Rattle.reading.proofs.refusing.Tie as tie
 
-returns : tie.Need-returns
-unfolding refusal nothingRead
-returns c = refl
-
 pub refusing-spec : {M : Type 1} → statement M
-refusing-spec = tie.close (tie.spec returns)
+unfolding refusal nothingRead
+refusing-spec = tie.close (tie.spec (λ c. refl))

@@ -15,7 +15,8 @@ returns-2 : tie.Need-returns-2
 returns-2 c = c .refusing2 .ensures ∙ search scan-walk
 
 returns-3 : tie.Need-returns-3
-returns-3 c = search scan-taken
+returns-3 c =
+    scan-taken _ _ _ _ _ _ (c .before .before .before .before .before .before .before .before .get4 .ensures) (c .before .before .before .before .before .before .before .header-rule .ensures) (c .before .before .before .before .before .if1 .left) _ (c .before .before .before .before .walk-over .ensures) _ _ _ (c .before .before .count .given .1) _ (c .get2 .ensures)
 
 pub scan-spec : {M : Type 1} → statement M
 scan-spec =

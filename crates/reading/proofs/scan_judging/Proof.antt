@@ -6,12 +6,6 @@ use borrow.Author.Needs.{needs}
 use Rattle.reading.proofs.scan_judging.Statement.{statement}
 use Rattle.reading.proofs.scan_judging.Tie as tie
 
-returns : tie.Need-returns
-returns c = both-scanned (c .refusing .ensures ∙ search scan-header) (search odd-header)
-
-walk-judging-requires : tie.Need-walk-judging-requires
-walk-judging-requires c κs = scan-room _ _ _ _ _ (c .before .before .header-rule .ensures) (c .if1 .left)
-
 returns-2 : tie.Need-returns-2
 returns-2 c =
     let v = ap (λ (j : WalkJudged). j .walk) (c .before .before .before .before .walk-judging .ensures) in
@@ -24,6 +18,4 @@ returns-3 c =
     judged-taken _ _ _ _ _ _ (c .before .before .before .before .before .before .before .before .get4 .ensures) (c .before .before .before .before .before .before .before .header-rule .ensures) (c .before .before .before .before .before .if1 .left) _ v _ o _ _ _ (c .before .before .walk2 .given .1) _ (c .get2 .ensures)
 
 pub scan-judging-spec : {M : Type 1} → statement M
-scan-judging-spec =
-    tie.close
-    (tie.spec (λ c κs. search needs) (λ c κs. search needs) (λ c κs. search needs) returns (λ c. search needs) (λ c. search needs) walk-judging-requires (λ c. search needs) (λ c κs. search needs) (λ c. search needs) (λ c κs. search needs) returns-2 returns-3)
+scan-judging-spec = tie.close (tie.spec (λ c κs. search needs) (λ c κs. search needs) (λ c κs. search needs) (λ c. both-scanned (c .refusing .ensures ∙ search scan-header) (search odd-header)) (λ c. search needs) (λ c. search needs) (λ c κs. scan-room _ _ _ _ _ (c .before .before .header-rule .ensures) (c .if1 .left)) (λ c. search needs) (λ c κs. search needs) (λ c. search needs) (λ c κs. search needs) returns-2 returns-3)

@@ -18,6 +18,4 @@ returns-3 : tie.Need-returns-3
 returns-3 c = c .standing2 .ensures ∙ search stop-taken
 
 pub stops-spec : {M : Type 1} → statement M
-stops-spec =
-    tie.close
-    (tie.spec (λ c κs. search needs) (λ c κs. search needs) returns (λ c. search needs) (λ c. search needs) walk-over-requires (λ c. search needs) (λ c κs. search needs) (λ c. search needs) (λ c κs. search needs) returns-2 returns-3)
+stops-spec = tie.close (tie.spec (λ c κs. search needs) (λ c κs. search needs) returns (λ c. search needs) (λ c. search needs) walk-over-requires (λ c. search needs) (λ c κs. search needs) (λ c. search needs) (λ c κs. search needs) returns-2 returns-3)

@@ -22,19 +22,5 @@ abbrev μ-loop : tie.MeasureT-loop
 loop-holds : tie.Need-loop-holds Inv-loop μ-loop
 loop-holds c = (search lengths-cut, omega arith, omega arith, search loop-start, omega arith, search odds-start)
 
-returns : tie.Need-returns Inv-loop μ-loop
-returns c = both-judged (search loop-fault) (search odds-fault)
-
-returns-2 : tie.Need-returns-2 Inv-loop μ-loop
-returns-2 c = both-judged (search loop-cut) (search odds-cut)
-
-loop-again : tie.Need-loop-again Inv-loop μ-loop
-loop-again c = (search needs, omega arith, omega arith, search loop-more, omega arith, search odds-more)
-
-returns-3 : tie.Need-returns-3 Inv-loop μ-loop
-returns-3 c = both-judged (search loop-end) (search odds-end)
-
 pub walk-judging-spec : {M : Type 1} → statement M
-walk-judging-spec =
-    tie.close
-    (tie.spec Inv-loop μ-loop (λ c. search needs) (λ c. search needs) (λ c. search needs) loop-holds (λ c. search needs) (λ c. search needs) (λ c κs. search needs) (λ c κs. search needs) (λ c κs. search needs) (λ c. search needs) returns (λ c. search needs) (λ c. search needs) (λ c. search needs) (λ c. search needs) returns-2 (λ c. search needs) (λ c. search needs) (λ c. search needs) (λ c. search needs) (λ c. search needs) loop-again returns-3)
+walk-judging-spec = tie.close (tie.spec Inv-loop μ-loop (λ c. search needs) (λ c. search needs) (λ c. search needs) loop-holds (λ c. search needs) (λ c. search needs) (λ c κs. search needs) (λ c κs. search needs) (λ c κs. search needs) (λ c. search needs) (λ c. both-judged (search loop-fault) (search odds-fault)) (λ c. search needs) (λ c. search needs) (λ c. search needs) (λ c. search needs) (λ c. both-judged (search loop-cut) (search odds-cut)) (λ c. search needs) (λ c. search needs) (λ c. search needs) (λ c. search needs) (λ c. search needs) (λ c. (search needs, omega arith, omega arith, search loop-more, omega arith, search odds-more)) (λ c. both-judged (search loop-end) (search odds-end)))

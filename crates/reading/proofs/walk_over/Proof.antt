@@ -16,22 +16,5 @@ Inv-loop rt sfn end s lengths at₀ lo₀ count₀ last₀ at lo count last = (l
 abbrev μ-loop : tie.MeasureT-loop
 μ-loop rt sfn end s lengths at₀ lo₀ count₀ last₀ at lo count last = length s - at
 
-loop-holds : tie.Need-loop-holds Inv-loop μ-loop
-loop-holds c = (search lengths-cut, omega arith, omega arith, search loop-start)
-
-returns : tie.Need-returns Inv-loop μ-loop
-returns c = search loop-fault
-
-returns-2 : tie.Need-returns-2 Inv-loop μ-loop
-returns-2 c = search loop-cut
-
-loop-again : tie.Need-loop-again Inv-loop μ-loop
-loop-again c = (search needs, omega arith, omega arith, search loop-more)
-
-returns-3 : tie.Need-returns-3 Inv-loop μ-loop
-returns-3 c = search loop-end
-
 pub walk-over-spec : {M : Type 1} → statement M
-walk-over-spec =
-    tie.close
-    (tie.spec Inv-loop μ-loop (λ c. search needs) (λ c. search needs) (λ c. search needs) (λ c. search needs) loop-holds (λ c. search needs) (λ c κs. search needs) (λ c. search needs) returns (λ c. search needs) (λ c. search needs) (λ c. search needs) (λ c. search needs) returns-2 (λ c. search needs) (λ c. search needs) (λ c. search needs) (λ c. search needs) loop-again returns-3)
+walk-over-spec = tie.close (tie.spec Inv-loop μ-loop (λ c. search needs) (λ c. search needs) (λ c. search needs) (λ c. search needs) (λ c. (search lengths-cut, omega arith, omega arith, search loop-start)) (λ c. search needs) (λ c κs. search needs) (λ c. search needs) (λ c. search loop-fault) (λ c. search needs) (λ c. search needs) (λ c. search needs) (λ c. search needs) (λ c. search loop-cut) (λ c. search needs) (λ c. search needs) (λ c. search needs) (λ c. search needs) (λ c. (search needs, omega arith, omega arith, search loop-more)) (λ c. search loop-end))

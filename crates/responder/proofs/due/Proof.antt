@@ -5,10 +5,6 @@ use borrow.Author.Needs.{needs}
 use Rattle.responder.proofs.due.Statement.{statement}
 use Rattle.responder.proofs.due.Tie as tie
 
-returns : tie.Need-returns
-unfolding limit
-returns c = omega arith
-
 pub due-spec : {M : Type 1} → statement M
-due-spec =
-    tie.close (tie.spec (λ c κs. search needs) (λ c κs. search needs) (λ c. search needs) (λ c κs. search needs) returns)
+unfolding limit
+due-spec = tie.close (tie.spec (λ c κs. search needs) (λ c κs. search needs) (λ c. search needs) (λ c κs. search needs) (λ c. omega arith))

@@ -6,7 +6,8 @@ use Rattle.responder.proofs.put_fields.Tie as tie
 
 returns : tie.Need-returns
 returns c =
-    then (then (then (c .before .before .before .before .before .before .before .before .before .before .before .before .before .before .put2 .ensures) (c .before .before .before .before .before .before .before .before .before .before .put .ensures)) (c .before .before .before .before .before .before .put3 .ensures)) (c .before .before .copy .ensures)
+    let early = c .before .before .before .before .before .before .before .before .before in
+    then (then (then (early .before .before .before .before .before .put2 .ensures) (early .before .put .ensures)) (c .before .before .before .before .before .before .put3 .ensures)) (c .before .before .copy .ensures)
 
 pub put-fields-spec : {M : Type 1} → statement M
 put-fields-spec =

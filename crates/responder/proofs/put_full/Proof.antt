@@ -9,11 +9,12 @@ use Rattle.responder.proofs.put_full.Tie as tie
 returns : tie.Need-returns
 unfolding fullBytes
 returns c =
-    let a = c .before .before .before .before .before .before .before .before .before .before .before .before .before .before .before .before .before .before .before .args in
-    let list = c .before .before .before .before .before .before .before .before .before .before .before .before .before .before .before .profiles-part .ensures .holds in
-    let head = header-bytes (a .s .now) (a .p .size) list (c .before .before .before .before .before .before .before .before .before .before .before .before .before .before .current .ensures) (c .before .before .before .before .before .before .before .before .before .before .before .before .before .data-length .ensures) (c .before .before .before .before .before .before .before .before .before .before .before .before .new .ensures) in
-    rw (← head, ← zero-part (a .s .now) (a .sfn .0) (c .before .before .before .before .before .before .before .before .before .before .before .before .before .before .before .before .profile-count .ensures) list)
-    (then (then (c .before .before .before .before .before .before .before .before .before .before .put-header .ensures) (c .before .before .before .before .before .before .put-zero-part .ensures)) (c .before .before .put-pieces .ensures))
+    let early = c .before .before .before .before .before .before .before .before .before in
+    let a = early .before .before .before .before .before .before .before .before .before .before .before .args in
+    let list = early .before .before .before .before .before .before .profiles-part .ensures .holds in
+    let head = header-bytes (a .s .now) (a .p .size) list (early .before .before .before .before .before .current .ensures) (early .before .before .before .before .data-length .ensures) (early .before .before .before .new .ensures) in
+    rw (← head, ← zero-part (a .s .now) (a .p .sfn .0) (early .before .before .before .before .before .before .before .profile-count .ensures) list)
+    (then (then (early .before .put-header .ensures) (c .before .before .before .before .before .before .put-zero-part .ensures)) (c .before .before .put-pieces .ensures))
 
 pub put-full-spec : {M : Type 1} → statement M
 put-full-spec =

@@ -20,9 +20,6 @@ abbrev μ-loop : tie.MeasureT-loop
 loop-holds : tie.Need-loop-holds Inv-loop μ-loop
 loop-holds c = (omega arith, omega arith, rw pieces-start (nothing (c .before .before .args .out .now) (c .before .before .args .at)))
 
-same-length : tie.Need-same-length Inv-loop μ-loop
-same-length c = kept (c .before .before .loop .inv .2)
-
 returns : tie.Need-returns Inv-loop μ-loop
 returns c = let a = c .before .before .before .before .before .args in full-stop (a .rt) (stored (a .lay) (a .s .now)) (a .from) (a .to) (c .before .before .loop .i) (c .before .before .loop .inv .2) (c .if1 .taken) (omega arith) (c .before .before .loop .inv .0)
 
@@ -30,9 +27,6 @@ loop-again : tie.Need-loop-again Inv-loop μ-loop
 loop-again c =
     let a = c .before .before .before .before .before .before .before .before .before .args in
     (omega arith, omega arith, rw (pieces-more (a .rt) (stored (a .lay) (a .s .now)) (a .from) (c .before .before .before .before .before .before .loop .i) (c .before .before .before .before .before .before .loop .inv .0)) (then (c .before .before .before .before .before .before .loop .inv .2) (c .before .before .put-slowly .ensures)))
-
-same-length-2 : tie.Need-same-length-2 Inv-loop μ-loop
-same-length-2 c = kept (c .before .loop .inv .2)
 
 returns-2 : tie.Need-returns-2 Inv-loop μ-loop
 returns-2 c =
@@ -42,6 +36,4 @@ returns-2 c =
     rw (← e) (c .before .loop .inv .2)
 
 pub put-rest-spec : {M : Type 1} → statement M
-put-rest-spec =
-    tie.close
-    (tie.spec Inv-loop μ-loop loop-holds same-length returns (λ c κs. search needs) (λ c. search needs) (λ c. search needs) loop-again same-length-2 returns-2)
+put-rest-spec = tie.close (tie.spec Inv-loop μ-loop loop-holds (λ c. kept (c .before .before .loop .inv .2)) returns (λ c κs. search needs) (λ c. search needs) (λ c. search needs) loop-again (λ c. kept (c .before .loop .inv .2)) returns-2)

@@ -23,8 +23,9 @@ place4-requires c κs =
 
 returns-2 : tie.Need-returns-2
 returns-2 c =
-    let a = c .before .before .before .before .before .before .before .before .before .before .before .before .before .args in
-    whole-body (stored (a .lay) (a .s .now)) (a .i) (a .body) (a .len) (a .body + 4 - a .body) (omega arith) (c .before .before .before .before .before .before .before .before .before .put-head .ensures) (c .before .before .place4 .ensures)
+    let early = c .before .before .before .before .before .before .before .before .before in
+    let a = early .before .before .before .before .args in
+    whole-body (stored (a .lay) (a .s .now)) (a .i) (a .body) (a .len) (a .body + 4 - a .body) (omega arith) (early .put-head .ensures) (c .before .before .place4 .ensures)
 
 place-requires : tie.Need-place-requires
 place-requires c κs =

@@ -4,9 +4,6 @@ use borrow.Author.Needs.{needs}
 use Rattle.responder.proofs.taken.Statement.{statement}
 use Rattle.responder.proofs.taken.Tie as tie
 
-returns : tie.Need-returns
-unfolding planOf
-returns c = rw (c .wanted-end .ensures, c .before .feature-count .ensures)
-
 pub taken-spec : {M : Type 1} → statement M
-taken-spec = tie.close (tie.spec (λ c κs. search needs) (λ c κs. search needs) returns)
+unfolding planOf
+taken-spec = tie.close (tie.spec (λ c κs. search needs) (λ c κs. search needs) (λ c. rw (c .wanted-end .ensures, c .before .feature-count .ensures)))

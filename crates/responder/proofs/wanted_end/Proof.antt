@@ -6,12 +6,6 @@ use borrow.Author.Needs.{needs}
 use Rattle.responder.proofs.wanted_end.Statement.{statement}
 use Rattle.responder.proofs.wanted_end.Tie as tie
 
-returns : tie.Need-returns
-returns c = search end-all
-
-returns-2 : tie.Need-returns-2
-returns-2 c = search end-none
-
 returns-3 : tie.Need-returns-3
 returns-3 c = let a = c .before .before .before .before .before .before .before .args in sym (end-one (stored (a .lay) (a .s .now)) (a .n) (a .sfn .0) (a .from) (a .rt) (c .before .before .before .before .before .if1 .left) (c .before .before .before .before .if2 .left) (cc))
 
@@ -19,5 +13,4 @@ returns-4 : tie.Need-returns-4
 returns-4 c = let a = c .before .before .before .before .before .before .before .args in sym (end-other (stored (a .lay) (a .s .now)) (a .n) (a .sfn .0) (a .from) (a .rt) (c .before .before .before .before .before .if1 .left) (c .before .before .before .before .if2 .left) (λ z. c .if3 .left (c .before .before .before .feature-at .ensures ∙ z)))
 
 pub wanted-end-spec : {M : Type 1} → statement M
-wanted-end-spec =
-    tie.close (tie.spec returns returns-2 (λ c κs. search needs) (λ c. search needs) returns-3 returns-4)
+wanted-end-spec = tie.close (tie.spec (λ c. search end-all) (λ c. search end-none) (λ c κs. search needs) (λ c. search needs) returns-3 returns-4)

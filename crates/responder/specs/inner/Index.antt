@@ -41,6 +41,11 @@ wholeBytes s i body len = headBytes (entryOf s i) ++ take len (drop body (s .byt
 unfoldable pub foundBytes : (rt : ℕ) (s : Sheet) (i f body len : ℕ) → List ℕ
 foundBytes rt s i f body len = elim (skips rt f) [ true ↦ [] | false ↦ wholeBytes s i body len ]
 
+-- what is written of it, where the walk stops before it and where it goes on
+unfoldable pub going : (stops : Bool) → List ℕ → List ℕ
+going true bs = []
+going false bs = bs
+
 -- those of k entries from an index on
 unfoldable pub pieces : (rt : ℕ) (s : Sheet) (from k : ℕ) → List ℕ
 pieces rt s from zero = []
@@ -49,6 +54,9 @@ pieces rt s from (suc k) = pieces rt s from k ++ piece rt s (from + k)
 -- how many bytes they are
 unfoldable pub pieceSize : (rt : ℕ) (s : Sheet) (i : ℕ) → ℕ
 pieceSize rt s i = elim (skips rt (flags s i)) [ true ↦ 0 | false ↦ 4 + bodyLength s i ]
+
+unfoldable pub foundSize : (rt f len : ℕ) → ℕ
+foundSize rt f len = elim (skips rt f) [ true ↦ 0 | false ↦ 4 + len ]
 
 unfoldable pub piecesSize : (rt : ℕ) (s : Sheet) (from k : ℕ) → ℕ
 piecesSize rt s from zero = 0
@@ -90,11 +98,11 @@ takenSize s rt sfn = zeroSize (s .bytes) sfn + entriesSize rt s (takenFrom s sfn
 
 -- the entries that are taken where those wanted start at one, with so many bytes
 unfoldable pub planOf : (s : Sheet) (rt sfn from size : ℕ) → Plan
-planOf s rt sfn from size = record { from = from; to = wantedEnd rt s (featureCount s) sfn from; size = size }
+planOf s rt sfn from size = record { rt = rt; sfn = record { 0 = sfn }; from = from; to = wantedEnd rt s (featureCount s) sfn from; size = size }
 
 -- the whole response that a plan takes; Data Length keeps its four bytes
-unfoldable pub fullBytes : (s : Sheet) (rt sfn : ℕ) (p : Plan) → List ℕ
-fullBytes s rt sfn p = header ((p .size + 4) % 2 ^ 32) (currentProfile (profilesOf (profilesPart s))) ++ zeroPart (s .bytes) sfn ++ pieces rt s (p .from) (p .to - p .from)
+unfoldable pub fullBytes : (s : Sheet) (p : Plan) → List ℕ
+fullBytes s p = header ((p .size + 4) % 2 ^ 32) (currentProfile (profilesOf (profilesPart s))) ++ zeroPart (s .bytes) (p .sfn .0) ++ pieces (p .rt) s (p .from) (p .to - p .from)
 
 -- how many bytes of it are due
 unfoldable pub limit : (a size : ℕ) → ℕ

@@ -13,9 +13,6 @@ Inv-loop image from size₀ at₀ size at = Counted image from size at
 abbrev μ-loop : tie.MeasureT-loop
 μ-loop image from size₀ at₀ size at = length image - at
 
-loop-holds : tie.Need-loop-holds Inv-loop μ-loop
-loop-holds c = counted-start _ _ _ (c .first-with .ensures .0)
-
 sub-size : tie.Need-sub-size Inv-loop μ-loop
 sub-size c =
     let l = c .before .loop-test .taken in
@@ -37,10 +34,11 @@ loop-less c =
 loop-again : tie.Need-loop-again Inv-loop μ-loop
 loop-again c = counted-more _ _ _ (c .before .before .before .loop .inv) (c .before .before .loop-test .taken) (c .before .first-with2 .ensures .0) (c .first-with3 .ensures .0)
 
+loop-holds : tie.Need-loop-holds Inv-loop μ-loop
+loop-holds c = counted-start _ _ _ (c .first-with .ensures .0)
+
 returns : tie.Need-returns Inv-loop μ-loop
 returns c = counted-end _ (c .before .loop .inv) (c .loop-test .left)
 
 pub currents-size-spec : {M : Type 1} → statement M
-currents-size-spec =
-    tie.close
-    (tie.spec Inv-loop μ-loop (λ c κs. search needs) loop-holds (λ c κs. search needs) sub-size add-size (λ c κs. search needs) loop-less loop-again returns)
+currents-size-spec = tie.close (tie.spec Inv-loop μ-loop (λ c κs. search needs) loop-holds (λ c κs. search needs) sub-size add-size (λ c κs. search needs) loop-less loop-again returns)

@@ -15,19 +15,5 @@ Inv-loop image sfn at₀ at = firstAt (fromAt (sfn .0) image) image 8 ≡ firstA
 abbrev μ-loop : tie.MeasureT-loop
 μ-loop image sfn at₀ at = length image - at
 
-returns : tie.Need-returns Inv-loop μ-loop
-returns c = search from-found
-
-loop-less : tie.Need-loop-less Inv-loop μ-loop
-loop-less c = search from-less
-
-loop-again : tie.Need-loop-again Inv-loop μ-loop
-loop-again c = search from-go
-
-returns-2 : tie.Need-returns-2 Inv-loop μ-loop
-returns-2 c = search seek-end
-
 pub first-from-spec : {M : Type 1} → statement M
-first-from-spec =
-    tie.close
-    (tie.spec Inv-loop μ-loop (λ c. refl) (λ c κs. search needs) returns (λ c κs. search needs) loop-less loop-again returns-2)
+first-from-spec = tie.close (tie.spec Inv-loop μ-loop (λ c. refl) (λ c κs. search needs) (λ c. search from-found) (λ c κs. search needs) (λ c. search from-less) (λ c. search from-go) (λ c. search seek-end))

@@ -16,19 +16,5 @@ Inv-loop image from on at₀ at = firstAt (currentAt on image) image from ≡ fi
 abbrev μ-loop : tie.MeasureT-loop
 μ-loop image from on at₀ at = length image - at
 
-returns : tie.Need-returns Inv-loop μ-loop
-returns c = (search with-found, omega arith)
-
-loop-less : tie.Need-loop-less Inv-loop μ-loop
-loop-less c = search from-less
-
-loop-again : tie.Need-loop-again Inv-loop μ-loop
-loop-again c = search with-go
-
-returns-2 : tie.Need-returns-2 Inv-loop μ-loop
-returns-2 c = (search seek-end, omega arith)
-
 pub first-with-spec : {M : Type 1} → statement M
-first-with-spec =
-    tie.close
-    (tie.spec Inv-loop μ-loop (λ c. refl) (λ c κs. search needs) (λ c κs. search needs) returns (λ c κs. search needs) loop-less loop-again returns-2)
+first-with-spec = tie.close (tie.spec Inv-loop μ-loop (λ c. refl) (λ c κs. search needs) (λ c κs. search needs) (λ c. (search with-found, omega arith)) (λ c κs. search needs) (λ c. search from-less) (λ c. search with-go) (λ c. (search seek-end, omega arith)))

@@ -5,9 +5,6 @@ use borrow.Author.Needs.{needs}
 use Rattle.rom.proofs.less_passed.Statement.{statement}
 use Rattle.rom.proofs.less_passed.Tie as tie
 
-returns : tie.Need-returns
-unfolding lessPassed
-returns c = omega arith
-
 pub less-passed-spec : {M : Type 1} → statement M
-less-passed-spec = tie.close (tie.spec (λ c κs. search needs) (λ c κs. search needs) (λ c κs. search needs) (λ c. search needs) returns)
+unfolding lessPassed
+less-passed-spec = tie.close (tie.spec (λ c κs. search needs) (λ c κs. search needs) (λ c κs. search needs) (λ c. search needs) (λ c. omega arith))

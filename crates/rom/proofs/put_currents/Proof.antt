@@ -14,15 +14,6 @@ Inv-loop out₀ at image from next₀ place₀ out next place = Copied out₀ at
 abbrev μ-loop : tie.MeasureT-loop
 μ-loop out₀ at image from next₀ place₀ out next place = length image - place
 
-loop-holds : tie.Need-loop-holds Inv-loop μ-loop
-loop-holds c = copied-start _ _ _ _ _ (c .first-with .ensures .0)
-
-same-length : tie.Need-same-length Inv-loop μ-loop
-same-length c = kept (c .before .before .loop .inv .wrote)
-
-returns : tie.Need-returns Inv-loop μ-loop
-returns c = copied-full (c .before .before .loop .inv) (c .if1 .taken)
-
 sub-part : tie.Need-sub-part Inv-loop μ-loop
 sub-part c =
     let l = c .before .before .before .loop-test .taken in
@@ -41,13 +32,5 @@ loop-again c =
     copied-more _ _ _ _ _ (b .before .before .before .loop .inv) (b .before .before .loop-test .taken) (b .first-with2 .ensures .0) (c .first-with3 .ensures .0) (c .before .before .before .before .part .ensures .holds)
     (c .before .before .before .copy .ensures)
 
-same-length-2 : tie.Need-same-length-2 Inv-loop μ-loop
-same-length-2 c = kept (c .before .loop .inv .wrote)
-
-returns-2 : tie.Need-returns-2 Inv-loop μ-loop
-returns-2 c = copied-end (c .before .loop .inv) (c .loop-test .left)
-
 pub put-currents-spec : {M : Type 1} → statement M
-put-currents-spec =
-    tie.close
-    (tie.spec Inv-loop μ-loop (λ c κs. search needs) loop-holds same-length returns (λ c κs. search needs) sub-part (λ c κs. search needs) (λ c κs. search needs) (λ c κs. search needs) loop-less loop-again same-length-2 returns-2)
+put-currents-spec = tie.close (tie.spec Inv-loop μ-loop (λ c κs. search needs) (λ c. copied-start _ _ _ _ _ (c .first-with .ensures .0)) (λ c. kept (c .before .before .loop .inv .wrote)) (λ c. copied-full (c .before .before .loop .inv) (c .if1 .taken)) (λ c κs. search needs) sub-part (λ c κs. search needs) (λ c κs. search needs) (λ c κs. search needs) loop-less loop-again (λ c. kept (c .before .loop .inv .wrote)) (λ c. copied-end (c .before .loop .inv) (c .loop-test .left)))

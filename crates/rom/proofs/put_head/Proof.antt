@@ -19,8 +19,9 @@ returns c =
 returns-2 : tie.Need-returns-2
 unfolding headOf statedLength
 returns-2 c =
+    let early = c .before .before .before .before .before .before .before .before .before in
     let b = c .before .before .before .before .before .before .before .before in
-    let rest = ap (spell 4) (c .before .before .before .inside4 .ensures) ∙ spell-field 4 (c .before .before .before .before .before .before .before .before .before .before .before .before .before .before .args .image .now) 4 (λ j. c .before .before .before .before .before .before .before .before .before .before .before .before .shared-slice-known .given j .fits) (omega arith) in
+    let rest = ap (spell 4) (c .before .before .before .inside4 .ensures) ∙ spell-field 4 (early .before .before .before .before .before .args .image .now) 4 (λ j. early .before .before .before .shared-slice-known .given j .fits) (omega arith) in
     rw (← b .before .before .before .get4 .ensures, ← b .before .before .less-passed .ensures) (then (b .put4 .ensures) (written-as rest (c .before .before .put42 .ensures)))
 
 pub put-head-spec : {M : Type 1} → statement M

@@ -22,6 +22,4 @@ unfolding senseOf key code pointer
 returns-4 c = c .fixed4 .ensures ∙ ap senseOf (sym (c .before .enum-told4 .given .1))
 
 pub bytes-of-spec : {M : Type 1} → statement M
-bytes-of-spec =
-    tie.close
-    (tie.spec (λ c. search needs) (λ c κs. search needs) (λ c. search needs) (λ c κs. search needs) (λ c. search needs) (λ c κs. search needs) (λ c. search needs) (λ c κs. search needs) returns returns-2 returns-3 returns-4)
+bytes-of-spec = tie.close (tie.spec (λ c. search needs) (λ c κs. search needs) (λ c. search needs) (λ c κs. search needs) (λ c. search needs) (λ c κs. search needs) (λ c. search needs) (λ c κs. search needs) returns returns-2 returns-3 returns-4)

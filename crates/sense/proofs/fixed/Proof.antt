@@ -4,9 +4,6 @@ use Rattle.sense.specs.Sense.{fixed}
 use Rattle.sense.proofs.fixed.Statement.{statement}
 use Rattle.sense.proofs.fixed.Tie as tie
 
-returns : tie.Need-returns
-unfolding fixed
-returns c = search needs
-
 pub fixed-spec : {M : Type 1} → statement M
-fixed-spec = tie.close (tie.spec returns)
+unfolding fixed
+fixed-spec = tie.close (tie.spec (λ c. search needs))

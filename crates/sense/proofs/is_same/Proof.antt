@@ -14,25 +14,5 @@ Inv-loop a b i₀ i = (length a ≡ length b) × (same a b ≡ same (drop i a) (
 abbrev μ-loop : tie.MeasureT-loop
 μ-loop a b i₀ i = length a - i
 
-returns : tie.Need-returns Inv-loop μ-loop
-returns c = search same-lengths
-
-loop-holds : tie.Need-loop-holds Inv-loop μ-loop
-loop-holds c = (search needs, refl)
-
-returns-2 : tie.Need-returns-2 Inv-loop μ-loop
-returns-2 c = search same-differs
-
-loop-less : tie.Need-loop-less Inv-loop μ-loop
-loop-less c = search needs
-
-loop-again : tie.Need-loop-again Inv-loop μ-loop
-loop-again c = (search needs, search same-next)
-
-returns-3 : tie.Need-returns-3 Inv-loop μ-loop
-returns-3 c = search same-end
-
 pub is-same-spec : {M : Type 1} → statement M
-is-same-spec =
-    tie.close
-    (tie.spec Inv-loop μ-loop returns loop-holds (λ c κs. search needs) (λ c κs. search needs) returns-2 (λ c. search needs) loop-less loop-again returns-3)
+is-same-spec = tie.close (tie.spec Inv-loop μ-loop (λ c. search same-lengths) (λ c. (search needs, refl)) (λ c κs. search needs) (λ c κs. search needs) (λ c. search same-differs) (λ c. search needs) (λ c. search needs) (λ c. (search needs, search same-next)) (λ c. search same-end))

@@ -24,7 +24,7 @@ unfolding given kindOf
 loop-holds c = (omega arith, refl)
 
 line-at-requires : tie.Need-line-at-requires Inv-loop μ-loop
-unfolding given
+unfolding given kindOf
 line-at-requires c κs = search needs
 
 returns : tie.Need-returns Inv-loop μ-loop
@@ -32,11 +32,11 @@ unfolding given kindOf
 returns c = search (pick-found, eq-eqb)
 
 add-i : tie.Need-add-i Inv-loop μ-loop
-unfolding given
+unfolding given kindOf
 add-i c = search needs
 
 loop-less : tie.Need-loop-less Inv-loop μ-loop
-unfolding given
+unfolding given kindOf
 loop-less c = search needs
 
 loop-again : tie.Need-loop-again Inv-loop μ-loop
@@ -48,6 +48,4 @@ unfolding given kindOf
 returns-2 c = search pick-none
 
 pub kind-of-spec : {M : Type 1} → statement M
-kind-of-spec =
-    tie.close
-    (tie.spec Inv-loop μ-loop loop-holds line-at-requires returns add-i loop-less loop-again returns-2)
+kind-of-spec = tie.close (tie.spec Inv-loop μ-loop loop-holds line-at-requires returns add-i loop-less loop-again returns-2)

@@ -12,18 +12,8 @@ Inv-loop lay s sfn from to low₀ high₀ low high = Turning (stored lay s) (sfn
 abbrev μ-loop : tie.MeasureT-loop
 μ-loop lay s sfn from to low₀ high₀ low high = high - low
 
-loop-holds : tie.Need-loop-holds Inv-loop μ-loop
-loop-holds c = search turning-start
-
-loop-less : tie.Need-loop-less Inv-loop μ-loop
-loop-less c = rw (c .halved .ensures) (half-smaller _ _ _ _ (c .before .loop-test .taken))
-
 loop-again : tie.Need-loop-again Inv-loop μ-loop
 loop-again c = turning-more (c .before .before .loop .inv) (c .before .loop-test .taken) (c .halved .ensures)
 
-returns : tie.Need-returns Inv-loop μ-loop
-returns c = turning-end (c .before .loop .inv) (c .loop-test .left)
-
 pub closed-spec : {M : Type 1} → statement M
-closed-spec =
-    tie.close (tie.spec Inv-loop μ-loop loop-holds (λ c κs. search needs) loop-less loop-again returns)
+closed-spec = tie.close (tie.spec Inv-loop μ-loop (λ c. search turning-start) (λ c κs. search needs) (λ c. rw (c .halved .ensures) (half-smaller _ _ _ _ (c .before .loop-test .taken))) loop-again (λ c. turning-end (c .before .loop .inv) (c .loop-test .left)))

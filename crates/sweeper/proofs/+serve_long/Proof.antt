@@ -3,12 +3,12 @@ use Prim.Native.Nat.{ℕ, _<_}
 use borrow.Author.Needs.{needs}
 use borrow.Fn.Kinds.{In}
 use borrow.Fn.PlainCycle.{Measures, is, falls, and}
-use Rattle.sheets.proofs.Long.{lent, one-less}
+use Rattle.program_words.proofs.Long.{lent, one-less}
 use Rattle.sweeper.proofs.serve_long.Reads as serve-long
 use Rattle.sweeper.proofs.serve_long.Kinds as serve-long-kinds
 use Rattle.sweeper.proofs.+serve_long.Lts-serve_long as serve-long-lts
 use Rattle.sweeper.proofs.sweep_input.Reads as sweep-input-reads
-use Rattle.streams.proofs.mark_end.Reads as mark-end-reads
+use Rattle.program_io.proofs.streams.mark_end.Reads as mark-end-reads
 use Rattle.sweeper.proofs.+serve_long.{statement}
 use Rattle.sweeper.proofs.+serve_long.Tie.{close}
 

@@ -3,7 +3,9 @@
 
 use against::made::captures::{capture_of, example, long_bodies, no_bodies};
 use against::made::responses::{long_faultless, response_of, ruled_parts, sent, MOST};
-use against::made::sheets::{body, every_feature, in_a_row, longest, profiles, sheet_of, E};
+use against::made::sheets::{
+    body, every_feature, in_a_row, longest, profiles, profiles_in_no_order, sheet_of, E,
+};
 use against::made::Part;
 use against::run::told;
 use against::timing::{head, line, Case, Effort};
@@ -14,14 +16,20 @@ use second::fast::bench::bench;
 use second::fast::checks::{check_descriptors, check_profile};
 use second::fast::columns;
 use second::fast::command::{respond, respond_checked};
+use second::fast::convert::{to_columns, to_rows};
+use second::fast::find::find;
 use second::fast::import::import;
+use second::fast::lister::list;
 use second::fast::load::{load, load_columns};
 use second::fast::mend::mend;
 use second::fast::reading::read;
 use second::fast::rom;
 use second::fast::sheet::check;
+use second::fast::sweep::take;
 use second::refusal::Refusal;
+use second::sense;
 use second::sheet::Layout;
+use second::sweep::Record;
 use second::wire::{Feature, Profile};
 
 const USAGE: &str = "usage: benchmarks [--rounds N] [--milliseconds N] [--only WORDS]
@@ -32,6 +40,8 @@ const USAGE: &str = "usage: benchmarks [--rounds N] [--milliseconds N] [--only W
 type Plain = fn(&[u8], &[u8], &mut [u8]) -> Result<usize, u8>;
 
 type PlainLoad = fn(&[u8], &[Feature], &[Profile], &mut [u8]) -> Result<usize, Refusal>;
+
+type PlainConversion = fn(&[u8], &mut [u8]) -> Result<usize, Refusal>;
 
 /// What the command line asks for.
 struct Run {
@@ -60,6 +70,11 @@ fn main() {
     checks_of_responses(&run);
     mendings(&run);
     imports(&run);
+    conversions(&run);
+    searches_in_responses(&run);
+    listings(&run);
+    takings(&run);
+    commands_and_sense(&run);
 }
 
 impl Run {
@@ -96,6 +111,11 @@ fn many_profiles() -> Vec<u8> {
     sheet_of(&profiles(63, 63), &[])
 }
 
+/// The same in no order.
+fn mixed_profiles() -> Vec<u8> {
+    sheet_of(&profiles_in_no_order(63, 63), &[])
+}
+
 /// A sheet of 4,000 features with bodies of 4 bytes.
 fn small_bodies() -> Vec<u8> {
     sheet_of(&profiles(2, 1), &in_a_row(4_000, 4))
@@ -103,11 +123,12 @@ fn small_bodies() -> Vec<u8> {
 
 /// Commands with the sheet's check and without.
 fn commands(run: &Run) {
-    let (long, profiles, small) =
-        (sheet_of(&profiles(2, 1), &in_a_row(250, 252)), many_profiles(), small_bodies());
-    let cases: [(&str, &[u8], u16, Option<usize>); 4] = [
+    let long = sheet_of(&profiles(2, 1), &in_a_row(250, 252));
+    let (profiles, mixed, small) = (many_profiles(), mixed_profiles(), small_bodies());
+    let cases: [(&str, &[u8], u16, Option<usize>); 5] = [
         ("command to sheet E", &E, 44, None),
         ("command to 63 profiles", &profiles, 65_535, None),
+        ("command to 63 profiles in no order", &mixed, 65_535, None),
         ("command to 4,000 features of 4 bytes", &small, 65_535, None),
         ("command to 250 features of 252 bytes", &long, 65_535, Some(252)),
     ];
@@ -260,6 +281,7 @@ fn checks_of_sheets(run: &Run) {
     let sheets = [
         ("sheet E", E.to_vec()),
         ("63 profiles", many_profiles()),
+        ("63 profiles in no order", mixed_profiles()),
         ("4,000 features of 4 bytes", small_bodies()),
         ("17,039,356 bytes", longest()),
     ];
@@ -363,23 +385,16 @@ fn sheets_in_columns(run: &Run) {
     let rows = sheet_of(&profiles(2, 1), &parts);
     let sheet = rearranged(Layout::Columns, Layout::Rows, &rows);
     for rt in 0..2 {
-        let command = command(rt, 65_535, 65_535);
-        run.time(Case {
-            name: format!(
-                "command from the last of 65535 features, RT {rt}, sheet accepted before, in columns"
-            ),
-            input: &sheet,
-            room: MOST,
-            bytes: respond(&rows, &command, &mut vec![0; MOST]).unwrap_or(0),
-            pieces: None,
-            proved: Box::new(move |sheet, out| {
-                told_by(
-                    |sent: &mut raw::Made| raw::respond_accepted(true, sheet, &command, out, sent),
-                    |sent| sent.bytes,
-                )
-            }),
-            plain: Box::new(move |sheet, out| columns::respond_checked(sheet, &command, out).unwrap_or(0)),
-        });
+        let name = format!("command from the last of 65535 features, RT {rt}");
+        time_accepted_in_columns(run, &name, &rows, &sheet, command(rt, 65_535, 65_535));
+    }
+    for (name, rows) in [("4,000 features of 4 bytes", small_bodies()), ("65,535 features", every_feature())]
+    {
+        let sheet = rearranged(Layout::Columns, Layout::Rows, &rows);
+        for (rt, allocation) in [(0, 65_535), (1, 65_535), (1, 20)] {
+            let name = format!("command to {name}, RT {rt}, allocation length {allocation}");
+            time_accepted_in_columns(run, &name, &rows, &sheet, command(rt, 0, allocation));
+        }
     }
     for (name, rows) in [("4,000 features of 4 bytes", small_bodies()), ("17,039,356 bytes", longest())] {
         run.time(Case {
@@ -403,6 +418,24 @@ fn sheets_in_columns(run: &Run) {
     for rt in 0..2 {
         time_sweep_in_columns(run, &sheet, rt, 1_000, sent_in_full(&rows, rt));
     }
+}
+
+/// Times a command to a sheet in columns that was accepted before.
+fn time_accepted_in_columns(run: &Run, name: &str, rows: &[u8], sheet: &[u8], command: [u8; 10]) {
+    run.time(Case {
+        name: format!("{name}, sheet accepted before, in columns"),
+        input: sheet,
+        room: MOST,
+        bytes: respond(rows, &command, &mut vec![0; MOST]).unwrap_or(0),
+        pieces: None,
+        proved: Box::new(move |sheet, out| {
+            told_by(
+                |sent: &mut raw::Made| raw::respond_accepted(true, sheet, &command, out, sent),
+                |sent| sent.bytes,
+            )
+        }),
+        plain: Box::new(move |sheet, out| columns::respond_checked(sheet, &command, out).unwrap_or(0)),
+    });
 }
 
 /// The search for one feature that is not there, another one each time, in rows and in columns; there is little else to these commands.
@@ -608,6 +641,7 @@ fn imports(run: &Run) {
     let captures = [
         ("sheet E's response", example(), None),
         ("63 profiles", sent(&many_profiles(), 0, 0, 65_535), None),
+        ("63 profiles in no order", sent(&mixed_profiles(), 0, 0, 65_535), None),
         ("4,000 features of 4 bytes", sent(&small_bodies(), 0, 0, 65_535), None),
         ("65,532 bytes, bodies of 252 bytes", sent(&long_bodies(), 0, 0, 65_535), Some(252)),
         ("65,532 bytes, no bodies", sent(&no_bodies(), 0, 0, 65_535), None),
@@ -623,6 +657,161 @@ fn imports(run: &Run) {
                 told_by(|made: &mut raw::Made| raw::import(capture, sheet, made), |made| made.bytes)
             }),
             plain: Box::new(|capture, sheet| import(capture, sheet).unwrap_or(0)),
+        });
+    }
+}
+
+/// Sheets laid out anew, both ways.
+fn conversions(run: &Run) {
+    let sides: [(&str, Layout, PlainConversion); 2] =
+        [("columns", Layout::Rows, to_columns), ("rows", Layout::Columns, to_rows)];
+    let sheets = [
+        ("sheet E", E.to_vec()),
+        ("4,000 features of 4 bytes", small_bodies()),
+        ("65,535 features", every_feature()),
+    ];
+    for (name, rows) in &sheets {
+        for (to, from, plain) in sides {
+            run.time(Case {
+                name: format!("{name} to {to}"),
+                input: &rearranged(from, Layout::Rows, rows),
+                room: rows.len(),
+                bytes: rows.len(),
+                pieces: None,
+                proved: Box::new(move |sheet, out| {
+                    let (laid, to_columns) = (from == Layout::Columns, from == Layout::Rows);
+                    told_by(
+                        |made: &mut raw::Made| raw::convert(laid, sheet, to_columns, out, made),
+                        |made| made.bytes,
+                    )
+                }),
+                plain: Box::new(move |sheet, out| plain(sheet, out).unwrap_or(0)),
+            });
+        }
+    }
+}
+
+/// Responses that are read and listed: the smallest, one with small bodies and one without.
+fn read_responses() -> [(&'static str, Vec<u8>); 3] {
+    [
+        ("sheet E's response", example()),
+        ("4,000 features of 4 bytes", sent(&small_bodies(), 0, 0, 65_535)),
+        ("65,532 bytes, no bodies", sent(&no_bodies(), 0, 0, 65_535)),
+    ]
+}
+
+/// A descriptor looked for in a fresh response that has it, and in one that lacks it, with the same one kept.
+fn searches_in_responses(run: &Run) {
+    for (name, response) in &read_responses() {
+        for (where_it_is, feature) in [("there", 3), ("nowhere", 65_535)] {
+            run.time(Case {
+                name: format!("a descriptor held, {where_it_is}, {name}"),
+                input: response,
+                room: 256,
+                bytes: response.len(),
+                pieces: None,
+                proved: Box::new(move |response, out| {
+                    raw::held(gcf::Feature(feature), response, response, out)
+                }),
+                plain: Box::new(move |response, out| {
+                    let found = find(Feature(feature), response, response);
+                    out[..found.len()].copy_from_slice(found);
+                    found.len()
+                }),
+            });
+        }
+    }
+}
+
+/// Listings of responses.
+fn listings(run: &Run) {
+    for (name, response) in &read_responses() {
+        run.time(Case {
+            name: format!("listing of {name}"),
+            input: response,
+            room: 250_000,
+            bytes: response.len(),
+            pieces: None,
+            proved: Box::new(|response, out| raw::list(response, out)),
+            plain: Box::new(|response, out| list(response, out)),
+        });
+    }
+}
+
+/// Responses taken by a sweep that has just begun.
+fn takings(run: &Run) {
+    for (name, response) in &read_responses() {
+        let allocation = 65_535;
+        let begun = raw::sweep_start(0, allocation).sweep;
+        let record = Record { allocation, ended: false, ..Record::refused() };
+        run.time(Case {
+            name: format!("sweep takes {name}"),
+            input: response,
+            room: response.len(),
+            bytes: response.len(),
+            pieces: None,
+            proved: Box::new(move |response, out| {
+                let step = raw::sweep_take(begun, response, out);
+                usize::from(step.refusal.number) + step.sweep.collected as usize
+            }),
+            plain: Box::new(move |response, out| {
+                let (number, after) = take(record, response, out);
+                usize::from(number) + after.collected
+            }),
+        });
+    }
+}
+
+/// A command built, and sense data made and read.
+fn commands_and_sense(run: &Run) {
+    for length in [10, 12] {
+        let (rt, sfn, allocation) = (1, 0x0105, 65_534);
+        run.time(Case {
+            name: format!("a command of {length} bytes built"),
+            input: &[],
+            room: length,
+            bytes: length,
+            pieces: None,
+            proved: Box::new(move |_, out| {
+                told_by(
+                    |made: &mut raw::Made| {
+                        raw::build_command(length, rt, gcf::Feature(sfn), allocation, out, made)
+                    },
+                    |made| made.bytes,
+                )
+            }),
+            plain: Box::new(move |_, out| {
+                Request { rt, sfn: Feature(sfn), allocation }.build(length, out).unwrap_or(0)
+            }),
+        });
+    }
+    for (name, number) in [("the opcode", 10), ("the sheet", 7)] {
+        let mut made = [0; 18];
+        let _ = sense::make(number, &mut made);
+        run.time(Case {
+            name: format!("sense data made for {name}"),
+            input: &[number],
+            room: 18,
+            bytes: 18,
+            pieces: None,
+            proved: Box::new(|number, out| {
+                told_by(|made: &mut raw::Made| raw::make_sense(number[0], out, made), |made| made.bytes)
+            }),
+            plain: Box::new(|number, out| sense::make(number[0], out).unwrap_or(0)),
+        });
+        run.time(Case {
+            name: format!("sense data read for {name}"),
+            input: &made,
+            room: 0,
+            bytes: 18,
+            pieces: None,
+            proved: Box::new(|sense, _| {
+                told_by(
+                    |meaning: &mut raw::Meaning| raw::read_sense(sense, meaning),
+                    |meaning| meaning.kind,
+                )
+            }),
+            plain: Box::new(|sense, _| sense::read(sense).map_or(0, |kind| kind as usize + 1)),
         });
     }
 }

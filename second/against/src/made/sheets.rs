@@ -48,7 +48,20 @@ pub fn body(length: usize) -> Vec<u8> {
 /// Features 1, 2 and so on, as many as wanted, with bodies of one length.
 pub fn in_a_row(count: u16, length: usize) -> Vec<Part> {
     let body = body(length);
-    (1..=count).map(|number| (number, [3, 1, 0][usize::from(number) % 3], body.clone())).collect()
+    (1..=count).map(|number| (number, [3, 1, 0][scattered(number) % 3], body.clone())).collect()
+}
+
+/// A number for each number that shows no period: what a processor would learn is not there to be learnt.
+fn scattered(number: u16) -> usize {
+    let mixed = u32::from(number).wrapping_mul(0x9E37_79B1);
+    ((mixed ^ mixed >> 15).wrapping_mul(0x85EB_CA77) >> 13) as usize
+}
+
+/// So many profiles in no order, of which one is current.
+pub fn profiles_in_no_order(count: u16, current: u16) -> Vec<(u16, bool)> {
+    let mut listed = profiles(count, current);
+    listed.sort_by_key(|(number, _)| scattered(*number));
+    listed
 }
 
 /// Features whose numbers are near the edges of a byte and of the field.

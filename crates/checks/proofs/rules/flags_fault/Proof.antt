@@ -4,9 +4,6 @@ use Rattle.checks.specs.Rules.{flagsFault}
 use Rattle.checks.proofs.rules.flags_fault.Statement.{statement}
 use Rattle.checks.proofs.rules.flags_fault.Tie as tie
 
-returns : tie.Need-returns
-unfolding flagsFault
-returns c = cc
-
 pub flags-fault-spec : {M : Type 1} → statement M
-flags-fault-spec = tie.close (tie.spec (λ c κs. search needs) returns)
+unfolding flagsFault
+flags-fault-spec = tie.close (tie.spec (λ c κs. search needs) (λ c. cc))

@@ -20,21 +20,13 @@ returns : tie.Need-returns Inv-loop μ-loop
 unfolding profilesFault
 returns c = search tests
 
-loop-holds : tie.Need-loop-holds Inv-loop μ-loop
-loop-holds c = (omega arith, search first-start)
-
 returns-2 : tie.Need-returns-2 Inv-loop μ-loop
 unfolding profilesFault
 returns-2 c = search (tests, first-stop)
-
-loop-again : tie.Need-loop-again Inv-loop μ-loop
-loop-again c = (omega arith, search first-go)
 
 returns-3 : tie.Need-returns-3 Inv-loop μ-loop
 unfolding profilesFault
 returns-3 c = search (tests, first-none)
 
 pub profiles-fault-spec : {M : Type 1} → statement M
-profiles-fault-spec =
-    tie.close
-    (tie.spec Inv-loop μ-loop returns loop-holds (λ c κs. search needs) returns-2 (λ c. search needs) (λ c. search needs) loop-again returns-3)
+profiles-fault-spec = tie.close (tie.spec Inv-loop μ-loop returns (λ c. (omega arith, search first-start)) (λ c κs. search needs) returns-2 (λ c. search needs) (λ c. search needs) (λ c. (omega arith, search first-go)) returns-3)

@@ -5,9 +5,6 @@ use Rattle.command.specs.Command.{packet}
 use Rattle.command.proofs.Command.packet.Statement.{statement}
 use Rattle.command.proofs.Command.packet.Tie as tie
 
-returns : tie.Need-returns
-unfolding packet spell
-returns c = search needs
-
 pub packet-spec : {M : Type 1} → statement M
-packet-spec = tie.close (tie.spec (λ c. search needs) (λ c. search needs) (λ c. search needs) (λ c. search needs) returns)
+unfolding packet spell
+packet-spec = tie.close (tie.spec (λ c. search needs) (λ c. search needs) (λ c. search needs) (λ c. search needs) (λ c. search needs))

@@ -4,9 +4,6 @@ use borrow.Author.Needs.{needs}
 use Rattle.command.proofs.Command.read.Statement.{statement}
 use Rattle.command.proofs.Command.read.Tie as tie
 
-returns : tie.Need-returns
-unfolding commandOf rtOf sfnOf allocationOf
-returns c = cc
-
 pub read-spec : {M : Type 1} → statement M
-read-spec = tie.close (tie.spec (λ c κs. search needs) (λ c κs. search needs) (λ c κs. search needs) returns)
+unfolding commandOf rtOf sfnOf allocationOf
+read-spec = tie.close (tie.spec (λ c κs. search needs) (λ c κs. search needs) (λ c κs. search needs) (λ c. cc))

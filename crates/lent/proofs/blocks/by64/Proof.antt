@@ -14,22 +14,8 @@ Inv-loop s out₀ i₀ out i = Same s i out × (i ≤ length s)
 abbrev μ-loop : tie.MeasureT-loop
 μ-loop s out₀ i₀ out i = length s - i
 
-loop-holds : tie.Need-loop-holds Inv-loop μ-loop
-loop-holds c = (same-start _ _ (c .before .before .pre .0), omega arith)
-
-block-requires : tie.Need-block64-requires Inv-loop μ-loop
-block-requires c κs = (c .before .before .loop .inv .0, omega arith)
-
-loop-again : tie.Need-loop-again Inv-loop μ-loop
-loop-again c = (c .before .before .block64 .ensures, omega arith)
-
 block-requires-2 : tie.Need-block64-requires-2 Inv-loop μ-loop
 block-requires-2 c κs = (same-less (length (c .before .before .before .before .before .args .s .now) - 64) (omega arith) (c .before .before .loop .inv .0), omega arith)
 
-returns : tie.Need-returns Inv-loop μ-loop
-returns c = same-end (omega arith) (c .before .before .block642 .ensures)
-
 pub by64-spec : {M : Type 1} → statement M
-by64-spec =
-    tie.close
-    (tie.spec Inv-loop μ-loop loop-holds (λ c. omega arith) block-requires (λ c. omega arith) (λ c. omega arith) loop-again (λ c. omega arith) block-requires-2 (λ c. search needs) returns)
+by64-spec = tie.close (tie.spec Inv-loop μ-loop (λ c. (same-start _ _ (c .before .before .pre .0), omega arith)) (λ c. omega arith) (λ c κs. (c .before .before .loop .inv .0, omega arith)) (λ c. omega arith) (λ c. omega arith) (λ c. (c .before .before .block64 .ensures, omega arith)) (λ c. omega arith) block-requires-2 (λ c. search needs) (λ c. same-end (omega arith) (c .before .before .block642 .ensures)))

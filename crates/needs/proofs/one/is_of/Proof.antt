@@ -4,11 +4,5 @@ use Rattle.needs.proofs.Alone.{and-yes, and-no}
 use Rattle.needs.proofs.one.is_of.Statement.{statement}
 use Rattle.needs.proofs.one.is_of.Tie as tie
 
-returns : tie.Need-returns
-returns c = search and-yes
-
-returns-2 : tie.Need-returns-2
-returns-2 c = search and-no
-
 pub is-of-spec : {M : Type 1} → statement M
-is-of-spec = tie.close (tie.spec (λ c κs. search needs) returns returns-2)
+is-of-spec = tie.close (tie.spec (λ c κs. search needs) (λ c. search and-yes) (λ c. search and-no))

@@ -4,11 +4,5 @@ use Rattle.needs.proofs.Alone.{none-needed, none-free}
 use Rattle.needs.proofs.one.judged_absent.Statement.{statement}
 use Rattle.needs.proofs.one.judged_absent.Tie as tie
 
-returns : tie.Need-returns
-returns c = search none-needed
-
-returns-2 : tie.Need-returns-2
-returns-2 c = search none-free
-
 pub judged-absent-spec : {M : Type 1} → statement M
-judged-absent-spec = tie.close (tie.spec (λ c κs. search needs) returns returns-2)
+judged-absent-spec = tie.close (tie.spec (λ c κs. search needs) (λ c. search none-needed) (λ c. search none-free))

@@ -4,11 +4,5 @@ use Rattle.needs.proofs.Alone.{by-line, by-none}
 use Rattle.needs.proofs.one.judged_at.Statement.{statement}
 use Rattle.needs.proofs.one.judged_at.Tie as tie
 
-returns : tie.Need-returns
-returns c = search by-line
-
-returns-2 : tie.Need-returns-2
-returns-2 c = search by-none
-
 pub judged-at-spec : {M : Type 1} → statement M
-judged-at-spec = tie.close (tie.spec (λ c κs. search needs) (λ c κs. search needs) returns (λ c κs. search needs) returns-2)
+judged-at-spec = tie.close (tie.spec (λ c κs. search needs) (λ c κs. search needs) (λ c. search by-line) (λ c κs. search needs) (λ c. search by-none))

@@ -20,22 +20,5 @@ Inv-loop column need feature s at₀ at =
 abbrev μ-loop : tie.MeasureT-loop
 μ-loop column need feature s at₀ at = length s - at
 
-loop-holds : tie.Need-loop-holds Inv-loop μ-loop
-loop-holds c = search one-start
-
-returns : tie.Need-returns Inv-loop μ-loop
-returns c = search one-here
-
-loop-less : tie.Need-loop-less Inv-loop μ-loop
-loop-less c = search from-less
-
-loop-again : tie.Need-loop-again Inv-loop μ-loop
-loop-again c = search one-next
-
-returns-2 : tie.Need-returns-2 Inv-loop μ-loop
-returns-2 c = search one-none
-
 pub judged-in-spec : {M : Type 1} → statement M
-judged-in-spec =
-    tie.close
-    (tie.spec Inv-loop μ-loop loop-holds (λ c κs. search needs) (λ c κs. search needs) returns (λ c κs. search needs) loop-less loop-again (λ c κs. search needs) returns-2)
+judged-in-spec = tie.close (tie.spec Inv-loop μ-loop (λ c. search one-start) (λ c κs. search needs) (λ c κs. search needs) (λ c. search one-here) (λ c κs. search needs) (λ c. search from-less) (λ c. search one-next) (λ c κs. search needs) (λ c. search one-none))

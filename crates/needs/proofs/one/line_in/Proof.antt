@@ -20,16 +20,5 @@ loop-holds : tie.Need-loop-holds Inv-loop μ-loop
 unfolding linesIn
 loop-holds c = (omega arith, ap (lineFrom (c .before .args .rows .now) (c .before .args .mark) (c .before .args .feature .0) 0) (omega arith))
 
-returns : tie.Need-returns Inv-loop μ-loop
-returns c = search line-found
-
-loop-again : tie.Need-loop-again Inv-loop μ-loop
-loop-again c = (omega arith, search line-next)
-
-returns-2 : tie.Need-returns-2 Inv-loop μ-loop
-returns-2 c = search line-none
-
 pub line-in-spec : {M : Type 1} → statement M
-line-in-spec =
-    tie.close
-    (tie.spec Inv-loop μ-loop loop-holds (λ c. search needs) (λ c. search needs) (λ c κs. search needs) (λ c κs. search needs) returns (λ c. search needs) (λ c. search needs) loop-again returns-2)
+line-in-spec = tie.close (tie.spec Inv-loop μ-loop loop-holds (λ c. search needs) (λ c. search needs) (λ c κs. search needs) (λ c κs. search needs) (λ c. search line-found) (λ c. search needs) (λ c. search needs) (λ c. (omega arith, search line-next)) (λ c. search line-none))

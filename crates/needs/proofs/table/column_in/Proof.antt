@@ -19,16 +19,5 @@ loop-holds : tie.Need-loop-holds Inv-loop μ-loop
 unfolding columnIn
 loop-holds c = (omega arith, ap (columnFrom (c .before .args .rows .now) (c .before .args .profile .0) 0) (omega arith))
 
-returns : tie.Need-returns Inv-loop μ-loop
-returns c = search column-found
-
-loop-again : tie.Need-loop-again Inv-loop μ-loop
-loop-again c = (omega arith, search column-next)
-
-returns-2 : tie.Need-returns-2 Inv-loop μ-loop
-returns-2 c = search column-none
-
 pub column-in-spec : {M : Type 1} → statement M
-column-in-spec =
-    tie.close
-    (tie.spec Inv-loop μ-loop loop-holds (λ c. search needs) (λ c. search needs) (λ c κs. search needs) returns (λ c. search needs) (λ c. search needs) loop-again returns-2)
+column-in-spec = tie.close (tie.spec Inv-loop μ-loop loop-holds (λ c. search needs) (λ c. search needs) (λ c κs. search needs) (λ c. search column-found) (λ c. search needs) (λ c. search needs) (λ c. (omega arith, search column-next)) (λ c. search column-none))

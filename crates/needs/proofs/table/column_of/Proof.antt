@@ -6,9 +6,6 @@ use Rattle.needs.specs.inner.Table.{columnRead, columnIn}
 use Rattle.needs.proofs.table.column_of.Statement.{statement}
 use Rattle.needs.proofs.table.column_of.Tie as tie
 
-returns : tie.Need-returns
-unfolding columnOf columns columnIn columnRead each
-returns c = c .column-in .ensures
-
 pub column-of-spec : {M : Type 1} → statement M
-column-of-spec = tie.close (tie.spec (λ c. search needs) (λ c κs. search needs) returns)
+unfolding columnOf columns columnIn columnRead each
+column-of-spec = tie.close (tie.spec (λ c. search needs) (λ c κs. search needs) (λ c. c .column-in .ensures))

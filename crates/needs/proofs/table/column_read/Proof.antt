@@ -4,9 +4,6 @@ use Rattle.needs.specs.inner.Table.{columnRead}
 use Rattle.needs.proofs.table.column_read.Statement.{statement}
 use Rattle.needs.proofs.table.column_read.Tie as tie
 
-returns : tie.Need-returns
-unfolding columnRead
-returns c = search needs
-
 pub column-read-spec : {M : Type 1} → statement M
-column-read-spec = tie.close (tie.spec (λ c. search needs) (λ c. search needs) (λ c. search needs) returns)
+unfolding columnRead
+column-read-spec = tie.close (tie.spec (λ c. search needs) (λ c. search needs) (λ c. search needs) (λ c. search needs))

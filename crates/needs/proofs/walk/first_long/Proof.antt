@@ -16,22 +16,5 @@ Inv-loop limit s first at₀ at = firstLong limit (from s first) ≡ firstLong l
 abbrev μ-loop : tie.MeasureT-loop
 μ-loop limit s first at₀ at = length s - at
 
-loop-holds : tie.Need-loop-holds Inv-loop μ-loop
-loop-holds c = refl
-
-returns : tie.Need-returns Inv-loop μ-loop
-returns c = search long-found
-
-loop-less : tie.Need-loop-less Inv-loop μ-loop
-loop-less c = search from-less
-
-loop-again : tie.Need-loop-again Inv-loop μ-loop
-loop-again c = search long-next
-
-returns-2 : tie.Need-returns-2 Inv-loop μ-loop
-returns-2 c = search long-end
-
 pub first-long-spec : {M : Type 1} → statement M
-first-long-spec =
-    tie.close
-    (tie.spec Inv-loop μ-loop loop-holds (λ c κs. search needs) (λ c κs. search needs) returns (λ c κs. search needs) loop-less loop-again returns-2)
+first-long-spec = tie.close (tie.spec Inv-loop μ-loop (λ c. refl) (λ c κs. search needs) (λ c κs. search needs) (λ c. search long-found) (λ c κs. search needs) (λ c. search from-less) (λ c. search long-next) (λ c. search long-end))

@@ -4,9 +4,6 @@ use Rattle.needs.specs.Required.{marked}
 use Rattle.needs.proofs.walk.is_marked.Statement.{statement}
 use Rattle.needs.proofs.walk.is_marked.Tie as tie
 
-returns : tie.Need-returns
-unfolding marked
-returns c = search needs
-
 pub is-marked-spec : {M : Type 1} → statement M
-is-marked-spec = tie.close (tie.spec returns)
+unfolding marked
+is-marked-spec = tie.close (tie.spec (λ c. search needs))

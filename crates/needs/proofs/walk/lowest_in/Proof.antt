@@ -19,9 +19,6 @@ abbrev μ-loop : tie.MeasureT-loop
 loop-holds : tie.Need-loop-holds Inv-loop μ-loop
 loop-holds c = let x = c .before .before in left-start _ _ _ (λ i. omega (arith, c .shared-slice-known2 .given i)) (x .pre .0) (x .pre .1)
 
-loop-again : tie.Need-loop-again Inv-loop μ-loop
-loop-again c = search left-next
-
 returns : tie.Need-returns Inv-loop μ-loop
 unfolding lowestIn
 returns c = search left-found
@@ -31,21 +28,4 @@ unfolding lowestIn
 returns-2 c = search left-end
 
 pub lowest-in-spec : {M : Type 1} → statement M
-lowest-in-spec =
-    tie.close
-    (tie.spec
-    Inv-loop
-    μ-loop
-    loop-holds
-    (λ c. search needs)
-    (λ c. search needs)
-    (λ c κs. search needs)
-    (λ c κs. search needs)
-    (λ c. search needs)
-    (λ c. search needs)
-    (λ c. search needs)
-    loop-again
-    (λ c. search needs)
-    returns
-    (λ c κs. search needs)
-    returns-2)
+lowest-in-spec = tie.close (tie.spec Inv-loop μ-loop loop-holds (λ c. search needs) (λ c. search needs) (λ c κs. search needs) (λ c κs. search needs) (λ c. search needs) (λ c. search needs) (λ c. search needs) (λ c. search left-next) (λ c. search needs) returns (λ c κs. search needs) returns-2)

@@ -35,18 +35,4 @@ returns-3 : tie.Need-returns-3 Inv-loop μ-loop
 returns-3 c = search place-end
 
 pub step-from-spec : {M : Type 1} → statement M
-step-from-spec =
-    tie.close
-    (tie.spec
-    Inv-loop
-    μ-loop
-    loop-holds
-    (λ c κs. search needs)
-    (λ c κs. search needs)
-    returns
-    (λ c κs. search needs)
-    returns-2
-    (λ c κs. search needs)
-    loop-less
-    loop-again
-    returns-3)
+step-from-spec = tie.close (tie.spec Inv-loop μ-loop loop-holds (λ c κs. search needs) (λ c κs. search needs) returns (λ c κs. search needs) returns-2 (λ c κs. search needs) loop-less loop-again returns-3)

@@ -13,9 +13,6 @@ returns-2 c =
     take-refused _ _ _ _ (k .before .before .closed-rule .ensures) (k .if1 .left) _ (c .before .before .before .before .before .most .ensures) _ (c .before .before .before .before .scan .ensures) _ (c .before .before .before .scan-rule .ensures)
     (c .before .if2 .taken) _ (c .refused2 .ensures)
 
-moved-on-requires : tie.Need-moved-on-requires
-moved-on-requires c κs = (search take-commands, search take-last)
-
 returns-3 : tie.Need-returns-3
 returns-3 c =
     let j = c .before .before .before .before .before .before .before .before in
@@ -24,7 +21,8 @@ returns-3 c =
     (j .if2 .left) (λ i. k .before .before .before .before .shared-slice-known .given i .fits) _ _ _ _ (c .before .before .before .before .before .before .behind-header .ensures) (c .before .before .before .before .before .part .ensures .holds) (c .before .before .before .copy .ensures)
     _ (c .moved-on .ensures)
 
+moved-on-requires : tie.Need-moved-on-requires
+moved-on-requires c κs = (search take-commands, search take-last)
+
 pub take-spec : {M : Type 1} → statement M
-take-spec =
-    tie.close
-    (tie.spec (λ c κs. search needs) (λ c κs. search needs) returns (λ c κs. search needs) (λ c κs. search needs) (λ c κs. search needs) (λ c κs. search needs) returns-2 (λ c κs. search needs) (λ c κs. search needs) (λ c κs. search needs) moved-on-requires (λ c. search needs) returns-3)
+take-spec = tie.close (tie.spec (λ c κs. search needs) (λ c κs. search needs) returns (λ c κs. search needs) (λ c κs. search needs) (λ c κs. search needs) (λ c κs. search needs) returns-2 (λ c κs. search needs) (λ c κs. search needs) (λ c κs. search needs) moved-on-requires (λ c. search needs) returns-3)

@@ -5,11 +5,8 @@ use mathlib.Core.Path.{sym, _∙_}
 use Rattle.text.proofs.Flags.alone.Statement.{statement}
 use Rattle.text.proofs.Flags.alone.Tie as tie
 
-returns : tie.Need-returns
-returns c = rw (sym (c .before .persistent .ensures) ∙ not-true _ (c .if1 .taken))
-
 returns-2 : tie.Need-returns-2
 returns-2 c = rw (sym (c .before .before .persistent .ensures) ∙ not-false _ (c .before .if1 .left), ← c .current .ensures)
 
 pub alone-spec : {M : Type 1} → statement M
-alone-spec = tie.close (tie.spec (λ c κs. search needs) returns (λ c κs. search needs) returns-2)
+alone-spec {M} = let met = tie.spec {M = M} (λ c κs. search needs) (λ c. rw (sym (c .before .persistent .ensures) ∙ not-true _ (c .if1 .taken))) (λ c κs. search needs) returns-2 in tie.close met

@@ -4,11 +4,5 @@ use Rattle.refusal.proofs.First.{if-true, if-false}
 use Rattle.text.proofs.Flags.alone_fault.Statement.{statement}
 use Rattle.text.proofs.Flags.alone_fault.Tie as tie
 
-returns : tie.Need-returns
-returns c = rw (← c .before .alone .ensures, c .if1 .taken, if-true)
-
-returns-2 : tie.Need-returns-2
-returns-2 c = rw (← c .before .alone .ensures, c .if1 .left, if-false)
-
 pub alone-fault-spec : {M : Type 1} → statement M
-alone-fault-spec = tie.close (tie.spec (λ c κs. search needs) returns returns-2)
+alone-fault-spec = tie.close (tie.spec (λ c κs. search needs) (λ c. rw (← c .before .alone .ensures, c .if1 .taken, if-true)) (λ c. rw (← c .before .alone .ensures, c .if1 .left, if-false)))

@@ -5,13 +5,6 @@ use Rattle.text.specs.Flags.{flagsGiving}
 use Rattle.text.proofs.Flags.fault.Statement.{statement}
 use Rattle.text.proofs.Flags.fault.Tie as tie
 
-returns : tie.Need-returns
-unfolding flagsGiving
-returns c = search faults
-
-returns-2 : tie.Need-returns-2
-unfolding flagsGiving
-returns-2 c = search faults
-
 pub fault-spec : {M : Type 1} → statement M
-fault-spec = tie.close (tie.spec (λ c κs. search needs) returns (λ c κs. search needs) returns-2)
+unfolding flagsGiving
+fault-spec {M} = let met = tie.spec {M = M} (λ c κs. search needs) (λ c. search faults) (λ c κs. search needs) (λ c. search faults) in tie.close met

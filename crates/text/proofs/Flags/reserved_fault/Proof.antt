@@ -4,11 +4,5 @@ use Rattle.refusal.proofs.First.{tests}
 use Rattle.text.proofs.Flags.reserved_fault.Statement.{statement}
 use Rattle.text.proofs.Flags.reserved_fault.Tie as tie
 
-returns : tie.Need-returns
-returns c = search (tests, ← c .before .reserved .ensures)
-
-returns-2 : tie.Need-returns-2
-returns-2 c = search (tests, ← c .before .reserved .ensures)
-
 pub reserved-fault-spec : {M : Type 1} → statement M
-reserved-fault-spec = tie.close (tie.spec (λ c κs. search needs) returns returns-2)
+reserved-fault-spec = tie.close (tie.spec (λ c κs. search needs) (λ c. search (tests, ← c .before .reserved .ensures)) (λ c. search (tests, ← c .before .reserved .ensures)))

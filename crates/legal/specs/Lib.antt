@@ -1,0 +1,3 @@
+pub mod Legal
+pub mod Bodies
+pub mod inner

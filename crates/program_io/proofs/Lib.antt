@@ -1,0 +1,2 @@
+-- Laws that the programs' proofs cite.
+pub mod Counted

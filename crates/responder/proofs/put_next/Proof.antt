@@ -1,0 +1,36 @@
+-- `responder::put_next` meets its contract: nothing where it stops, else the entry's piece.
+use native.Mathlib.Omega.{arith}
+use Rattle.lent.proofs.Laws.{nothing}
+use Rattle.layout.specs.Layout.{stored}
+use Rattle.layout.proofs.Heads.{found-inside}
+use Rattle.responder.specs.inner.Index.{going}
+use Rattle.responder.proofs.Laws.{found-piece}
+use borrow.Author.Needs.{needs}
+use Rattle.responder.proofs.put_next.Statement.{statement}
+use Rattle.responder.proofs.put_next.Tie as tie
+
+returns : tie.Need-returns
+unfolding going
+returns c = let a = c .before .before .before .before .before .args in nothing (a .out .now) (a .at)
+
+inside4-requires : tie.Need-inside4-requires
+inside4-requires c κs =
+    let a = c .before .before .before .before .before .args in
+    let p = c .before .before .before .before .before .pre in
+    rw (c .before .before .find .ensures) (found-inside (stored (a .lay) (a .s .now)) (a .i) (omega (arith, p .0 .0, p .1)) (omega (arith, p .0 .0, p .0 .1)))
+
+returns-2 : tie.Need-returns-2
+unfolding going
+returns-2 c = let a = c .before .before .before .before .before .before .before .args in nothing (a .out .now) (a .at)
+
+returns-3 : tie.Need-returns-3
+unfolding going
+returns-3 c =
+    let a = c .before .before .before .before .before .before .before .before .before .before .before .args in
+    let e = found-piece (a .rt) (stored (a .lay) (a .s .now)) (a .i) _ _ (c .before .before .before .before .before .before .before .before .find .ensures) (c .before .before .before .before .before .inside4 .ensures) in
+    rw (← e) (c .before .before .put-piece .ensures)
+
+pub put-next-spec : {M : Type 1} → statement M
+put-next-spec =
+    tie.close
+    (tie.spec (λ c κs. search needs) (λ c. search needs) (λ c. search needs) (λ c. search needs) returns inside4-requires (λ c. search needs) (λ c. search needs) returns-2 (λ c κs. search needs) (λ c. search needs) returns-3)
