@@ -8,29 +8,16 @@ import shutil
 import subprocess
 import time
 
+import packages
+
 
 class Gone(Exception):
     """The browser ended, answered nothing in time, or refused a call."""
 
 
 def found():
-    """Where Chromium is, or None."""
-    return shutil.which("chromium") or shutil.which("chromium-browser")
-
-
-def install():
-    """Installs Debian's Chromium where that may be done, and says whether it is there then."""
-    if os.geteuid() != 0 or not shutil.which("apt-get"):
-        return False
-    quiet = dict(stdin=subprocess.DEVNULL, stdout=subprocess.DEVNULL, stderr=subprocess.DEVNULL, env={**os.environ, "DEBIAN_FRONTEND": "noninteractive"})
-    command = ["apt-get", "install", "-y", "-q", "--no-install-recommends", "chromium"]
-    try:
-        if subprocess.run(command, timeout=120, **quiet).returncode:
-            subprocess.run(["apt-get", "update", "-q"], timeout=60, **quiet)
-            subprocess.run(command, timeout=120, **quiet)
-    except subprocess.TimeoutExpired:
-        pass
-    return found() is not None
+    """Where Chromium is, or None; Debian's is installed where that may be done."""
+    return shutil.which("chromium-browser") or (shutil.which("chromium") if packages.had("chromium") else None)
 
 
 def ends():
