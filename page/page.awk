@@ -2,7 +2,7 @@
 # out, with the place of each descriptor, which is the sum of the lengths before it.
 #
 # Lines of the input, with tabs between: 'capture' or 'against', a number, and the name as it can be printed. Of capture N the folder GCF_TOLD has N.bytes, as od prints them, and what
-# the viewer, the checker and the mender say of it: N.show, N.check, N.archive and N.mend, with N.mended, the bytes that the mender wrote, and N.note, what was said on standard error.
+# show, check and mend say of it: N.show, N.check, N.archive and N.mend, with N.mended, the bytes that mend wrote, and N.note, what was said on standard error.
 # GCF_MODE is page or diff.
 #
 # Descriptors are numbered through all captures: those of capture c are low[c] to high[c].
@@ -96,7 +96,7 @@ function read_bytes(file, line, n, i, piece) {
     return piece[1]
 }
 
-# The head of a descriptor in the viewer's words: 0003h Removable Medium: Version 0, Persistent 1, Current 1, Additional Length 4
+# The head of a descriptor in the words of show: 0003h Removable Medium: Version 0, Persistent 1, Current 1, Additional Length 4
 function load_head(c, line, k, d, word) {
     d = high[c] = ++descriptors
     split(substr(line, k + 10), word, " ")
@@ -190,7 +190,7 @@ function load_fault(c, line, d) {
     mark_found(c, d, line)
 }
 
-# A line of the checker: of a profile, which may be listed twice, or of the descriptors.
+# A line of check: of a profile, which may be listed twice, or of the descriptors.
 function load_verdict(c, line, p) {
     if (line ~ /^profile /) {
         p = substr(line, 9, 4)
@@ -199,7 +199,7 @@ function load_verdict(c, line, p) {
     } else if (line ~ /^descriptors: / && line !~ /: no fault$/) load_fault(c, substr(line, 14))
 }
 
-# The lines of the checker that begin so.
+# The lines of check that begin so.
 function load_check(c, file, begin, line) {
     while ((getline line < file) > 0) if (substr(line, 1, length(begin)) == begin) load_verdict(c, line)
     close(file)
@@ -216,7 +216,7 @@ function mark_bytes(c, d, from, n, k) {
     for (k = from; k < from + n; k++) marked[c, k] = "at fault"
 }
 
-# The changes of the mender, such as 'feature 0003, flags: 01h becomes 03h': one for each byte in which its copy differs, in rising order. Those are the bits at fault.
+# The changes of mend, such as 'feature 0003, flags: 01h becomes 03h': one for each byte in which its copy differs, in rising order. Those are the bits at fault.
 function load_mend(c, file, line, f, d, k, copy) {
     f = ""
     while ((getline line < file) > 0) {

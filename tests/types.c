@@ -42,48 +42,35 @@
  */
 #define AT(type, field, place) typedef char type##_##field[offsetof(struct type, field) == 8 * (place) && sizeof(((struct type *)0)->field) == 8 ? 1 : -1]
 #define COUNT(type, count) typedef char size_of_##type[sizeof(struct type) == 8 * (count) ? 1 : -1]
-AT(gcf_check, place, 0);
+
+/* So many fields that follow one another from a place on. */
+#define AT_1(type, place, field) AT(type, field, place)
+#define AT_2(type, place, field, ...) AT(type, field, place); AT_1(type, place + 1, __VA_ARGS__)
+#define AT_3(type, place, field, ...) AT(type, field, place); AT_2(type, place + 1, __VA_ARGS__)
+#define AT_5(type, place, field, second, ...) AT_2(type, place, field, second); AT_3(type, place + 2, __VA_ARGS__)
+#define AT_7(type, place, field, second, ...) AT_2(type, place, field, second); AT_5(type, place + 2, __VA_ARGS__)
+AT_1(gcf_check, 0, place);
 COUNT(gcf_check, 1);
-AT(gcf_made, bytes, 0);
-AT(gcf_made, place, 1);
+AT_2(gcf_made, 0, bytes, place);
 COUNT(gcf_made, 2);
-AT(gcf_reading, profile, 0);
-AT(gcf_reading, data_length, 1);
-AT(gcf_reading, count, 2);
-AT(gcf_reading, end, 3);
-AT(gcf_reading, complete, 4);
+AT_5(gcf_reading, 0, profile, data_length, count, end, complete);
 COUNT(gcf_reading, 5);
-AT(gcf_descriptor, feature, 0);
-AT(gcf_descriptor, flags, 1);
-AT(gcf_descriptor, version, 2);
-AT(gcf_descriptor, persistent, 3);
-AT(gcf_descriptor, current, 4);
-AT(gcf_descriptor, body, 5);
-AT(gcf_descriptor, body_bytes, 6);
+AT_7(gcf_descriptor, 0, feature, flags, version, persistent, current, body, body_bytes);
 AT(gcf_descriptor, next, PLACE_OF_NEXT);
 COUNT(gcf_descriptor, 8);
-AT(gcf_stop, place, 0);
-AT(gcf_stop, feature, 1);
+AT_2(gcf_stop, 0, place, feature);
 COUNT(gcf_stop, 2);
-AT(gcf_swept, commands, 0);
-AT(gcf_swept, collected, 1);
-AT(gcf_swept, place, 2);
+AT_3(gcf_swept, 0, commands, collected, place);
 COUNT(gcf_swept, 3);
-AT(gcf_verdict, said, 0);
-AT(gcf_verdict, differs, 1);
-AT(gcf_verdict, mistake, 2);
-AT(gcf_verdict, refusal, 3);
-AT(gcf_verdict, place, 4);
+AT_5(gcf_verdict, 0, said, differs, mistake, refusal, place);
 COUNT(gcf_verdict, 5);
-AT(gcf_finding, feature, 0);
+AT_1(gcf_finding, 0, feature);
 COUNT(gcf_finding, 1);
-AT(gcf_judgement, wrong, 0);
-AT(gcf_judgement, feature, 1);
+AT_2(gcf_judgement, 0, wrong, feature);
 COUNT(gcf_judgement, 2);
-AT(gcf_mended, bytes, 0);
-AT(gcf_mended, changes, 1);
+AT_2(gcf_mended, 0, bytes, changes);
 COUNT(gcf_mended, 2);
-AT(gcf_meaning, kind, 0);
+AT_1(gcf_meaning, 0, kind);
 COUNT(gcf_meaning, 1);
 
 /* A sweep's record has fields of their own types: where they stand, and how long it is, is the same on every target that has a libgcf.a. */

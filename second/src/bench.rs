@@ -13,36 +13,46 @@ pub struct Outcome {
     pub collected: usize,
 }
 
+/// The buffers that a bench sweep writes: a response, the bytes collected, and the starts.
+#[derive(Debug)]
+pub struct Buffers<'a> {
+    pub response: &'a mut [u8],
+    pub collected: &'a mut [u8],
+    pub starts: &'a mut [u16],
+}
+
+impl<'a> Buffers<'a> {
+    /// These three.
+    pub fn new(response: &'a mut [u8], collected: &'a mut [u8], starts: &'a mut [u16]) -> Buffers<'a> {
+        Buffers { response, collected, starts }
+    }
+
+    /// Sets all three to zero.
+    pub(crate) fn clear(self) {
+        self.response.fill(0);
+        self.collected.fill(0);
+        self.starts.fill(0);
+    }
+}
+
 /// Sweeps the sheet; on a refusal all three buffers are set to zero.
 pub fn bench(
     layout: Layout,
     sheet: &[u8],
     rt: u8,
     allocation: u16,
-    response: &mut [u8],
-    collected: &mut [u8],
-    starts: &mut [u16],
+    mut buffers: Buffers,
 ) -> Result<Outcome, Refusal> {
-    let outcome = run(layout, sheet, rt, allocation, response, collected, starts);
+    let outcome = Sheet::accept(layout, sheet).and_then(|sheet| run(sheet, rt, allocation, &mut buffers));
     if outcome.is_err() {
-        response.fill(0);
-        collected.fill(0);
-        starts.fill(0);
+        buffers.clear();
     }
     outcome
 }
 
 /// Runs the rounds.
-fn run(
-    layout: Layout,
-    sheet: &[u8],
-    rt: u8,
-    allocation: u16,
-    response: &mut [u8],
-    collected: &mut [u8],
-    starts: &mut [u16],
-) -> Result<Outcome, Refusal> {
-    let sheet = Sheet::accept(layout, sheet)?;
+fn run(sheet: Sheet, rt: u8, allocation: u16, buffers: &mut Buffers) -> Result<Outcome, Refusal> {
+    let Buffers { response, collected, starts } = buffers;
     let (number, mut record) = Record::start(rt, allocation);
     accept(number)?;
     if response.len() < most_bytes(allocation) {

@@ -5,6 +5,7 @@ use crate::reading::{read, whole, Reading};
 use crate::wire::{be16, byte, part, Descriptor, Descriptors, Feature, Profile};
 
 const REMOVABLE_MEDIUM: Feature = Feature(0x0003);
+const RANDOM_READABLE: Feature = Feature(0x0010);
 const STREAMING_WRITABLE: Feature = Feature(0x0021);
 const CD_MASTERING: Feature = Feature(0x002E);
 
@@ -50,74 +51,23 @@ const RANDOM_WRITABLE: [u8; 12] = [0xFF, 0xFF, 0xFF, 0xFF, 0xFF, 0xFF, 0xFF, 0xF
 /// Features of the medium, which can't be Persistent where the medium can be removed.
 const OF_THE_MEDIUM: [u16; 7] = [0x001F, 0x0020, 0x0021, 0x0026, 0x002D, 0x002E, 0x002F];
 
-/// A line of a profile's table: a feature, and what its name in the document adds.
-#[derive(Clone, Copy, Debug, PartialEq, Eq)]
-enum Line {
-    Named(u16),
-    /// "Random Readable, PP=1".
-    PagePresent(u16),
-}
-
-/// The tables of 98-116r0's profile clause, line by line.
+/// The tables of 98-116r0's profile clause: the features, line by line. Where a table has 0010h, its line is "Random Readable, PP=1".
 /// Table 58, Mandatory Features for Removable Disks: profile 2.
-const TABLE_58: [Line; 11] = [
-    Line::Named(0x0000),
-    Line::Named(0x0001),
-    Line::Named(0x0002),
-    Line::Named(0x0003),
-    Line::PagePresent(0x0010),
-    Line::Named(0x0020),
-    Line::Named(0x0023),
-    Line::Named(0x0024),
-    Line::Named(0x0100),
-    Line::Named(0x0101),
-    Line::Named(0x0105),
-];
+const TABLE_58: [u16; 11] =
+    [0x0000, 0x0001, 0x0002, 0x0003, 0x0010, 0x0020, 0x0023, 0x0024, 0x0100, 0x0101, 0x0105];
 
 /// Table 59, Mandatory Features for CD-ROM: profile 8.
-const TABLE_59: [Line; 8] = [
-    Line::Named(0x0000),
-    Line::Named(0x0001),
-    Line::Named(0x0002),
-    Line::Named(0x0003),
-    Line::PagePresent(0x0010),
-    Line::Named(0x001E),
-    Line::Named(0x0100),
-    Line::Named(0x0105),
-];
+const TABLE_59: [u16; 8] = [0x0000, 0x0001, 0x0002, 0x0003, 0x0010, 0x001E, 0x0100, 0x0105];
 
 /// Table 60, Mandatory Features for DVD-ROM: profile 10h.
-const TABLE_60: [Line; 9] = [
-    Line::Named(0x0000),
-    Line::Named(0x0001),
-    Line::Named(0x0002),
-    Line::Named(0x0003),
-    Line::PagePresent(0x0010),
-    Line::Named(0x001F),
-    Line::Named(0x0100),
-    Line::Named(0x0105),
-    Line::Named(0x0107),
-];
+const TABLE_60: [u16; 9] = [0x0000, 0x0001, 0x0002, 0x0003, 0x0010, 0x001F, 0x0100, 0x0105, 0x0107];
 
 /// Table 61, Mandatory Features for DVD-RAM: profile 12h.
-const TABLE_61: [Line; 13] = [
-    Line::Named(0x0000),
-    Line::Named(0x0001),
-    Line::Named(0x0002),
-    Line::Named(0x0003),
-    Line::PagePresent(0x0010),
-    Line::Named(0x001F),
-    Line::Named(0x0020),
-    Line::Named(0x0023),
-    Line::Named(0x0024),
-    Line::Named(0x0100),
-    Line::Named(0x0101),
-    Line::Named(0x0105),
-    Line::Named(0x0107),
-];
+const TABLE_61: [u16; 13] =
+    [0x0000, 0x0001, 0x0002, 0x0003, 0x0010, 0x001F, 0x0020, 0x0023, 0x0024, 0x0100, 0x0101, 0x0105, 0x0107];
 
 /// Table 62, Mandatory Features for Logical Units Not Conforming to a Standard Profile: profile FFFFh.
-const TABLE_62: [Line; 2] = [Line::Named(0x0000), Line::Named(0x0001)];
+const TABLE_62: [u16; 2] = [0x0000, 0x0001];
 
 /// The number that asks for the archive subset.
 const ARCHIVE: Profile = Profile(0x0000);
@@ -308,7 +258,7 @@ pub(crate) fn mended_body(descriptor: Descriptor) -> Vec<u8> {
 }
 
 /// The table of a profile; the archive subset has what DVD-RAM needs.
-fn table_of(profile: Profile) -> Option<&'static [Line]> {
+fn table_of(profile: Profile) -> Option<&'static [u16]> {
     match profile {
         Profile(0x0002) => Some(&TABLE_58),
         Profile(0x0008) => Some(&TABLE_59),
@@ -331,7 +281,7 @@ pub fn check_profile(profile: Profile, response: &[u8]) -> ProfileAnswer {
     };
     let walk = whole(response, &reading);
     let mut faults: Vec<(Feature, Wrong)> =
-        table.iter().filter_map(|&line| unmet(line, walk.clone())).collect();
+        table.iter().filter_map(|&feature| unmet(Feature(feature), walk.clone())).collect();
     if profile == ARCHIVE {
         faults.extend(archive_faults(walk));
     }
@@ -341,18 +291,17 @@ pub fn check_profile(profile: Profile, response: &[u8]) -> ProfileAnswer {
     }
 }
 
-/// What is wrong by a line of a table.
-fn unmet(line: Line, walk: Descriptors) -> Option<(Feature, Wrong)> {
-    let (Line::Named(feature) | Line::PagePresent(feature)) = line;
-    let descriptor = match reported(walk, Feature(feature)) {
+/// What is wrong by a table's line for a feature.
+fn unmet(feature: Feature, walk: Descriptors) -> Option<(Feature, Wrong)> {
+    let descriptor = match reported(walk, feature) {
         Some(descriptor) => descriptor,
-        None => return Some((Feature(feature), Wrong::Absent)),
+        None => return Some((feature, Wrong::Absent)),
     };
-    match line {
-        Line::Named(_) => None,
-        // PP is bit 0 of byte 10, which is byte 6 of the body; the feature has a length of 8.
-        Line::PagePresent(_) => bit_set(descriptor, 8, 6, 0x01),
+    if feature != RANDOM_READABLE {
+        return None;
     }
+    // PP is bit 0 of byte 10, which is byte 6 of the body; the feature has a length of 8.
+    bit_set(descriptor, 8, 6, 0x01)
 }
 
 /// What is wrong with a descriptor whose body has to have so many bytes and a bit of one of them set.

@@ -26,6 +26,7 @@ pub struct Request {
 
 impl Request {
     /// Reads a command; gives the request, or the first of 9 to 11 that refuses it.
+    #[inline]
     pub fn parse(command: &[u8]) -> Result<Request, u8> {
         if !is_command_length(command.len()) {
             return Err(COMMAND_LENGTH);

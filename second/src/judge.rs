@@ -6,27 +6,21 @@ use crate::refusal::Refusal;
 use crate::sheet::{Layout, Meaning, Sheet};
 use crate::wire::Feature;
 
-/// What a box got wrong, in the order in which mistakes are tried; the numbers are those of the exported function.
-#[derive(Clone, Copy, Debug, PartialEq, Eq)]
-pub enum Mistake {
-    OnlyAbove = 1,
-    LengthCut = 2,
-    LengthOfAll = 3,
-    HighestCurrent = 4,
-    HighestListed = 5,
-    NotOnlyCurrent = 6,
-    NotOnlyOne = 7,
+/// Makes the enum of mistakes, numbered from 1 as the exported function tells them, and the list of all, in the order in which they are tried.
+macro_rules! mistakes {
+    ($first:ident $($later:ident)*) => {
+        /// What a box got wrong.
+        #[derive(Clone, Copy, Debug, PartialEq, Eq)]
+        pub enum Mistake {
+            $first = 1,
+            $($later,)*
+        }
+
+        pub const MISTAKES: [Mistake; 7] = [Mistake::$first, $(Mistake::$later,)*];
+    };
 }
 
-pub const MISTAKES: [Mistake; 7] = [
-    Mistake::OnlyAbove,
-    Mistake::LengthCut,
-    Mistake::LengthOfAll,
-    Mistake::HighestCurrent,
-    Mistake::HighestListed,
-    Mistake::NotOnlyCurrent,
-    Mistake::NotOnlyOne,
-];
+mistakes! { OnlyAbove LengthCut LengthOfAll HighestCurrent HighestListed NotOnlyCurrent NotOnlyOne }
 
 /// What is said of a response.
 #[derive(Clone, Copy, Debug, PartialEq, Eq)]

@@ -5,15 +5,16 @@ use crate::refusal::Refusal;
 use crate::sheet::{build_in, Layout, ListedProfile, Meaning, Sheet};
 use crate::wire::{Descriptor, Feature, Profile};
 
-/// Writes the sheet with a medium that makes these features and these profiles current, in the layout that it has; gives its
-/// length, which stays the same, or why it is refused.
-pub fn load(
-    layout: Layout,
-    sheet: &[u8],
-    features: &[Feature],
-    profiles: &[Profile],
-    out: &mut [u8],
-) -> Result<usize, Refusal> {
+/// A medium: the features and the profiles that it makes current.
+#[derive(Clone, Copy, Debug)]
+pub struct Medium<'a> {
+    pub features: &'a [Feature],
+    pub profiles: &'a [Profile],
+}
+
+/// Writes the sheet with a medium in it, in the layout that it has; gives its length, which stays the same, or why it is refused.
+pub fn load(layout: Layout, sheet: &[u8], medium: Medium, out: &mut [u8]) -> Result<usize, Refusal> {
+    let Medium { features, profiles } = medium;
     let meaning = Sheet::accept(layout, sheet)?.meaning();
     if !ascends(features) || !ascends(profiles) {
         return Err(LIST_ORDER.into());
@@ -22,7 +23,7 @@ pub fn load(
         return Err(SHEET_LACKS.into());
     }
     let room = out.get_mut(..sheet.len()).ok_or(LOADED_SHORT)?;
-    let loaded = with(&meaning, features, profiles);
+    let loaded = with(&meaning, medium);
     room.copy_from_slice(&build_in(layout, &loaded.profiles, &loaded.descriptors).unwrap_or_default());
     Ok(sheet.len())
 }
@@ -44,14 +45,14 @@ fn has_profiles(meaning: &Meaning, profiles: &[Profile]) -> bool {
 }
 
 /// What the sheet says with the medium in it.
-fn with<'a>(meaning: &Meaning<'a>, features: &[Feature], profiles: &[Profile]) -> Meaning<'a> {
+fn with<'a>(meaning: &Meaning<'a>, medium: Medium) -> Meaning<'a> {
     let profile = |own: &ListedProfile| ListedProfile {
         number: own.number,
-        current: profiles.binary_search(&own.number).is_ok(),
+        current: medium.profiles.binary_search(&own.number).is_ok(),
     };
     let descriptor = |own: &Descriptor<'a>| {
         let stays = own.flags & PERSISTENT != 0;
-        let current = stays || features.binary_search(&own.feature).is_ok();
+        let current = stays || medium.features.binary_search(&own.feature).is_ok();
         Descriptor { flags: own.flags & !CURRENT | u8::from(current), ..*own }
     };
     Meaning {

@@ -31,6 +31,8 @@ ORIGINS = {
     "met": "crates/demands/proofs/Named.antt",
     "saying": "crates/demands/proofs/Named.antt",
     "Twice": "crates/base/proofs/Promise.antt",
+    "Both": "crates/demands/proofs/Named.antt",
+    "AllThree": "crates/demands/proofs/Named.antt",
 }
 
 
@@ -138,6 +140,9 @@ def named(found):
     for alias, one, other in re.findall(r"^Twice (\S+)\.ended \(λ M\. \S+\) \(λ x (\S+) y (\S+)\. ", found.statement):
         from_its_file(found, "Twice")
         outcomes |= {one: alias, other: alias}
+    if together := re.match(r"(Both|AllThree) ((?:\S+\.ended \(λ M\. \S+\) )+)\(λ ([^.]*)\. ", found.statement):
+        from_its_file(found, together[1])
+        outcomes |= dict(zip(together[3].split()[1::2], re.findall(r"(\S+)\.ended ", together[2])))
     for outcome, names in re.findall(r"saying (?:\([^()]*\)|\S+) (\S+) \(λ _ ([^.]*)\.", found.statement):
         from_its_file(found, "saying")
         in_order(found, functions.get(outcomes.get(outcome)), names.split(), False)

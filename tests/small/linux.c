@@ -3,40 +3,33 @@
 
 int main(void);
 
+/* what each processor calls the three things that are asked for, its registers and the asking */
 #if defined(__arm__)
 enum { READ = 3, WRITE = 4, EXIT = 1 };
-static long ask(long what, long a, const void *b, long c)
-{
-    register long r0 __asm__("r0") = a;
-    register const void *r1 __asm__("r1") = b;
-    register long r2 __asm__("r2") = c;
-    register long r7 __asm__("r7") = what;
-    __asm__ volatile("svc 0" : "+r"(r0) : "r"(r1), "r"(r2), "r"(r7) : "memory");
-    return r0;
-}
+#define REGISTER "r"
+#define NUMBER "r7"
+#define ASK "svc 0"
 #elif defined(__aarch64__)
 enum { READ = 63, WRITE = 64, EXIT = 93 };
-static long ask(long what, long a, const void *b, long c)
-{
-    register long x0 __asm__("x0") = a;
-    register const void *x1 __asm__("x1") = b;
-    register long x2 __asm__("x2") = c;
-    register long x8 __asm__("x8") = what;
-    __asm__ volatile("svc 0" : "+r"(x0) : "r"(x1), "r"(x2), "r"(x8) : "memory");
-    return x0;
-}
+#define REGISTER "x"
+#define NUMBER "x8"
+#define ASK "svc 0"
 #elif defined(__riscv)
 enum { READ = 63, WRITE = 64, EXIT = 93 };
+#define REGISTER "a"
+#define NUMBER "a7"
+#define ASK "ecall"
+#endif
+
 static long ask(long what, long a, const void *b, long c)
 {
-    register long a0 __asm__("a0") = a;
-    register const void *a1 __asm__("a1") = b;
-    register long a2 __asm__("a2") = c;
-    register long a7 __asm__("a7") = what;
-    __asm__ volatile("ecall" : "+r"(a0) : "r"(a1), "r"(a2), "r"(a7) : "memory");
-    return a0;
+    register long first __asm__(REGISTER "0") = a;
+    register const void *second __asm__(REGISTER "1") = b;
+    register long third __asm__(REGISTER "2") = c;
+    register long number __asm__(NUMBER) = what;
+    __asm__ volatile(ASK : "+r"(first) : "r"(second), "r"(third), "r"(number) : "memory");
+    return first;
 }
-#endif
 
 void board_write(const char *bytes, size_t count)
 {

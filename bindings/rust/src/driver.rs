@@ -1,5 +1,6 @@
 //! The driver: making a command, reading a response, sweeping a drive, checking what it says.
 
+use crate::numbers::told_by_number;
 use crate::{accepted, raw, Feature, Number, Profile, COMMAND_BYTES, DESCRIPTOR_MOST, PACKET_BYTES};
 
 /// The header in front of the descriptors.
@@ -364,19 +365,20 @@ pub fn check_descriptors(response: &[u8]) -> Finding {
     }
 }
 
-/// What is wrong with a feature that breaks a profile, the first of these: `enum gcf_wrong`.
-#[derive(Clone, Copy, Debug, PartialEq, Eq, Hash)]
-pub enum Wrong {
-    /// No descriptor has its number.
-    Absent = 1,
-    /// Its body is shorter than the profile asks.
-    TooShort = 2,
-    /// A bit that the profile asks for is not set.
-    BitClear = 3,
-    /// It is not current, and the profile asks for that.
-    NotCurrent = 4,
-    /// Its descriptor is longer than the profile lets any be.
-    TooLong = 5,
+told_by_number! {
+    /// What is wrong with a feature that breaks a profile, the first of these: `enum gcf_wrong`.
+    Wrong {
+        /// No descriptor has its number.
+        1 => Absent,
+        /// Its body is shorter than the profile asks.
+        2 => TooShort,
+        /// A bit that the profile asks for is not set.
+        3 => BitClear,
+        /// It is not current, and the profile asks for that.
+        4 => NotCurrent,
+        /// Its descriptor is longer than the profile lets any be.
+        5 => TooLong,
+    }
 }
 
 /// Whether a response has what a profile requires.
@@ -406,13 +408,9 @@ pub fn check_profile(profile: Profile, response: &[u8]) -> Judgement {
     if let Err(number) = accepted(raw::check_profile(profile, response, &mut judgement)) {
         return Judgement::Refused(number);
     }
-    let wrong = match judgement.wrong {
-        0 => return Judgement::Conforms,
-        1 => Wrong::Absent,
-        2 => Wrong::TooShort,
-        3 => Wrong::BitClear,
-        4 => Wrong::NotCurrent,
-        _ => Wrong::TooLong,
-    };
+    if judgement.wrong == 0 {
+        return Judgement::Conforms;
+    }
+    let wrong = Wrong::of(judgement.wrong).unwrap_or(Wrong::TooLong);
     Judgement::Broken(Feature(judgement.feature as u16), wrong)
 }

@@ -1,25 +1,27 @@
 //! The judge of another box.
 
 use crate::drive::placed;
+use crate::numbers::told_by_number;
 use crate::{raw, Layout, Number, Refused};
 
-/// What another box gets wrong, the first of these that explains its response: `enum gcf_mistake`.
-#[derive(Clone, Copy, Debug, PartialEq, Eq, Hash)]
-pub enum Mistake {
-    /// It sends only the features above SFN.
-    OnlyAbove = 1,
-    /// Its Data Length is cut with the allocation length.
-    LengthCut = 2,
-    /// Its Data Length counts all features, whatever was asked for.
-    LengthOfAll = 3,
-    /// Its Current Profile is the highest of the current ones.
-    HighestCurrent = 4,
-    /// Its Current Profile is the highest of all.
-    HighestListed = 5,
-    /// It gives RT 1 what RT 0 gets.
-    NotOnlyCurrent = 6,
-    /// It gives RT 2 what RT 0 gets.
-    NotOnlyOne = 7,
+told_by_number! {
+    /// What another box gets wrong, the first of these that explains its response: `enum gcf_mistake`.
+    Mistake {
+        /// It sends only the features above SFN.
+        1 => OnlyAbove,
+        /// Its Data Length is cut with the allocation length.
+        2 => LengthCut,
+        /// Its Data Length counts all features, whatever was asked for.
+        3 => LengthOfAll,
+        /// Its Current Profile is the highest of the current ones.
+        4 => HighestCurrent,
+        /// Its Current Profile is the highest of all.
+        5 => HighestListed,
+        /// It gives RT 1 what RT 0 gets.
+        6 => NotOnlyCurrent,
+        /// It gives RT 2 what RT 0 gets.
+        7 => NotOnlyOne,
+    }
 }
 
 /// What is said of another box's response: `enum gcf_said`.
@@ -70,21 +72,7 @@ pub fn judge(
         1 => Verdict::Exact,
         2 => Verdict::Padded(differs),
         3 => Verdict::Short(differs),
-        4 => Verdict::Wrong(differs, mistake(verdict.mistake)),
+        4 => Verdict::Wrong(differs, Mistake::of(verdict.mistake)),
         _ => Verdict::Answered(Number::of(verdict.refusal as u8).unwrap_or(Number::Other(0))),
-    })
-}
-
-/// The mistake of a number; none of 0.
-fn mistake(number: u64) -> Option<Mistake> {
-    Some(match number {
-        1 => Mistake::OnlyAbove,
-        2 => Mistake::LengthCut,
-        3 => Mistake::LengthOfAll,
-        4 => Mistake::HighestCurrent,
-        5 => Mistake::HighestListed,
-        6 => Mistake::NotOnlyCurrent,
-        7 => Mistake::NotOnlyOne,
-        _ => return None,
     })
 }

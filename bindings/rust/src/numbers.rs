@@ -143,6 +143,28 @@ numbers! {
     SenseBufferShort = 55,
 }
 
+/// Makes an enum of what a struct of further results tells by a number, and the way back from the number.
+macro_rules! told_by_number {
+    ($(#[$what:meta])* $name:ident { $($(#[$words:meta])* $number:literal => $said:ident,)* }) => {
+        $(#[$what])*
+        #[derive(Clone, Copy, Debug, PartialEq, Eq, Hash)]
+        pub enum $name {
+            $($(#[$words])* $said = $number,)*
+        }
+
+        impl $name {
+            /// What a number tells; none for any other.
+            pub(crate) const fn of(number: u64) -> Option<$name> {
+                match number {
+                    $($number => Some($name::$said),)*
+                    _ => None,
+                }
+            }
+        }
+    };
+}
+pub(crate) use told_by_number;
+
 /// The sentence of a number.
 #[derive(Clone, Copy)]
 pub struct Words {

@@ -1,18 +1,20 @@
 //! Sense data.
 
+use crate::numbers::told_by_number;
 use crate::{accepted, raw, Number, SENSE_BYTES};
 
-/// What sense data says of a command: `enum gcf_kind`.
-#[derive(Clone, Copy, Debug, PartialEq, Eq, Hash)]
-pub enum Kind {
-    /// The command was accepted.
-    Nothing = 1,
-    /// It is no GET CONFIGURATION of 10 or 12 bytes.
-    Operation = 2,
-    /// RT 3.
-    Field = 3,
-    /// The box's own trouble: its sheet or its image, or its response buffer.
-    Trouble = 4,
+told_by_number! {
+    /// What sense data says of a command: `enum gcf_kind`.
+    Kind {
+        /// The command was accepted.
+        1 => Nothing,
+        /// It is no GET CONFIGURATION of 10 or 12 bytes.
+        2 => Operation,
+        /// RT 3.
+        3 => Field,
+        /// The box's own trouble: its sheet or its image, or its response buffer.
+        4 => Trouble,
+    }
 }
 
 /// Makes sense data for what the last command was refused with, or for none: `gcf_make_sense`. Refused is a number that no command gives.
@@ -43,10 +45,5 @@ pub fn make_sense(last: Option<Number>) -> Result<[u8; SENSE_BYTES], Number> {
 pub fn read_sense(sense: &[u8]) -> Result<Kind, Number> {
     let mut meaning = raw::Meaning::default();
     accepted(raw::read_sense(sense, &mut meaning))?;
-    Ok(match meaning.kind {
-        1 => Kind::Nothing,
-        2 => Kind::Operation,
-        3 => Kind::Field,
-        _ => Kind::Trouble,
-    })
+    Ok(Kind::of(meaning.kind).unwrap_or(Kind::Trouble))
 }

@@ -14,9 +14,8 @@ use Rattle.layout.specs.declared.Layout.the-variants.{Rows, Columns}
 use Rattle.reading.specs.declared.Stop.{Stop}
 use Rattle.lent.specs.Maker.{Outcome}
 use Rattle.bench.specs.Bench as bench
+use Rattle.judge.specs.Boxes.{mistakeNumber}
 use Rattle.judge.specs.Verdict.{Judgement}
-use Rattle.judge.specs.declared.Mistake.{Mistake}
-use Rattle.judge.specs.declared.Mistake.the-variants.{OnlyAbove, LengthCut, LengthOfAll, HighestCurrent, HighestListed, NotOnlyCurrent, NotOnlyOne, Unexplained}
 use Rattle.judge.specs.declared.Verdict.{Verdict}
 use Rattle.judge.specs.declared.Verdict.the-variants.{Exact, Padded, Short, Wrong, Answered, Refused}
 use Rattle.abi.specs.declared.Telling.{Telling}
@@ -64,17 +63,6 @@ showStop x = x .at ∷ x .feature .0 ∷ []
 -- a bench sweep: commands, bytes collected, the place of its refusal
 unfoldable pub showBenched : bench.Ending → Left bench.Buffers
 showBenched x = left (x .reply .refusal .number) (x .buffers) (x .reply .commands ∷ x .reply .collected ∷ x .reply .refusal .place ∷ [])
-
--- the number that tells a mistake; 0 is none
-unfoldable pub mistakeNumber : Mistake → ℕ
-mistakeNumber OnlyAbove = 1
-mistakeNumber LengthCut = 2
-mistakeNumber LengthOfAll = 3
-mistakeNumber HighestCurrent = 4
-mistakeNumber HighestListed = 5
-mistakeNumber NotOnlyCurrent = 6
-mistakeNumber NotOnlyOne = 7
-mistakeNumber Unexplained = 0
 
 abbrev pub tells : (number said differs mistake refusal place : ℕ) → Telling
 tells n s k w r p = record { number = n; said = s; differs = k; mistake = w; refusal = r; place = p }

@@ -23,8 +23,8 @@ use Rattle.text.proofs.Sent.{length-sent}
 use Rattle.text.proofs.Own.{statedProfile-sent, walked-sent, readFault-sent, complete-sent, complete-none, cut-some}
 use Rattle.text.proofs.Next.{next-low}
 use Rattle.sweep.specs.declared.Sweep.{Sweep}
-use Rattle.sweep.specs.Sweep.{startRule, takeFault, cut, wholesOf, changed, heldProfile, advanced, taking}
-use Rattle.sweep.proofs.Cases.{roomRule, stepped-none}
+use Rattle.sweep.specs.Sweep.{startRule, roomRule, takeFault, cut, wholesOf, changed, heldProfile, advanced, taking}
+use Rattle.sweep.proofs.Cases.{stepped-none}
 use Rattle.bench.specs.Bench.{Buffers, buffers, state, filled, rounded}
 use Rattle.bench.specs.Swept.{room}
 

@@ -75,11 +75,10 @@ fn check_all(s: &[u8]) -> Finding
 pub fn check_descriptors(s: &[u8]) -> Finding
     ensures { λ r. ⌜ r ≡ checked (now (s .entry)) ⌝ }
 {
-    let reading = reading::complete(s);
-    let fault = reading.refusal;
-    if fault.number != 0 {
+    let number = reading::complete_number(s);
+    if number != 0 {
         return Finding {
-            refusal: fault,
+            refusal: Refusal { number, place: 0 },
             feature: Feature(0),
         };
     }

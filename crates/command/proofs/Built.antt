@@ -2,12 +2,12 @@
 use mathlib.Core.Path.{_≡_, refl, sym, ap, _∙_}
 use mathlib.Core.Bool.{Bool, true, false, not}
 use mathlib.Core.List.{List, [], _∷_, _++_}
-use Prim.Native.Nat.{ℕ, _%_, _≤_, _<_}
+use Prim.Native.Nat.{ℕ, _+_, _*_, _/_, _%_, _≤_, _<_}
 use native.Mathlib.Nat.{mod-eq-of-lt}
 use native.Mathlib.Omega.{arith}
 use borrow.Author.Tests.{eqb-true, ne-eqb, ltb-false, lt-ltb, le-ltb}
 use lib.Dec.{eqb, ltb}
-use lib.ListN.{length, take, length-take}
+use lib.ListN.{length, take, drop, length-take}
 use lib.Seq.{take-take}
 use Rattle.fields.specs.Field.{spell}
 use Rattle.fields.proofs.Laws.{field-here}
@@ -17,6 +17,7 @@ use Rattle.refusal.proofs.First.{if-true, if-false}
 use Rattle.lent.specs.Wrote.{Wrote}
 use Rattle.lent.specs.declared.Made.{Made}
 use Rattle.lent.specs.Maker.{outcome, refused, written, refusing, making}
+use Rattle.lent.proofs.Laws.{cut}
 use Rattle.lent.proofs.Maker.{written-making, makes-fault, makes-short, makes-made}
 use Rattle.command.specs.Command.{opcodeOf, rtOf, sfnOf, allocationOf, commandLength, commandFault, SameAsked, packet, commandBytes, askFault, built}
 use Rattle.command.proofs.Same.{same-rt, same-sfn, same-allocation, same-fault}
@@ -127,8 +128,23 @@ pub ask-zero : (n rt : ℕ) → commandLength n ≡ true → rt ≤ 2 → askFau
 unfolding askFault
 ask-zero n rt e h = rw (e, if-false, le-ltb 2 rt h, if-false)
 
-pub in-packet : (n rt sfn a : ℕ) {p : List ℕ} → commandLength n ≡ true → p ≡ packet rt sfn a → n ≤ length p
-in-packet n rt sfn a long e = omega (arith, ap length e, length-packet rt sfn a, length-from n long)
+-- the packet word by word
+word : (v a b c d : ℕ) → v ≡ a * 16777216 + b * 65536 + c * 256 + d → a < 256 → b < 256 → c < 256 → d < 256 → (a ∷ b ∷ c ∷ d ∷ []) ≡ spell 4 v
+unfolding spell
+word v a b c d e l m n o =
+    let w : a ≡ v / 256 / 256 / 256 % 256 = omega (arith, e, l, m, n, o) in
+    let x : b ≡ v / 256 / 256 % 256 = omega (arith, e, l, m, n, o) in
+    let y : c ≡ v / 256 % 256 = omega (arith, e, l, m, n, o) in
+    let z : d ≡ v % 256 = omega (arith, e, l, m, n, o) in
+    λ i. w i ∷ x i ∷ y i ∷ z i ∷ []
+
+pub packet-words : (rt sfn a : ℕ) → rt < 256 → sfn < 65536 → a < 65536 → spell 4 (0x46 * 16777216 + rt * 65536 + sfn) ++ spell 4 (a / 256) ++ spell 4 (a % 256 * 16777216) ≡ packet rt sfn a
+unfolding packet spell
+packet-words rt sfn a l m k =
+    let first = word (0x46 * 16777216 + rt * 65536 + sfn) 0x46 rt (sfn / 256 % 256) (sfn % 256) (omega arith) (omega arith) l (omega arith) (omega arith) in
+    let second = word (a / 256) 0 0 0 (a / 256 % 256) (omega arith) (omega arith) (omega arith) (omega arith) (omega arith) in
+    let third = word (a % 256 * 16777216) (a % 256) 0 0 0 (omega arith) (omega arith) (omega arith) (omega arith) (omega arith) in
+    sym (λ i. first i ++ second i ++ third i)
 
 module _ (n rt sfn a : ℕ) (d : List ℕ) {m : Made} where
   -- the answer is the refusal r
@@ -146,11 +162,11 @@ module _ (n rt sfn a : ℕ) (d : List ℕ) {m : Made} where
   unfolding refusing
   refused-short long legal h q = ap (λ (x : Made). outcome x d) q ∙ sym (built-short n rt sfn a d (ask-zero n rt long legal) h)
 
-  -- the front of the packet p was written
-  pub front-written : {p : List ℕ} {count : ℕ} {e : List ℕ} → commandLength n ≡ true → rt ≤ 2 → n ≤ length d → p ≡ packet rt sfn a → Wrote d 0 (take n p) count e → m ≡ written count
-      → outcome m e ≡ built n rt sfn a d
+  -- the front of the packet was written
+  pub front-written : {count : ℕ} {e : List ℕ} → commandLength n ≡ true → rt ≤ 2 → n ≤ length d → Wrote (take n d) 0 (packet rt sfn a) count e → m ≡ written count
+      → outcome m (e ++ drop n d) ≡ built n rt sfn a d
   unfolding commandBytes
-  front-written {e = e} long legal h is w q =
-      ap (λ (x : Made). outcome x e) q
-      ∙ written-making (omega (arith, length-command n rt sfn a long)) (rw is at w)
+  front-written {e = e} long legal h w q =
+      ap (λ (x : Made). outcome x (e ++ drop n d)) q
+      ∙ written-making (omega (arith, length-command n rt sfn a long)) (cut h w)
       ∙ sym (built-made n rt sfn a d (ask-zero n rt long legal) h)

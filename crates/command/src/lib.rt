@@ -1,6 +1,7 @@
 // GET CONFIGURATION as bytes, 10 of them, or 12 in an ATAPI packet: what is refused of it, what it asks for, and how a driver makes one.
 ghost use mathlib.Core.Path.{_≡_};
 ghost use Rattle.lent.specs.Maker.{outcome};
+ghost use Rattle.lent.specs.Wrote.{Wrote};
 ghost use Rattle.command.specs.Command.{commandLength, commandFault, commandOf, packet, built};
 use lent::Made;
 use refusal::Refusal;
@@ -57,25 +58,17 @@ impl Command {
         }
     }
 
-    // The packet that asks for these, every other bit 0. A command of ten bytes is its front.
-    fn packet(rt: u8, sfn: Feature, allocation: u16) -> [u8; Command::PACKET]
-        ensures { λ r. ⌜ r ≡ packet rt (sfn .0) allocation ⌝ }
+    // Writes the packet that asks for these, every other bit 0, word by word, as far as the buffer has room. A command of ten bytes is its front.
+    fn put_packet(out: &mut [u8], rt: u8, sfn: Feature, allocation: u16) -> usize
+        ensures { λ r. ⌜ Wrote (now (out .entry)) 0 (packet rt (sfn .0) allocation) r (now (out .exit)) ⌝ }
     {
-        let first = sfn.0;
-        [
-            Command::OPCODE,
-            rt,
-            (first / 256 % 256) as u8,
-            (first % 256) as u8,
-            0,
-            0,
-            0,
-            (allocation / 256 % 256) as u8,
-            (allocation % 256) as u8,
-            0,
-            0,
-            0,
-        ]
+        let start = sfn.0;
+        let first = Command::OPCODE as u32 * 16777216 + rt as u32 * 65536 + start as u32;
+        let second = (allocation / 256) as u32;
+        let third = (allocation % 256) as u32 * 16777216;
+        let a = lent::put4(out, 0, first);
+        let b = lent::put4(out, a, second);
+        lent::put4(out, b, third)
     }
 
     // Writes the command of so many bytes that asks for these to the front of a lent buffer.
@@ -91,8 +84,7 @@ impl Command {
         if out.len() < length {
             return Made::refused(refusal::BUFFER_SHORT);
         }
-        let packet = Command::packet(rt, sfn, allocation);
-        let count = lent::copy(out, 0, &packet[..length]);
+        let count = Command::put_packet(&mut out[..length], rt, sfn, allocation);
         Made::written(count)
     }
 }

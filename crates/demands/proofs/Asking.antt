@@ -128,34 +128,34 @@ sets-so b at value e q = record {
   elsewhere = λ x h. ap (λ (l : List ℕ). getD l x 0) q ∙ getD-set-other b at x value 0 h;
 }
 
-pub set-flags-decided : DecidedAsking set-flags.ended (λ M. set-flags.clauses) (λ M. set-flags.spec) (met (λ _ out lay n i flags. (i < n) × (profilesBehind n ≤ length (now out)))) (λ κs r. r)
+pub set-flags-decided : DecidedAsking set-flags.ended (λ M. set-flags.clauses) (λ M. set-flags.spec) (met (λ _ out nth flags. (nth .i < nth .n) × (profilesBehind (nth .n) ≤ length (now out)))) (λ κs r. r)
 set-flags-decided x = decides-asking (x .𝓤) (λ o o′ p q. (refl, joined p q & refl))
 
-pub set-flags-tied : PromisedAsking set-flags.ended (λ M. set-flags.clauses) (λ M. set-flags.spec) (met (λ _ out lay n i flags. (i < n) × (profilesBehind n ≤ length (now out))))
-    (named (λ _ out lay n i flags _ out′ _ _ _ _. Sets (now out) (flagsPlace lay n i) (flags .0) out′))
+pub set-flags-tied : PromisedAsking set-flags.ended (λ M. set-flags.clauses) (λ M. set-flags.spec) (met (λ _ out nth flags. (nth .i < nth .n) × (profilesBehind (nth .n) ≤ length (now out))))
+    (named (λ _ out nth flags _ out′ _ _. Sets (now out) (flagsPlace (nth .lay) (nth .n) (nth .i)) (flags .0) out′))
 set-flags-tied x = promises-asking (x .𝓤) (λ o. sets-so _ _ _ _)
 
-pub entry-in-decided : DecidedAsking entry-in.ended (λ M. entry-in.clauses) (λ M. entry-in.spec) (met (λ _ lay s n i. Room (now s) n × (i < n))) (λ κs r. r)
+pub entry-in-decided : DecidedAsking entry-in.ended (λ M. entry-in.clauses) (λ M. entry-in.spec) (met (λ _ s nth. Room (now s) (nth .n) × (nth .i < nth .n))) (λ κs r. r)
 entry-in-decided x = decides-asking (x .𝓤) (λ o o′ p q. (joined p q, refl))
 
-pub entry-in-tied : PromisedAsking entry-in.ended (λ M. entry-in.clauses) (λ M. entry-in.spec) (met (λ _ lay s n i. Room (now s) n × (i < n)))
-    (named (λ _ lay s n i r _ _ _ _. r ≡ entryOf (stored lay (now s)) i))
+pub entry-in-tied : PromisedAsking entry-in.ended (λ M. entry-in.clauses) (λ M. entry-in.spec) (met (λ _ s nth. Room (now s) (nth .n) × (nth .i < nth .n)))
+    (named (λ _ s nth r _ _. r ≡ entryOf (stored (nth .lay) (now s)) (nth .i)))
 entry-in-tied x = promises-asking (x .𝓤) (λ o e. e)
 
-pub find-decided : DecidedAsking find.ended (λ M. find.clauses) (λ M. find.spec) (met (λ _ lay s n i. Room (now s) n × (i < n))) (λ κs r. r)
+pub find-decided : DecidedAsking find.ended (λ M. find.clauses) (λ M. find.spec) (met (λ _ s nth. Room (now s) (nth .n) × (nth .i < nth .n))) (λ κs r. r)
 find-decided x = decides-asking (x .𝓤) (λ o o′ p q. (joined p q, refl))
 
-pub find-tied : PromisedAsking find.ended (λ M. find.clauses) (λ M. find.spec) (met (λ _ lay s n i. Room (now s) n × (i < n)))
-    (named (λ _ lay s n i r _ _ _ _. r ≡ foundOf (stored lay (now s)) i))
+pub find-tied : PromisedAsking find.ended (λ M. find.clauses) (λ M. find.spec) (met (λ _ s nth. Room (now s) (nth .n) × (nth .i < nth .n)))
+    (named (λ _ s nth r _ _. r ≡ foundOf (stored (nth .lay) (now s)) (nth .i)))
 find-tied x = promises-asking (x .𝓤) (λ o e. e)
 
 pub put-head-decided : DecidedAsking put-head.ended (λ M. put-head.clauses) (λ M. put-head.spec)
-    (met (λ _ out at lay s n i. Room (now s) n × (i < n) × (at + 4 ≤ length (now out)))) (λ κs r. r)
+    (met (λ _ out at s nth. Room (now s) (nth .n) × (nth .i < nth .n) × (at + 4 ≤ length (now out)))) (λ κs r. r)
 put-head-decided x = decides-asking (x .𝓤) (λ o o′ p q. (same p q .0, same p q .1 & refl))
 
 pub put-head-tied : PromisedAsking put-head.ended (λ M. put-head.clauses) (λ M. put-head.spec)
-    (met (λ _ out at lay s n i. Room (now s) n × (i < n) × (at + 4 ≤ length (now out))))
-    (named (λ _ out at lay s n i r out′ _ _ _ _ _. Wrote (now out) at (headBytes (entryOf (stored lay (now s)) i)) r out′))
+    (met (λ _ out at s nth. Room (now s) (nth .n) × (nth .i < nth .n) × (at + 4 ≤ length (now out))))
+    (named (λ _ out at s nth r out′ _ _ _. Wrote (now out) at (headBytes (entryOf (stored (nth .lay) (now s)) (nth .i))) r out′))
 put-head-tied x = promises-asking (x .𝓤) (λ o e. e)
 
 pub place-row-decided : DecidedAsking place-row.ended (λ M. place-row.clauses) (λ M. place-row.spec) (met (λ _ out at head offset. (length (now head) ≡ 4) × (at + 8 ≤ length (now out)))) (λ κs r. r)

@@ -40,11 +40,12 @@ use Rattle.legal.specs.Bodies.{byteOf, reservedRule, reservedAt, cueRule}
 use Rattle.checks.specs.Rules.{flagsFault, rowRule, profileAt, profilesFault, bodyFault, descFault}
 use Rattle.reading.specs.Places.{descs, reported}
 use Rattle.reading.specs.Completed.{completeFault}
-use Rattle.checks.specs.Check.{finding, _orNext_, firstFinding, checkedAll, checked}
+use Rattle.checks.specs.Check.{finding, firstFinding, checkedAll, checked}
 use Rattle.checks.specs.Faultless.{Passes}
 use Rattle.base.proofs.Bools.{not-yes, not-no}
 use Rattle.refusal.proofs.Calls.{if-yes, if-no}
-use Rattle.checks.proofs.Findings.{next-none, next-fault}
+use Rattle.checks.proofs.Findings.{next-fault}
+use Rattle.mend.proofs.Found.{next-is}
 use Rattle.base.proofs.Pick.{pick-here, pick-past}
 use Rattle.checks.proofs.Faultless.{passes-of, of-passes}
 use Rattle.refusal.proofs.Numbers.{if-holds, orElse-holds}
@@ -76,13 +77,6 @@ first-of : (f : ℕ → Refusal) → ((i : ℕ) → Findings (f i .number)) → 
 unfolding firstOf
 first-of f h i zero = none
 first-of f h i (suc k) = orElse-of (f i) (firstOf f (suc i) k) (h i) (first-of f h (suc i) k)
-
-next-of : (a b : Finding) → Findings (a .refusal .number) → Findings (b .refusal .number) → Findings ((a orNext b) .refusal .number)
-next-of a b h k = go (a .refusal .number) refl
-  where
-    go : (n : ℕ) → a .refusal .number ≡ n → Findings ((a orNext b) .refusal .number)
-    go zero e = rw (next-none a b e) k
-    go (suc n) e = rw (next-fault a b (λ z. omega arith)) h
 
 pick-of : {A B : Type 0} (P : B → Type 0) (test : A → Bool) (found : A → B) (other : B) (xs : List A) → All (λ (x : A). P (found x)) xs → P other
     → P (pick test found other xs)
@@ -130,8 +124,8 @@ all-of : (ds : List Desc) → All Own ds → Findings (checkedAll ds .refusal .n
 unfolding checkedAll firstFinding
 all-of ds a =
     let core : (f : ℕ) → Findings ((refuse 30 if not (reported f ds) else accept) .number) = λ f. if-of _ _ _ (inr (inl refl)) none in
-    next-of _ _ (core 0)
-    (next-of _ _ (core 1)
+    next-is Findings _ _ (core 0)
+    (next-is Findings _ _ (core 1)
     (pick-of (λ (x : Finding). Findings (x .refusal .number)) _ _ (finding accept 0) ds
     (all-map Own (λ (d : Desc). Findings (descFault (reported 3 ds) d .number)) (desc-of (reported 3 ds)) ds a)
     none))
@@ -223,7 +217,7 @@ unfolding checked
 own-findings s b ok h =
     let m : Drive = meaning s in
     let good : Fine m = meaning-fine s b ok in
-    next-of _ _
+    next-is Findings _ _
     (rw (input-own (good .sound) h) none)
     (rw (descs-own (good .sound) h) (all-of (all m) (drive-own good)))
 

@@ -8,14 +8,10 @@ use Prim.Native.Nat.{ℕ, zero, suc, _≤_, _<_}
 use native.Mathlib.Omega.{arith}
 use lib.Dec.{ltb}
 use lib.ListN.{length, take}
-use base.Logic.{ent}
-use contract.Monad.{conj, fact}
-use contract.Lifetimes.{Lfts}
-use denote.Triple.Entry.{Args}
 use denote.Ref.{now}
 use Rattle.base.specs.Lists.{Bytes}
-use Rattle.base.proofs.Decided.{Call, Outcome, allowed}
-use Rattle.base.proofs.Promise.{by, beside, all-three}
+use Rattle.base.proofs.Decided.{Outcome}
+use Rattle.base.proofs.Promise.{by, all-three}
 use Rattle.lent.specs.Maker as maker
 use Rattle.lent.proofs.Maker.{makes-fault}
 use Rattle.refusal.specs.declared.Refusal.{Refusal}
@@ -43,7 +39,7 @@ use Rattle.bench.specs.Bench.{Buffers, buffers, state, Ending, ending, failing,
 use Rattle.bench.proofs.bench as bench
 use Rattle.sweep.specs.Sweep.{startRule, fresh}
 use Rattle.demands.proofs.Sending.{Leaves, leaves}
-use Rattle.demands.proofs.Named.{saying}
+use Rattle.demands.proofs.Named.{saying, AllThree}
 
 -- ---- a conversion
 
@@ -146,52 +142,30 @@ module _ {l : Layout} {s t u : Sheet} {d : List ℕ} {o : maker.Outcome} (c : Co
   alike-swept : (rt a : ℕ) (bs : Buffers) → benched t rt a bs ≡ benched u rt a bs
   alike-swept rt a bs = ap (λ (x : Sheet). benched x rt a bs) is-laid ∙ either-benched l s b room rt a bs ∙ ap (λ (x : Sheet). benched x rt a bs) (sym first)
 
-module _ (x : Call convert.ended (λ M. convert.clauses)) (κs : Lfts (respond.ended .signature .lifetimes)) (args : Args (respond.ended .signature) κs)
-    (κs₂ : Lfts (respond.ended .signature .lifetimes)) (args₂ : Args (respond.ended .signature) κs₂) where
-  abbrev by-laid : Call respond.ended (λ M. respond.clauses)
-  by-laid = beside x κs args tt
+pub respond-either : AllThree convert.ended (λ M. convert.clauses) respond.ended (λ M. respond.clauses) respond.ended (λ M. respond.clauses)
+    (λ x o y p z q. saying x o (λ _ to lay s out r _ _ _ out′.
+    saying y p (λ _ lay₂ s₂ command₂ out₂ r₂ _ _ _ out₂′.
+    saying z q (λ _ lay₃ s₃ command₃ out₃ r₃ _ _ _ out₃′.
+    r .refusal .number ≡ 0 → Bytes (now s)
+    → stored lay₂ (now s₂) ≡ stored to (take (r .count) out′)
+    → stored lay₃ (now s₃) ≡ stored lay (now s)
+    → now command₃ ≡ now command₂ → now out₃ ≡ now out₂
+    → maker.outcome r₂ out₂′ ≡ maker.outcome r₃ out₃′))))
+respond-either x κs args g κs₂ args₂ g₂ o p q =
+    all-three (x .𝓤) (λ e fg z b there first is-command is-buffer.
+    fg .0 ∙ alike (by (Converts _ _ _) (converts _ _ _) e) z b there first (args .1 .1 .0 .now) (args .1 .1 .1 .0 .now) ∙ sym (rw (is-command, is-buffer) at (fg .1)))
 
-  abbrev by-first : Call respond.ended (λ M. respond.clauses)
-  by-first = beside x κs₂ args₂ tt
-
-  pub respond-either : (o : Outcome convert.ended (λ M. convert.clauses) x) (p : Outcome respond.ended (λ M. respond.clauses) by-laid)
-      (q : Outcome respond.ended (λ M. respond.clauses) by-first)
-      → ent (x .𝓤) (conj (x .𝓤) (allowed convert.ended (λ M. convert.clauses) x o)
-      (conj (x .𝓤) (allowed respond.ended (λ M. respond.clauses) by-laid p) (allowed respond.ended (λ M. respond.clauses) by-first q))) (fact (x .𝓤) (
-      saying x o (λ _ to lay s out r _ _ _ out′.
-      saying by-laid p (λ _ lay₂ s₂ command₂ out₂ r₂ _ _ _ out₂′.
-      saying by-first q (λ _ lay₃ s₃ command₃ out₃ r₃ _ _ _ out₃′.
-      r .refusal .number ≡ 0 → Bytes (now s)
-      → stored lay₂ (now s₂) ≡ stored to (take (r .count) out′)
-      → stored lay₃ (now s₃) ≡ stored lay (now s)
-      → now command₃ ≡ now command₂ → now out₃ ≡ now out₂
-      → maker.outcome r₂ out₂′ ≡ maker.outcome r₃ out₃′)))))
-  respond-either o p q =
-      all-three (x .𝓤) (λ e fg z b there first is-command is-buffer.
-      fg .0 ∙ alike (by (Converts _ _ _) (converts _ _ _) e) z b there first (args .1 .1 .0 .now) (args .1 .1 .1 .0 .now) ∙ sym (rw (is-command, is-buffer) at (fg .1)))
-
-module _ (x : Call convert.ended (λ M. convert.clauses)) (κs : Lfts (bench.ended .signature .lifetimes)) (args : Args (bench.ended .signature) κs)
-    (κs₂ : Lfts (bench.ended .signature .lifetimes)) (args₂ : Args (bench.ended .signature) κs₂) where
-  abbrev swept-laid : Call bench.ended (λ M. bench.clauses)
-  swept-laid = beside x κs args tt
-
-  abbrev swept-first : Call bench.ended (λ M. bench.clauses)
-  swept-first = beside x κs₂ args₂ tt
-
-  pub bench-either : (o : Outcome convert.ended (λ M. convert.clauses) x) (p : Outcome bench.ended (λ M. bench.clauses) swept-laid)
-      (q : Outcome bench.ended (λ M. bench.clauses) swept-first)
-      → ent (x .𝓤) (conj (x .𝓤) (allowed convert.ended (λ M. convert.clauses) x o)
-      (conj (x .𝓤) (allowed bench.ended (λ M. bench.clauses) swept-laid p) (allowed bench.ended (λ M. bench.clauses) swept-first q))) (fact (x .𝓤) (
-      saying x o (λ _ to lay s out r _ _ _ out′.
-      saying swept-laid p (λ _ lay₂ s₂ rt₂ a₂ response₂ collected₂ starts₂ r₂ _ _ _ _ response₂′ collected₂′ starts₂′.
-      saying swept-first q (λ _ lay₃ s₃ rt₃ a₃ response₃ collected₃ starts₃ r₃ _ _ _ _ response₃′ collected₃′ starts₃′.
-      r .refusal .number ≡ 0 → Bytes (now s)
-      → stored lay₂ (now s₂) ≡ stored to (take (r .count) out′)
-      → stored lay₃ (now s₃) ≡ stored lay (now s)
-      → rt₃ ≡ rt₂ → a₃ ≡ a₂ → buffers (now response₃) (now collected₃) (now starts₃)
-      ≡ buffers (now response₂) (now collected₂) (now starts₂)
-      → ending r₂ (buffers response₂′ collected₂′ starts₂′)
-      ≡ ending r₃ (buffers response₃′ collected₃′ starts₃′))))))
-  bench-either o p q =
-      all-three (x .𝓤) (λ e fg z b there first is-rt is-a are-lent.
-      fg .0 ∙ alike-swept (by (Converts _ _ _) (converts _ _ _) e) z b there first (args .1 .1 .0) (args .1 .1 .1 .0) (buffers (args .1 .1 .1 .1 .0 .now) (args .1 .1 .1 .1 .1 .0 .now) (args .1 .1 .1 .1 .1 .1 .0 .now)) ∙ sym (rw (is-rt, is-a, are-lent) at (fg .1)))
+pub bench-either : AllThree convert.ended (λ M. convert.clauses) bench.ended (λ M. bench.clauses) bench.ended (λ M. bench.clauses)
+    (λ x o y p z q. saying x o (λ _ to lay s out r _ _ _ out′.
+    saying y p (λ _ lay₂ s₂ rt₂ a₂ response₂ collected₂ starts₂ r₂ _ _ _ _ response₂′ collected₂′ starts₂′.
+    saying z q (λ _ lay₃ s₃ rt₃ a₃ response₃ collected₃ starts₃ r₃ _ _ _ _ response₃′ collected₃′ starts₃′.
+    r .refusal .number ≡ 0 → Bytes (now s)
+    → stored lay₂ (now s₂) ≡ stored to (take (r .count) out′)
+    → stored lay₃ (now s₃) ≡ stored lay (now s)
+    → rt₃ ≡ rt₂ → a₃ ≡ a₂ → buffers (now response₃) (now collected₃) (now starts₃)
+    ≡ buffers (now response₂) (now collected₂) (now starts₂)
+    → ending r₂ (buffers response₂′ collected₂′ starts₂′)
+    ≡ ending r₃ (buffers response₃′ collected₃′ starts₃′)))))
+bench-either x κs args g κs₂ args₂ g₂ o p q =
+    all-three (x .𝓤) (λ e fg z b there first is-rt is-a are-lent.
+    fg .0 ∙ alike-swept (by (Converts _ _ _) (converts _ _ _) e) z b there first (args .1 .1 .0) (args .1 .1 .1 .0) (buffers (args .1 .1 .1 .1 .0 .now) (args .1 .1 .1 .1 .1 .0 .now) (args .1 .1 .1 .1 .1 .1 .0 .now)) ∙ sym (rw (is-rt, is-a, are-lent) at (fg .1)))

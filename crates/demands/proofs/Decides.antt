@@ -75,6 +75,7 @@ use Rattle.reading.proofs.stops as stops
 use Rattle.reading.proofs.place_of as place-of
 use Rattle.reading.proofs.read as read
 use Rattle.reading.proofs.complete as complete
+use Rattle.reading.proofs.complete_number as complete-number
 use Rattle.reading.proofs.judge as judge
 use Rattle.reading.proofs.held as held
 use Rattle.text.proofs.most as most
@@ -347,6 +348,9 @@ read-decided x = decides (x .𝓤) (λ o o′ p q. (joined p q, refl))
 
 pub complete-decided : Decided complete.ended (λ M. complete.clauses) (λ M. complete.spec)
 complete-decided x = decides (x .𝓤) (λ o o′ p q. (joined p q, refl))
+
+pub complete-number-decided : Decided complete-number.ended (λ M. complete-number.clauses) (λ M. complete-number.spec)
+complete-number-decided x = decides (x .𝓤) (λ o o′ p q. (joined p q, refl))
 
 pub judge-decided : Decided judge.ended (λ M. judge.clauses) (λ M. judge.spec)
 judge-decided = reading-decides.judge-decided

@@ -8,13 +8,9 @@ use native.Mathlib.Omega.{arith}
 use lib.ListN.{length, take, drop}
 use lib.Seq.{take-append-seam}
 use borrow.Author.Tests.{eqb-false}
-use base.Logic.{ent}
-use contract.Monad.{conj, fact}
-use contract.Lifetimes.{Lfts}
-use denote.Triple.Entry.{Args}
 use denote.Ref.{now}
 use Rattle.base.specs.Lists.{Bytes}
-use Rattle.base.proofs.Decided.{Call, Outcome, allowed}
+use Rattle.base.proofs.Decided.{Outcome}
 use Rattle.text.specs.declared.Reading.{Reading}
 use Rattle.command.specs.Command.{rtOf, sfnOf, allocationOf, commandFault}
 use Rattle.refusal.specs.declared.Refusal.{Refusal}
@@ -40,13 +36,13 @@ use Rattle.sense.proofs.make as sense-make
 use Rattle.sense.proofs.read as sense-read
 use Rattle.abi.specs.Left.{layoutOf, left, showMade}
 use Rattle.abi.proofs.gcf_respond as gcf-respond
-use Rattle.base.proofs.Promise.{by, beside, both, all-three}
+use Rattle.base.proofs.Promise.{by, both, all-three}
 use Rattle.demands.proofs.Sending.{Answers, demand2}
 use Rattle.demands.proofs.Readings.{ReadBack, Reads, reads}
 use Rattle.demands.proofs.Importing.{Imports, imports}
 use Rattle.demands.proofs.Converting.{Converts, converts}
 use Rattle.demands.proofs.Senses.{Makes, makes-sense}
-use Rattle.demands.proofs.Named.{saying}
+use Rattle.demands.proofs.Named.{saying, Both, AllThree}
 
 -- ---- what an answer without a number says
 
@@ -98,18 +94,13 @@ module _ {s : Sheet} {c d : List ℕ} {o : maker.Outcome} (a : Answers s c d o) 
 
 -- ---- demand 2 end to end: `respond` is called, then `read` with what the box sent
 
-module _ (x : Call respond.ended (λ M. respond.clauses)) (κs : Lfts (read.ended .signature .lifetimes)) (args : Args (read.ended .signature) κs) where
-  abbrev reading-of : Call read.ended (λ M. read.clauses)
-  reading-of = beside x κs args tt
-
-  pub demand2-end-to-end : (o : Outcome respond.ended (λ M. respond.clauses) x) (p : Outcome read.ended (λ M. read.clauses) reading-of)
-      → ent (x .𝓤) (conj (x .𝓤) (allowed respond.ended (λ M. respond.clauses) x o) (allowed read.ended (λ M. read.clauses) reading-of p)) (fact (x .𝓤) (
-      saying x o (λ _ lay s command out r _ _ _ out′.
-      saying reading-of p (λ _ rt₂ sfn₂ s₂ r₂ _ _ _.
-      r .refusal .number ≡ 0 → Bytes (now s) → 8 ≤ allocationOf (now command)
-      → rt₂ ≡ rtOf (now command) → sfn₂ .0 ≡ sfnOf (now command) → now s₂ ≡ take (r .count) out′
-      → ReadBack (meaning (stored lay (now s))) 65534 (rtOf (now command)) (sfnOf (now command)) (allocationOf (now command)) (now s₂) r₂))))
-  demand2-end-to-end o p = both (x .𝓤) (λ e f z. read-back (by (Answers _ _ _) (demand2 _ _ _) e) z (by (Reads _ _ _ _) (reads _ _ _ _) f))
+pub demand2-end-to-end : Both respond.ended (λ M. respond.clauses) read.ended (λ M. read.clauses)
+    (λ x o y p. saying x o (λ _ lay s command out r _ _ _ out′.
+    saying y p (λ _ rt₂ sfn₂ s₂ r₂ _ _ _.
+    r .refusal .number ≡ 0 → Bytes (now s) → 8 ≤ allocationOf (now command)
+    → rt₂ ≡ rtOf (now command) → sfn₂ .0 ≡ sfnOf (now command) → now s₂ ≡ take (r .count) out′
+    → ReadBack (meaning (stored lay (now s))) 65534 (rtOf (now command)) (sfnOf (now command)) (allocationOf (now command)) (now s₂) r₂)))
+demand2-end-to-end x κs args g o p = both (x .𝓤) (λ e f z. read-back (by (Answers _ _ _) (demand2 _ _ _) e) z (by (Reads _ _ _ _) (reads _ _ _ _) f))
 
 -- ---- a captured response end to end: `import` is called, then `respond` with the sheet that it left and a command of RT 0 from 0
 
@@ -121,19 +112,14 @@ replayed {r} {d} {s} {c} {e} i a z b there plain is-rt is-sfn enough fits =
     a .sends (by Accepted (i .stores b z .accepted) there) plain (rw x fits)
     ∙ ap (λ (xs : List ℕ). maker.making xs e) x
 
-module _ (x : Call import.ended (λ M. import.clauses)) (κs : Lfts (respond.ended .signature .lifetimes)) (args : Args (respond.ended .signature) κs) where
-  abbrev answer : Call respond.ended (λ M. respond.clauses)
-  answer = beside x κs args tt
-
-  pub import-end-to-end : (o : Outcome import.ended (λ M. import.clauses) x) (p : Outcome respond.ended (λ M. respond.clauses) answer)
-      → ent (x .𝓤) (conj (x .𝓤) (allowed import.ended (λ M. import.clauses) x o) (allowed respond.ended (λ M. respond.clauses) answer p)) (fact (x .𝓤) (
-      saying x o (λ _ response sheet r _ sheet′.
-      saying answer p (λ _ lay₂ s₂ command₂ out₂ r₂ _ _ _ out₂′.
-      r .refusal .number ≡ 0 → Bytes (now response) → stored lay₂ (now s₂) ≡ stored Rows (take (r .count) sheet′)
-      → commandFault (now command₂) .number ≡ 0 → rtOf (now command₂) ≡ 0 → sfnOf (now command₂) ≡ 0
-      → length (now response) ≤ allocationOf (now command₂) → length (now response) ≤ length (now out₂)
-      → maker.outcome r₂ out₂′ ≡ maker.making (now response) (now out₂)))))
-  import-end-to-end o p = both (x .𝓤) (λ e f. replayed (by (Imports _ _) (imports _ _) e) (by (Answers _ _ _) (demand2 _ _ _) f))
+pub import-end-to-end : Both import.ended (λ M. import.clauses) respond.ended (λ M. respond.clauses)
+    (λ x o y p. saying x o (λ _ response sheet r _ sheet′.
+    saying y p (λ _ lay₂ s₂ command₂ out₂ r₂ _ _ _ out₂′.
+    r .refusal .number ≡ 0 → Bytes (now response) → stored lay₂ (now s₂) ≡ stored Rows (take (r .count) sheet′)
+    → commandFault (now command₂) .number ≡ 0 → rtOf (now command₂) ≡ 0 → sfnOf (now command₂) ≡ 0
+    → length (now response) ≤ allocationOf (now command₂) → length (now response) ≤ length (now out₂)
+    → maker.outcome r₂ out₂′ ≡ maker.making (now response) (now out₂))))
+import-end-to-end x κs args g o p = both (x .𝓤) (λ e f. replayed (by (Imports _ _) (imports _ _) e) (by (Answers _ _ _) (demand2 _ _ _) f))
 
 -- ---- and with `convert` between them: the sheet that `import` left, laid out as l, answers the same
 
@@ -161,52 +147,32 @@ replayed-laid {r} {d} {l} {s} {t} {f} {c} {e} i k a z y b there laid-there plain
         go zero e = refl
         go (suc n) e = absurd (omega (arith, z, e, ap (λ (x : maker.Outcome). x .made .refusal .number) (i .refuses-capture (λ w. omega arith))))
 
-module _ (x : Call import.ended (λ M. import.clauses)) (κs : Lfts (convert.ended .signature .lifetimes)) (args : Args (convert.ended .signature) κs)
-    (κs₂ : Lfts (respond.ended .signature .lifetimes)) (args₂ : Args (respond.ended .signature) κs₂) where
-  abbrev converting : Call convert.ended (λ M. convert.clauses)
-  converting = beside x κs args tt
-
-  abbrev answering : Call respond.ended (λ M. respond.clauses)
-  answering = beside x κs₂ args₂ tt
-
-  pub import-convert-end-to-end : (o : Outcome import.ended (λ M. import.clauses) x) (q : Outcome convert.ended (λ M. convert.clauses) converting) (p : Outcome respond.ended (λ M. respond.clauses) answering)
-      → ent (x .𝓤) (conj (x .𝓤) (allowed import.ended (λ M. import.clauses) x o)
-      (conj (x .𝓤) (allowed convert.ended (λ M. convert.clauses) converting q) (allowed respond.ended (λ M. respond.clauses) answering p))) (fact (x .𝓤) (
-      saying x o (λ _ response sheet r _ sheet′.
-      saying converting q (λ _ to₂ lay₂ s₂ out₂ r₂ _ _ _ out₂′.
-      saying answering p (λ _ lay₃ s₃ command₃ out₃ r₃ _ _ _ out₃′.
-      r .refusal .number ≡ 0 → r₂ .refusal .number ≡ 0 → Bytes (now response)
-      → stored lay₂ (now s₂) ≡ stored Rows (take (r .count) sheet′)
-      → stored lay₃ (now s₃) ≡ stored to₂ (take (r₂ .count) out₂′)
-      → commandFault (now command₃) .number ≡ 0 → rtOf (now command₃) ≡ 0 → sfnOf (now command₃) ≡ 0
-      → length (now response) ≤ allocationOf (now command₃) → length (now response) ≤ length (now out₃)
-      → maker.outcome r₃ out₃′ ≡ maker.making (now response) (now out₃))))))
-  import-convert-end-to-end o q p =
-      all-three (x .𝓤) (λ e fg. replayed-laid (by (Imports _ _) (imports _ _) e) (by (Converts _ _ _) (converts _ _ _) (fg .0)) (by (Answers _ _ _) (demand2 _ _ _) (fg .1)))
+pub import-convert-end-to-end : AllThree import.ended (λ M. import.clauses) convert.ended (λ M. convert.clauses) respond.ended (λ M. respond.clauses)
+    (λ x o y q z p. saying x o (λ _ response sheet r _ sheet′.
+    saying y q (λ _ to₂ lay₂ s₂ out₂ r₂ _ _ _ out₂′.
+    saying z p (λ _ lay₃ s₃ command₃ out₃ r₃ _ _ _ out₃′.
+    r .refusal .number ≡ 0 → r₂ .refusal .number ≡ 0 → Bytes (now response)
+    → stored lay₂ (now s₂) ≡ stored Rows (take (r .count) sheet′)
+    → stored lay₃ (now s₃) ≡ stored to₂ (take (r₂ .count) out₂′)
+    → commandFault (now command₃) .number ≡ 0 → rtOf (now command₃) ≡ 0 → sfnOf (now command₃) ≡ 0
+    → length (now response) ≤ allocationOf (now command₃) → length (now response) ≤ length (now out₃)
+    → maker.outcome r₃ out₃′ ≡ maker.making (now response) (now out₃)))))
+import-convert-end-to-end x κs args g κs₂ args₂ g₂ o q p =
+    all-three (x .𝓤) (λ e fg. replayed-laid (by (Imports _ _) (imports _ _) e) (by (Converts _ _ _) (converts _ _ _) (fg .0)) (by (Answers _ _ _) (demand2 _ _ _) (fg .1)))
 
 -- ---- sense data end to end: `make` is called, then `read` with the bytes that it wrote
 
-module _ (x : Call sense-make.ended (λ M. sense-make.clauses)) (κs : Lfts (sense-read.ended .signature .lifetimes)) (args : Args (sense-read.ended .signature) κs) where
-  abbrev asked-after : Call sense-read.ended (λ M. sense-read.clauses)
-  asked-after = beside x κs args tt
-
-  pub sense-end-to-end : (o : Outcome sense-make.ended (λ M. sense-make.clauses) x) (p : Outcome sense-read.ended (λ M. sense-read.clauses) asked-after)
-      → ent (x .𝓤) (conj (x .𝓤) (allowed sense-make.ended (λ M. sense-make.clauses) x o) (allowed sense-read.ended (λ M. sense-read.clauses) asked-after p)) (fact (x .𝓤) (
-      saying x o (λ _ number out r _ out′.
-      saying asked-after p (λ _ s₂ r₂ _.
-      r .refusal .number ≡ 0 → now s₂ ≡ take (r .count) out′ → heard r₂ ≡ kindOf number))))
-  sense-end-to-end o p = both (x .𝓤) (λ e f z there. f ∙ ap sensed there ∙ by (Makes _ _) (makes-sense _ _) e .back z)
+pub sense-end-to-end : Both sense-make.ended (λ M. sense-make.clauses) sense-read.ended (λ M. sense-read.clauses)
+    (λ x o y p. saying x o (λ _ number out r _ out′.
+    saying y p (λ _ s₂ r₂ _.
+    r .refusal .number ≡ 0 → now s₂ ≡ take (r .count) out′ → heard r₂ ≡ kindOf number)))
+sense-end-to-end x κs args g o p = both (x .𝓤) (λ e f z there. f ∙ ap sensed there ∙ by (Makes _ _) (makes-sense _ _) e .back z)
 
 -- ---- `gcf_respond` leaves what `respond` answers and leaves, called with the same sheet, command and buffer
 
-module _ (x : Call gcf-respond.ended (λ M. gcf-respond.clauses)) (κs : Lfts (respond.ended .signature .lifetimes)) (args : Args (respond.ended .signature) κs) where
-  abbrev direct : Call respond.ended (λ M. respond.clauses)
-  direct = beside x κs args tt
-
-  pub gcf-respond-same : (o : Outcome gcf-respond.ended (λ M. gcf-respond.clauses) x) (p : Outcome respond.ended (λ M. respond.clauses) direct)
-      → ent (x .𝓤) (conj (x .𝓤) (allowed gcf-respond.ended (λ M. gcf-respond.clauses) x o) (allowed respond.ended (λ M. respond.clauses) direct p)) (fact (x .𝓤) (
-      saying x o (λ _ columns sheet command response told r _ _ _ response′ told′.
-      saying direct p (λ _ lay₂ s₂ command₂ out₂ r₂ _ _ _ out₂′.
-      stored lay₂ (now s₂) ≡ stored (layoutOf columns) (now sheet) → now command₂ ≡ now command → now out₂ ≡ now response
-      → left r response′ told′ ≡ showMade (maker.outcome r₂ out₂′)))))
-  gcf-respond-same o p = both (x .𝓤) (λ e f a b c. e ∙ ap showMade (sym (rw (← a, ← b, ← c) f)))
+pub gcf-respond-same : Both gcf-respond.ended (λ M. gcf-respond.clauses) respond.ended (λ M. respond.clauses)
+    (λ x o y p. saying x o (λ _ columns sheet command response told r _ _ _ response′ told′.
+    saying y p (λ _ lay₂ s₂ command₂ out₂ r₂ _ _ _ out₂′.
+    stored lay₂ (now s₂) ≡ stored (layoutOf columns) (now sheet) → now command₂ ≡ now command → now out₂ ≡ now response
+    → left r response′ told′ ≡ showMade (maker.outcome r₂ out₂′))))
+gcf-respond-same x κs args g o p = both (x .𝓤) (λ e f a b c. e ∙ ap showMade (sym (rw (← a, ← b, ← c) f)))

@@ -77,8 +77,9 @@ use Rattle.reading.proofs.length_at as reading-length-at
 use Rattle.reading.proofs.next_at as next-at
 use Rattle.reading.proofs.body_at as body-at
 use Rattle.reading.proofs.complete as complete
+use Rattle.reading.proofs.complete_number as complete-number
 use Rattle.reading.proofs.judge as judge
-use Rattle.demands.proofs.Readings.{Completes, completes}
+use Rattle.demands.proofs.Readings.{Completes, completes, CompletesBy, completes-by}
 use Rattle.demands.proofs.Named.{named}
 
 -- ---- base
@@ -264,6 +265,9 @@ body-at-tied x = promises (x .𝓤) (λ o e. e)
 
 pub complete-tied : Promised complete.ended (λ M. complete.clauses) (λ M. complete.spec) (named (λ _ s r _. Completes (now s) r))
 complete-tied x = promises (x .𝓤) (λ o. by (Completes _) (completes _))
+
+pub complete-number-tied : Promised complete-number.ended (λ M. complete-number.clauses) (λ M. complete-number.spec) (named (λ _ s r _. CompletesBy (now s) r))
+complete-number-tied x = promises (x .𝓤) (λ o. by (CompletesBy _) (completes-by _))
 
 pub judge-tied : Promised judge.ended (λ M. judge.clauses) (λ M. judge.spec) (named (λ _ s r _. r ≡ judged (now s)))
 judge-tied x = promises (x .𝓤) (λ o e. e)

@@ -8,14 +8,10 @@ use Prim.Native.Nat.{ℕ, zero, suc}
 use native.Mathlib.Omega.{arith}
 use lib.Dec.{ltb}
 use lib.ListN.{length, take}
-use base.Logic.{ent}
-use contract.Monad.{conj, fact}
-use contract.Lifetimes.{Lfts}
-use denote.Triple.Entry.{Args}
 use denote.Ref.{now}
 use Rattle.base.specs.Lists.{Bytes}
-use Rattle.base.proofs.Decided.{Call, Outcome, allowed}
-use Rattle.base.proofs.Promise.{beside, all-three}
+use Rattle.base.proofs.Decided.{Outcome}
+use Rattle.base.proofs.Promise.{all-three}
 use Rattle.refusal.specs.declared.Refusal.{Refusal}
 use Rattle.refusal.specs.First.{refuse, accept, _if_else_, _orElse_}
 use Rattle.refusal.proofs.First.{orElse-none, unless-none, unless-fault}
@@ -45,7 +41,7 @@ use Rattle.rom.proofs.Accepted as rom
 use Rattle.rom.proofs.respond as rom-respond
 use Rattle.demands.proofs.Sending.{Leaves, leaves}
 use Rattle.demands.proofs.Importing.{imported-accepted, imported-means, stored}
-use Rattle.demands.proofs.Named.{saying}
+use Rattle.demands.proofs.Named.{saying, AllThree}
 
 -- ---- one call
 
@@ -127,25 +123,14 @@ agree i d c e b o q s there = record {
         ap (λ (x : maker.Outcome). x .made .refusal) (images i c e .refuses f)
         ∙ sym (ap (λ (x : maker.Outcome). x .made .refusal) (q ∙ makes-fault (captureFault i) 42 (sheetFrom i .bytes) d f))
 
-module _ (x : Call import.ended (λ M. import.clauses)) (κs : Lfts (respond.ended .signature .lifetimes)) (args : Args (respond.ended .signature) κs)
-    (κs₂ : Lfts (rom-respond.ended .signature .lifetimes)) (args₂ : Args (rom-respond.ended .signature) κs₂) where
-  abbrev by-sheet : Call respond.ended (λ M. respond.clauses)
-  by-sheet = beside x κs args tt
-
-  abbrev by-image : Call rom-respond.ended (λ M. rom-respond.clauses)
-  by-image = beside x κs₂ args₂ tt
-
-  pub rom-end-to-end : (o : Outcome import.ended (λ M. import.clauses) x) (p : Outcome respond.ended (λ M. respond.clauses) by-sheet)
-      (q : Outcome rom-respond.ended (λ M. rom-respond.clauses) by-image)
-      → ent (x .𝓤) (conj (x .𝓤) (allowed import.ended (λ M. import.clauses) x o)
-      (conj (x .𝓤) (allowed respond.ended (λ M. respond.clauses) by-sheet p) (allowed rom-respond.ended (λ M. rom-respond.clauses) by-image q))) (fact (x .𝓤) (
-      saying x o (λ _ response sheet r _ sheet′.
-      saying by-sheet p (λ _ lay₂ s₂ command₂ out₂ r₂ _ _ _ out₂′.
-      saying by-image q (λ _ image₃ command₃ out₃ r₃ _ _ out₃′.
-      Bytes (now response) → now image₃ ≡ now response → layout.stored lay₂ (now s₂) ≡ layout.stored Rows (take (r .count) sheet′)
-      → now command₃ ≡ now command₂ → now out₃ ≡ now out₂
-      → Agrees (r .refusal) (maker.outcome r₂ out₂′) (maker.outcome r₃ out₃′))))))
-  rom-end-to-end o p q =
-      all-three (x .𝓤) (λ e fg b is-image there is-command is-buffer.
-      let a = agree (x .args .0 .now) (x .args .1 .0 .now) (args .1 .1 .0 .now) (args .1 .1 .1 .0 .now) b (maker.outcome (o .0) (o .1 .1 .0)) e (layout.stored (args .0) (args .1 .0 .now)) there in
-      rw (fg .0, rw (is-image, is-command, is-buffer) at (fg .1)) a)
+pub rom-end-to-end : AllThree import.ended (λ M. import.clauses) respond.ended (λ M. respond.clauses) rom-respond.ended (λ M. rom-respond.clauses)
+    (λ x o y p z q. saying x o (λ _ response sheet r _ sheet′.
+    saying y p (λ _ lay₂ s₂ command₂ out₂ r₂ _ _ _ out₂′.
+    saying z q (λ _ image₃ command₃ out₃ r₃ _ _ out₃′.
+    Bytes (now response) → now image₃ ≡ now response → layout.stored lay₂ (now s₂) ≡ layout.stored Rows (take (r .count) sheet′)
+    → now command₃ ≡ now command₂ → now out₃ ≡ now out₂
+    → Agrees (r .refusal) (maker.outcome r₂ out₂′) (maker.outcome r₃ out₃′)))))
+rom-end-to-end x κs args g κs₂ args₂ g₂ o p q =
+    all-three (x .𝓤) (λ e fg b is-image there is-command is-buffer.
+    let a = agree (x .args .0 .now) (x .args .1 .0 .now) (args .1 .1 .0 .now) (args .1 .1 .1 .0 .now) b (maker.outcome (o .0) (o .1 .1 .0)) e (layout.stored (args .0) (args .1 .0 .now)) there in
+    rw (fg .0, rw (is-image, is-command, is-buffer) at (fg .1)) a)

@@ -9,15 +9,11 @@ use Prim.Native.Nat.{ℕ, zero, suc, _/_, _≤_, _<_}
 use native.Mathlib.Omega.{arith}
 use lib.Dec.{ltb, eqb}
 use lib.ListN.{length, getD, take, replicate}
-use base.Logic.{ent}
-use contract.Monad.{conj, fact}
-use contract.Lifetimes.{Lfts}
 use denote.Ref.{now}
-use denote.Triple.Entry.{Args}
 use Rattle.base.specs.Lists.{each, flat, keep, Bytes}
 use Rattle.base.specs.Pick.{pick}
-use Rattle.base.proofs.Decided.{Call, Outcome, allowed}
-use Rattle.base.proofs.Promise.{Promised, promises, by, beside, both, all-three}
+use Rattle.base.proofs.Decided.{Outcome}
+use Rattle.base.proofs.Promise.{Promised, promises, by, both, all-three}
 use Rattle.fields.specs.Field.{field, spell}
 use Rattle.refusal.specs.declared.Refusal.{Refusal}
 use Rattle.refusal.specs.First.{refuse, accept, _if_else_, pickZero, _orElse_, unless}
@@ -57,7 +53,7 @@ use Rattle.demands.specs.Across.{asking, across}
 use Rattle.demands.specs.Recorder.{sheetE}
 use Rattle.demands.proofs.Sending.{Answers, demand2}
 use Rattle.demands.proofs.Converting.{Converts, converts}
-use Rattle.demands.proofs.Named.{named, saying}
+use Rattle.demands.proofs.Named.{named, saying, Both, AllThree}
 
 -- ---- whether a profile is listed
 
@@ -105,32 +101,22 @@ module _ {fs ps : List ℕ} {s t : Sheet} {d : List ℕ} {o : maker.Outcome} (l 
   swept-there rt a c p =
       subst (λ (x : Sheet). Swept (driveWith fs ps (meaning s)) rt a c (benched x rt a c)) (sym is-loaded) (demand3-loaded fs ps s b fine rt a c p)
 
-module _ (x : Call load.ended (λ M. load.clauses)) (κs : Lfts (respond.ended .signature .lifetimes)) (args : Args (respond.ended .signature) κs) where
-  abbrev asking-it : Call respond.ended (λ M. respond.clauses)
-  asking-it = beside x κs args tt
+pub load-respond : Both load.ended (λ M. load.clauses) respond.ended (λ M. respond.clauses)
+    (λ x o y p. saying x o (λ _ lay s features profiles out r _ _ _ _ out′.
+    saying y p (λ _ lay₂ s₂ command₂ out₂ r₂ _ _ _ out₂′.
+    r .refusal .number ≡ 0 → Bytes (now s) → stored lay₂ (now s₂) ≡ stored lay (take (r .count) out′) → commandFault (now command₂) .number ≡ 0
+    → length (sent (rtOf (now command₂)) (sfnOf (now command₂)) (allocationOf (now command₂)) (driveWith (now features) (now profiles) (meaning (stored lay (now s))))) ≤ length (now out₂)
+    → maker.outcome r₂ out₂′ ≡ maker.making (sent (rtOf (now command₂)) (sfnOf (now command₂)) (allocationOf (now command₂)) (driveWith (now features) (now profiles) (meaning (stored lay (now s))))) (now out₂))))
+load-respond x κs args g o p = both (x .𝓤) (λ f g z b there. sent-there (by (Loads _ _ _ _) (loads-so _ _ _ _) f) z b there _ _ (by (Answers _ _ _) (demand2 _ _ _) g))
 
-  pub load-respond : (o : Outcome load.ended (λ M. load.clauses) x) (p : Outcome respond.ended (λ M. respond.clauses) asking-it)
-      → ent (x .𝓤) (conj (x .𝓤) (allowed load.ended (λ M. load.clauses) x o) (allowed respond.ended (λ M. respond.clauses) asking-it p)) (fact (x .𝓤) (
-      saying x o (λ _ lay s features profiles out r _ _ _ _ out′.
-      saying asking-it p (λ _ lay₂ s₂ command₂ out₂ r₂ _ _ _ out₂′.
-      r .refusal .number ≡ 0 → Bytes (now s) → stored lay₂ (now s₂) ≡ stored lay (take (r .count) out′) → commandFault (now command₂) .number ≡ 0
-      → length (sent (rtOf (now command₂)) (sfnOf (now command₂)) (allocationOf (now command₂)) (driveWith (now features) (now profiles) (meaning (stored lay (now s))))) ≤ length (now out₂)
-      → maker.outcome r₂ out₂′ ≡ maker.making (sent (rtOf (now command₂)) (sfnOf (now command₂)) (allocationOf (now command₂)) (driveWith (now features) (now profiles) (meaning (stored lay (now s))))) (now out₂)))))
-  load-respond o p = both (x .𝓤) (λ f g z b there. sent-there (by (Loads _ _ _ _) (loads-so _ _ _ _) f) z b there _ _ (by (Answers _ _ _) (demand2 _ _ _) g))
-
-module _ (x : Call load.ended (λ M. load.clauses)) (κs : Lfts (bench.ended .signature .lifetimes)) (args : Args (bench.ended .signature) κs) where
-  abbrev sweeping-it : Call bench.ended (λ M. bench.clauses)
-  sweeping-it = beside x κs args tt
-
-  pub load-bench : (o : Outcome load.ended (λ M. load.clauses) x) (p : Outcome bench.ended (λ M. bench.clauses) sweeping-it)
-      → ent (x .𝓤) (conj (x .𝓤) (allowed load.ended (λ M. load.clauses) x o) (allowed bench.ended (λ M. bench.clauses) sweeping-it p)) (fact (x .𝓤) (
-      saying x o (λ _ lay s features profiles out r _ _ _ _ out′.
-      saying sweeping-it p (λ _ lay₂ s₂ rt₂ a₂ response₂ collected₂ starts₂ r₂ _ _ _ _ response₂′ collected₂′ starts₂′.
-      r .refusal .number ≡ 0 → Bytes (now s) → stored lay₂ (now s₂) ≡ stored lay (take (r .count) out′)
-      → Premises (driveWith (now features) (now profiles) (meaning (stored lay (now s)))) rt₂ a₂ (buffers (now response₂) (now collected₂) (now starts₂))
-      → Swept (driveWith (now features) (now profiles) (meaning (stored lay (now s)))) rt₂ a₂ (buffers (now response₂) (now collected₂) (now starts₂))
-      (ending r₂ (buffers response₂′ collected₂′ starts₂′))))))
-  load-bench o p = both (x .𝓤) (λ f g z b there pr. by (Swept _ _ _ _) (swept-there (by (Loads _ _ _ _) (loads-so _ _ _ _) f) z b there _ _ _ pr) g)
+pub load-bench : Both load.ended (λ M. load.clauses) bench.ended (λ M. bench.clauses)
+    (λ x o y p. saying x o (λ _ lay s features profiles out r _ _ _ _ out′.
+    saying y p (λ _ lay₂ s₂ rt₂ a₂ response₂ collected₂ starts₂ r₂ _ _ _ _ response₂′ collected₂′ starts₂′.
+    r .refusal .number ≡ 0 → Bytes (now s) → stored lay₂ (now s₂) ≡ stored lay (take (r .count) out′)
+    → Premises (driveWith (now features) (now profiles) (meaning (stored lay (now s)))) rt₂ a₂ (buffers (now response₂) (now collected₂) (now starts₂))
+    → Swept (driveWith (now features) (now profiles) (meaning (stored lay (now s)))) rt₂ a₂ (buffers (now response₂) (now collected₂) (now starts₂))
+    (ending r₂ (buffers response₂′ collected₂′ starts₂′)))))
+load-bench x κs args g o p = both (x .𝓤) (λ f g z b there pr. by (Swept _ _ _ _) (swept-there (by (Loads _ _ _ _) (loads-so _ _ _ _) f) z b there _ _ _ pr) g)
 
 -- ---- loading B after A: `load` is called with A, then with B on what it left, and with B on the sheet itself
 
@@ -142,27 +128,17 @@ module _ {fs ps d : List ℕ} {s t u : Sheet} {o : maker.Outcome} (a : Loads fs 
       ∙ loading-last s b (accepts a z) fs ps fs′ ps′ e
       ∙ ap (λ (x : Sheet). loading fs′ ps′ x e) (sym first)
 
-module _ (x : Call load.ended (λ M. load.clauses)) (κs : Lfts (load.ended .signature .lifetimes)) (args : Args (load.ended .signature) κs)
-    (κs₂ : Lfts (load.ended .signature .lifetimes)) (args₂ : Args (load.ended .signature) κs₂) where
-  abbrev after : Call load.ended (λ M. load.clauses)
-  after = beside x κs args tt
-
-  abbrev alone : Call load.ended (λ M. load.clauses)
-  alone = beside x κs₂ args₂ tt
-
-  pub load-last : (o : Outcome load.ended (λ M. load.clauses) x) (p : Outcome load.ended (λ M. load.clauses) after) (q : Outcome load.ended (λ M. load.clauses) alone)
-      → ent (x .𝓤) (conj (x .𝓤) (allowed load.ended (λ M. load.clauses) x o)
-      (conj (x .𝓤) (allowed load.ended (λ M. load.clauses) after p) (allowed load.ended (λ M. load.clauses) alone q))) (fact (x .𝓤) (
-      saying x o (λ _ lay s features profiles out r _ _ _ _ out′.
-      saying after p (λ _ lay₂ s₂ features₂ profiles₂ out₂ r₂ _ _ _ _ out₂′.
-      saying alone q (λ _ lay₃ s₃ features₃ profiles₃ out₃ r₃ _ _ _ _ out₃′.
-      r .refusal .number ≡ 0 → Bytes (now s) → stored lay₂ (now s₂) ≡ stored lay (take (r .count) out′) → stored lay₃ (now s₃) ≡ stored lay (now s)
-      → now features₃ ≡ now features₂ → now profiles₃ ≡ now profiles₂ → now out₃ ≡ now out₂
-      → maker.outcome r₂ out₂′ ≡ maker.outcome r₃ out₃′)))))
-  load-last o p q =
-      all-three (x .𝓤) (λ e fg z b there first are-features are-profiles is-out.
-      fg .0 ∙ alike (by (Loads _ _ _ _) (loads-so _ _ _ _) e) z b there first (args .1 .1 .0 .now) (args .1 .1 .1 .0 .now) (args .1 .1 .1 .1 .0 .now)
-      ∙ sym (rw (are-features, are-profiles, is-out) at (fg .1)))
+pub load-last : AllThree load.ended (λ M. load.clauses) load.ended (λ M. load.clauses) load.ended (λ M. load.clauses)
+    (λ x o y p z q. saying x o (λ _ lay s features profiles out r _ _ _ _ out′.
+    saying y p (λ _ lay₂ s₂ features₂ profiles₂ out₂ r₂ _ _ _ _ out₂′.
+    saying z q (λ _ lay₃ s₃ features₃ profiles₃ out₃ r₃ _ _ _ _ out₃′.
+    r .refusal .number ≡ 0 → Bytes (now s) → stored lay₂ (now s₂) ≡ stored lay (take (r .count) out′) → stored lay₃ (now s₃) ≡ stored lay (now s)
+    → now features₃ ≡ now features₂ → now profiles₃ ≡ now profiles₂ → now out₃ ≡ now out₂
+    → maker.outcome r₂ out₂′ ≡ maker.outcome r₃ out₃′))))
+load-last x κs args g κs₂ args₂ g₂ o p q =
+    all-three (x .𝓤) (λ e fg z b there first are-features are-profiles is-out.
+    fg .0 ∙ alike (by (Loads _ _ _ _) (loads-so _ _ _ _) e) z b there first (args .1 .1 .0 .now) (args .1 .1 .1 .0 .now) (args .1 .1 .1 .1 .0 .now)
+    ∙ sym (rw (are-features, are-profiles, is-out) at (fg .1)))
 
 -- ---- both layouts of one sheet load to both layouts of one sheet: `convert` is called, then `load` with what it left and with the sheet itself
 
@@ -222,27 +198,17 @@ module _ {l : Layout} {s t u : Sheet} {c : List ℕ} {a : maker.Outcome} (v : Co
   either {fs} {ps} {d} {e} {o} {q} x y n =
       loads-either l s b (v .accepts b z) (subst (λ (w : Sheet). Loads fs ps w d o) is-laid x) (subst (λ (w : Sheet). Loads fs ps w e q) first y) n
 
-module _ (x : Call convert.ended (λ M. convert.clauses)) (κs : Lfts (load.ended .signature .lifetimes)) (args : Args (load.ended .signature) κs)
-    (κs₂ : Lfts (load.ended .signature .lifetimes)) (args₂ : Args (load.ended .signature) κs₂) where
-  abbrev by-laid : Call load.ended (λ M. load.clauses)
-  by-laid = beside x κs args tt
-
-  abbrev by-first : Call load.ended (λ M. load.clauses)
-  by-first = beside x κs₂ args₂ tt
-
-  pub load-either : (o : Outcome convert.ended (λ M. convert.clauses) x) (p : Outcome load.ended (λ M. load.clauses) by-laid) (q : Outcome load.ended (λ M. load.clauses) by-first)
-      → ent (x .𝓤) (conj (x .𝓤) (allowed convert.ended (λ M. convert.clauses) x o)
-      (conj (x .𝓤) (allowed load.ended (λ M. load.clauses) by-laid p) (allowed load.ended (λ M. load.clauses) by-first q))) (fact (x .𝓤) (
-      saying x o (λ _ to lay s out r _ _ _ out′.
-      saying by-laid p (λ _ lay₂ s₂ features₂ profiles₂ out₂ r₂ _ _ _ _ out₂′.
-      saying by-first q (λ _ lay₃ s₃ features₃ profiles₃ out₃ r₃ _ _ _ _ out₃′.
-      r .refusal .number ≡ 0 → Bytes (now s) → stored lay₂ (now s₂) ≡ stored to (take (r .count) out′) → stored lay₃ (now s₃) ≡ stored lay (now s)
-      → now features₃ ≡ now features₂ → now profiles₃ ≡ now profiles₂ → length (now out₂) ≡ length (now out₃)
-      → Either to (stored lay (now s)) (maker.outcome r₂ out₂′) (maker.outcome r₃ out₃′))))))
-  load-either o p q =
-      all-three (x .𝓤) (λ e fg z b there first are-features are-profiles n.
-      either (by (Converts _ _ _) (converts _ _ _) e) z b there first (by (Loads _ _ _ _) (loads-so _ _ _ _) (fg .0))
-      (by (Loads _ _ _ _) (loads-so _ _ _ _) (rw (are-features, are-profiles) at (fg .1))) n)
+pub load-either : AllThree convert.ended (λ M. convert.clauses) load.ended (λ M. load.clauses) load.ended (λ M. load.clauses)
+    (λ x o y p z q. saying x o (λ _ to lay s out r _ _ _ out′.
+    saying y p (λ _ lay₂ s₂ features₂ profiles₂ out₂ r₂ _ _ _ _ out₂′.
+    saying z q (λ _ lay₃ s₃ features₃ profiles₃ out₃ r₃ _ _ _ _ out₃′.
+    r .refusal .number ≡ 0 → Bytes (now s) → stored lay₂ (now s₂) ≡ stored to (take (r .count) out′) → stored lay₃ (now s₃) ≡ stored lay (now s)
+    → now features₃ ≡ now features₂ → now profiles₃ ≡ now profiles₂ → length (now out₂) ≡ length (now out₃)
+    → Either to (stored lay (now s)) (maker.outcome r₂ out₂′) (maker.outcome r₃ out₃′)))))
+load-either x κs args g κs₂ args₂ g₂ o p q =
+    all-three (x .𝓤) (λ e fg z b there first are-features are-profiles n.
+    either (by (Converts _ _ _) (converts _ _ _) e) z b there first (by (Loads _ _ _ _) (loads-so _ _ _ _) (fg .0))
+    (by (Loads _ _ _ _) (loads-so _ _ _ _) (rw (are-features, are-profiles) at (fg .1))) n)
 
 -- ---- a medium that makes current what is so already, and none at all
 

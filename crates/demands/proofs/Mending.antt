@@ -12,16 +12,12 @@ use lib.Bits.{bitAnd, and-zero-r}
 use lib.Dec.{eqb, ltb}
 use lib.ListN.{length, take, drop, getD}
 use lib.Seq.{take-at}
-use base.Logic.{ent}
-use contract.Monad.{conj, fact}
-use contract.Lifetimes.{Lfts}
-use denote.Triple.Entry.{Args}
 use denote.Ref.{now}
 use Rattle.base.specs.Lists.{flat, All, Bytes}
 use Rattle.base.specs.Pick.{pick}
 use Rattle.base.proofs.Bits.{below, below-all}
-use Rattle.base.proofs.Decided.{Call, Outcome, allowed}
-use Rattle.base.proofs.Promise.{Promised, promises, by, beside, both, all-three, Twice}
+use Rattle.base.proofs.Decided.{Outcome}
+use Rattle.base.proofs.Promise.{Promised, promises, by, both, all-three, Twice}
 use Rattle.fields.specs.Field.{field, spell}
 use Rattle.fields.proofs.Laws.{field-take}
 use Rattle.refusal.specs.declared.Refusal.{Refusal}
@@ -30,10 +26,9 @@ use Rattle.refusal.proofs.First.{orElse-none, orElse-fault, placed-number, if-z
 use Rattle.refusal.proofs.Numbers.{if-holds, first-holds}
 use Rattle.lent.specs.Maker as maker
 use Rattle.lent.proofs.Maker.{makes-number}
-use Rattle.text.specs.Flags.{persistent, current, alone}
 use Rattle.text.specs.Drive.{Desc, Good}
 use Rattle.text.specs.Response.{bytes, currentProfile}
-use Rattle.text.proofs.FlagsRule.{flags-accept}
+use Rattle.text.proofs.FlagsRule.{flags-even}
 use Rattle.reading.specs.Places.{descs, reported}
 use Rattle.reading.specs.Completed.{completeFault}
 use Rattle.reading.proofs.read as read
@@ -47,7 +42,7 @@ use Rattle.legal.specs.Legal.{legal, rowOf, maskBytes}
 use Rattle.legal.specs.Bodies.{byteOf, maskAt, wrongLength, reservedAt, cueRule}
 use Rattle.checks.specs.Check.{checked}
 use Rattle.refusal.proofs.Calls.{if-no}
-use Rattle.base.proofs.Bools.{not-yes, not-no, true-and}
+use Rattle.base.proofs.Bools.{not-no, false-or}
 use Rattle.checks.proofs.Faultless.{passes-of}
 use Rattle.legal.proofs.row_of as row-of
 use Rattle.legal.proofs.wrong_length as wrong-length
@@ -67,7 +62,7 @@ use Rattle.mend.proofs.Made.{fixed-clean}
 use Rattle.mend.proofs.Kept.{profile-is, mended-kept, mended-read}
 use Rattle.mend.proofs.Promised.{Remains, Mends, mends-so, mending-so, made-so}
 use Rattle.mend.proofs.mend as mend
-use Rattle.demands.proofs.Named.{named, saying}
+use Rattle.demands.proofs.Named.{named, saying, Both, AllThree}
 
 pub mend-tied : Promised mend.ended (λ M. mend.clauses) (λ M. mend.spec)
     (named (λ _ response copy list r _ copy′ list′. Mends (now response) (now copy) (now list) (mending.outcome r copy′ list′)))
@@ -141,50 +136,34 @@ mend-again x κs args g o p = both (x .𝓤) (λ e f z bs there room.
     still _ _ _ f (subst (λ (s : List ℕ). completeFault s .number ≡ 0) (sym is) (mended-complete _ bs c)) room (ap mended is ∙ mended-again _ bs c ∙ sym is))
 
 -- AFTERWARDS THE CHECK CAN FIND ONLY 30, 31 OR 39: `mend` is called, then `check_descriptors` with what it left
-module _ (x : Call mend.ended (λ M. mend.clauses)) (κs : Lfts (check-descriptors.ended .signature .lifetimes)) (args : Args (check-descriptors.ended .signature) κs) where
-  abbrev looking : Call check-descriptors.ended (λ M. check-descriptors.clauses)
-  looking = beside x κs args tt
+pub mend-check : Both mend.ended (λ M. mend.clauses) check-descriptors.ended (λ M. check-descriptors.clauses)
+    (λ x o y p. saying x o (λ _ response copy list r _ copy′ list′.
+    saying y p (λ _ s₂ r₂ _.
+    r .refusal .number ≡ 0 → Bytes (now response) → now s₂ ≡ take (r .length) copy′ → Remains (r₂ .refusal .number))))
+mend-check x κs args g o p = both (x .𝓤) (λ e f z bs there.
+    subst (λ (v : Finding). Remains (v .refusal .number)) (sym (f ∙ ap checked (there ∙ is-mended _ _ _ e z bs))) (mending-so _ bs (facts _ _ _ e z bs .0) .found))
 
-  pub mend-check : (o : Outcome mend.ended (λ M. mend.clauses) x) (p : Outcome check-descriptors.ended (λ M. check-descriptors.clauses) looking)
-      → ent (x .𝓤) (conj (x .𝓤) (allowed mend.ended (λ M. mend.clauses) x o) (allowed check-descriptors.ended (λ M. check-descriptors.clauses) looking p)) (fact (x .𝓤) (
-      saying x o (λ _ response copy list r _ copy′ list′.
-      saying looking p (λ _ s₂ r₂ _.
-      r .refusal .number ≡ 0 → Bytes (now response) → now s₂ ≡ take (r .length) copy′ → Remains (r₂ .refusal .number)))))
-  mend-check o p = both (x .𝓤) (λ e f z bs there.
-      subst (λ (v : Finding). Remains (v .refusal .number)) (sym (f ∙ ap checked (there ∙ is-mended _ _ _ e z bs))) (mending-so _ bs (facts _ _ _ e z bs .0) .found))
-
-  -- WHAT THE CHECK ACCEPTED IS NOT CHANGED: it is called, and `mend` with the same response
-  pub check-mend : (o : Outcome mend.ended (λ M. mend.clauses) x) (p : Outcome check-descriptors.ended (λ M. check-descriptors.clauses) looking)
-      → ent (x .𝓤) (conj (x .𝓤) (allowed mend.ended (λ M. mend.clauses) x o) (allowed check-descriptors.ended (λ M. check-descriptors.clauses) looking p)) (fact (x .𝓤) (
-      saying x o (λ _ response copy list r _ copy′ list′.
-      saying looking p (λ _ s₂ r₂ _.
-      r₂ .refusal .number ≡ 0 → Bytes (now response) → now s₂ ≡ now response → length (now response) ≤ length (now copy)
-      → Still (now response) (now copy) (now list) (mending.outcome r copy′ list′)))))
-  check-mend o p = both (x .𝓤) (λ e f z bs same room.
-      let k = ap (λ (v : Finding). v .refusal .number) (sym (f ∙ ap checked same)) ∙ z in
-      still _ _ _ e (passes-of _ k .input) room (mended-kept _ bs k))
+-- WHAT THE CHECK ACCEPTED IS NOT CHANGED: it is called, and `mend` with the same response
+pub check-mend : Both mend.ended (λ M. mend.clauses) check-descriptors.ended (λ M. check-descriptors.clauses)
+    (λ x o y p. saying x o (λ _ response copy list r _ copy′ list′.
+    saying y p (λ _ s₂ r₂ _.
+    r₂ .refusal .number ≡ 0 → Bytes (now response) → now s₂ ≡ now response → length (now response) ≤ length (now copy)
+    → Still (now response) (now copy) (now list) (mending.outcome r copy′ list′))))
+check-mend x κs args g o p = both (x .𝓤) (λ e f z bs same room.
+    let k = ap (λ (v : Finding). v .refusal .number) (sym (f ∙ ap checked same)) ∙ z in
+    still _ _ _ e (passes-of _ k .input) room (mended-kept _ bs k))
 
 -- IT IS READ AS BEFORE: `mend` is called, and `read` with the response and with what was left; the two readings are the same, and so are the descriptors but for flags and bodies
-module _ (x : Call mend.ended (λ M. mend.clauses)) (κs : Lfts (read.ended .signature .lifetimes)) (args : Args (read.ended .signature) κs)
-    (κs₂ : Lfts (read.ended .signature .lifetimes)) (args₂ : Args (read.ended .signature) κs₂) where
-  abbrev before : Call read.ended (λ M. read.clauses)
-  before = beside x κs args tt
-
-  abbrev after : Call read.ended (λ M. read.clauses)
-  after = beside x κs₂ args₂ tt
-
-  pub mend-read : (o : Outcome mend.ended (λ M. mend.clauses) x) (p : Outcome read.ended (λ M. read.clauses) before) (q : Outcome read.ended (λ M. read.clauses) after)
-      → ent (x .𝓤) (conj (x .𝓤) (allowed mend.ended (λ M. mend.clauses) x o)
-      (conj (x .𝓤) (allowed read.ended (λ M. read.clauses) before p) (allowed read.ended (λ M. read.clauses) after q))) (fact (x .𝓤) (
-      saying x o (λ _ response copy list r _ copy′ list′.
-      saying before p (λ _ rt₂ sfn₂ s₂ r₂ _ _ _.
-      saying after q (λ _ rt₃ sfn₃ s₃ r₃ _ _ _.
-      r .refusal .number ≡ 0 → Bytes (now response) → now s₂ ≡ now response → now s₃ ≡ take (r .length) copy′
-      → rt₂ ≡ 0 → sfn₂ .0 ≡ 0 → rt₃ ≡ 0 → sfn₃ .0 ≡ 0 → r₃ ≡ r₂)))))
-  mend-read o p q =
-      all-three (x .𝓤) (λ e fg z bs first there a b c d.
-      let k = facts _ _ _ e z bs .0 in
-      rw (c, d, there ∙ is-mended _ _ _ e z bs) at (fg .1) ∙ mended-read _ bs k ∙ sym (rw (a, b, first) at (fg .0)))
+pub mend-read : AllThree mend.ended (λ M. mend.clauses) read.ended (λ M. read.clauses) read.ended (λ M. read.clauses)
+    (λ x o y p z q. saying x o (λ _ response copy list r _ copy′ list′.
+    saying y p (λ _ rt₂ sfn₂ s₂ r₂ _ _ _.
+    saying z q (λ _ rt₃ sfn₃ s₃ r₃ _ _ _.
+    r .refusal .number ≡ 0 → Bytes (now response) → now s₂ ≡ now response → now s₃ ≡ take (r .length) copy′
+    → rt₂ ≡ 0 → sfn₂ .0 ≡ 0 → rt₃ ≡ 0 → sfn₃ .0 ≡ 0 → r₃ ≡ r₂))))
+mend-read x κs args g κs₂ args₂ g₂ o p q =
+    all-three (x .𝓤) (λ e fg z bs first there a b c d.
+    let k = facts _ _ _ e z bs .0 in
+    rw (c, d, there ∙ is-mended _ _ _ e z bs) at (fg .1) ∙ mended-read _ bs k ∙ sym (rw (a, b, first) at (fg .0)))
 
 -- ---- where an import was refused for flags alone, it is no more
 
@@ -254,14 +233,7 @@ module _ (removable : Bool) where
   unfolding flagsRule mendedDesc
   flags-pass d g =
       let m = flags-mended removable (d .number) (d .flags) (g .flags-low) in
-      flags-accept (refuse 5) (refuse 44) _ record { reserved-zero = m .reserved-zero; current-too = λ p. lone _ (m .not-alone) p }
-    where
-      lone : (f : ℕ) → alone f ≡ false → persistent f ≡ 1 → current f ≡ 1
-      lone f e p = go (eqb (current f) 1) refl
-        where
-          go : (t : Bool) → eqb (current f) 1 ≡ t → current f ≡ 1
-          go true t = eqb-true _ _ t
-          go false t = absurd (true≢false (sym (true-and _ _ (eq-eqb _ _ p) (not-yes _ t)) ∙ e))
+      flags-even (refuse 5) (refuse 44) _ (false-or _ _ (ap not (eq-eqb _ 0 (m .reserved-zero))) (m .not-alone))
 
   all-pass : (k : ℕ) (ds : List Desc) → All Good ds → flagsFaults k (mendedDescs removable ds) .number ≡ 0
   unfolding flagsFaults mendedDescs
@@ -351,23 +323,13 @@ fault-of s d n f e = go (captureFault s .number) refl
     go (suc k) q = sym (ap (λ (x : Refusal). x .number) (orElse-fault _ _ (λ z. omega (arith, z, q)))) ∙ m
 
 -- WHERE AN IMPORT WAS REFUSED FOR FLAGS ALONE IT IS NO MORE: `mend` is called, and `import` with the response and with what was left
-module _ (x : Call mend.ended (λ M. mend.clauses)) (κs : Lfts (import.ended .signature .lifetimes)) (args : Args (import.ended .signature) κs)
-    (κs₂ : Lfts (import.ended .signature .lifetimes)) (args₂ : Args (import.ended .signature) κs₂) where
-  abbrev refused-one : Call import.ended (λ M. import.clauses)
-  refused-one = beside x κs args tt
-
-  abbrev mended-one : Call import.ended (λ M. import.clauses)
-  mended-one = beside x κs₂ args₂ tt
-
-  pub mend-import : (o : Outcome mend.ended (λ M. mend.clauses) x) (p : Outcome import.ended (λ M. import.clauses) refused-one) (q : Outcome import.ended (λ M. import.clauses) mended-one)
-      → ent (x .𝓤) (conj (x .𝓤) (allowed mend.ended (λ M. mend.clauses) x o)
-      (conj (x .𝓤) (allowed import.ended (λ M. import.clauses) refused-one p) (allowed import.ended (λ M. import.clauses) mended-one q))) (fact (x .𝓤) (
-      saying x o (λ _ response copy list r _ copy′ list′.
-      saying refused-one p (λ _ response₂ sheet₂ r₂ _ sheet₂′.
-      saying mended-one q (λ _ response₃ sheet₃ r₃ _ sheet₃′.
-      r .refusal .number ≡ 0 → Bytes (now response) → now response₂ ≡ now response → now response₃ ≡ take (r .length) copy′
-      → (r₂ .refusal .number ≡ 5) ⊎ (r₂ .refusal .number ≡ 44) → Imported (r₃ .refusal .number))))))
-  mend-import o p q =
-      all-three (x .𝓤) (λ e fg z bs first there f.
-      let was = fault-of _ _ _ f (ap (λ (v : maker.Outcome). v .made .refusal .number) (sym (rw first at (fg .0)))) in
-      subst (λ (v : maker.Outcome). Imported (v .made .refusal .number)) (sym (fg .1)) (import-so _ _ (subst (λ (s : List ℕ). captureFault s .number ≡ 0) (sym (there ∙ is-mended _ _ _ e z bs)) (capture-mended _ bs _ f was))))
+pub mend-import : AllThree mend.ended (λ M. mend.clauses) import.ended (λ M. import.clauses) import.ended (λ M. import.clauses)
+    (λ x o y p z q. saying x o (λ _ response copy list r _ copy′ list′.
+    saying y p (λ _ response₂ sheet₂ r₂ _ sheet₂′.
+    saying z q (λ _ response₃ sheet₃ r₃ _ sheet₃′.
+    r .refusal .number ≡ 0 → Bytes (now response) → now response₂ ≡ now response → now response₃ ≡ take (r .length) copy′
+    → (r₂ .refusal .number ≡ 5) ⊎ (r₂ .refusal .number ≡ 44) → Imported (r₃ .refusal .number)))))
+mend-import x κs args g κs₂ args₂ g₂ o p q =
+    all-three (x .𝓤) (λ e fg z bs first there f.
+    let was = fault-of _ _ _ f (ap (λ (v : maker.Outcome). v .made .refusal .number) (sym (rw first at (fg .0)))) in
+    subst (λ (v : maker.Outcome). Imported (v .made .refusal .number)) (sym (fg .1)) (import-so _ _ (subst (λ (s : List ℕ). captureFault s .number ≡ 0) (sym (there ∙ is-mended _ _ _ e z bs)) (capture-mended _ bs _ f was))))

@@ -6,10 +6,13 @@ use contract.Lifetimes.{Lfts}
 use denote.RattleType.{RattleType, Denots}
 use denote.Exit.{Last}
 use denote.Signature.{Slot, typesAt}
-use denote.Triple.Entry.{Res}
+use base.Logic.{ent}
+use contract.Monad.{conj, fact}
+use denote.Triple.Entry.{Args, Res}
 use denote.Triple.End.{Kepts, Fins}
 use denote.Triple.Clauses.{Ended}
-use Rattle.base.proofs.Decided.{Contract, Call, Outcome}
+use Rattle.base.proofs.Decided.{Contract, Call, Outcome, allowed}
+use Rattle.base.proofs.Promise.{beside}
 
 -- a function of values of the types Ts, one after the other, and its value at all of them
 abbrev pub Over : (Ts : List RattleType) → (Denots Ts → Type 1) → Type 1
@@ -46,3 +49,22 @@ module _ {T : Ended} {c : Contract T} where
   -- the same, where a theorem speaks of several calls
   abbrev pub saying : (x : Call T c) → Outcome T c x → ((κs : Lfts (T .signature .lifetimes)) → Over (typesAt (T .signature .params) κs) (Ending T κs)) → Type 0
   saying x o f = named f x o
+
+-- ---- calls in one model of the logic, so one beside the other
+
+-- φ holds of every two outcomes that a call of one function and a call of another allow
+abbrev pub Both : (T : Ended) (c : Contract T) (T₂ : Ended) (c₂ : Contract T₂) → ((x : Call T c) → Outcome T c x → (y : Call T₂ c₂) → Outcome T₂ c₂ y → Type 0) → Type 2
+Both T c T₂ c₂ φ =
+    (x : Call T c) (κs : Lfts (T₂ .signature .lifetimes)) (args : Args (T₂ .signature) κs) (g : c₂ (x .M) (x .𝓤) (x .H) (x .A) (x .mem) (x .run) κs args .ghost)
+    (o : Outcome T c x) (p : Outcome T₂ c₂ (beside x κs args g))
+    → ent (x .𝓤) (conj (x .𝓤) (allowed T c x o) (allowed T₂ c₂ (beside x κs args g) p)) (fact (x .𝓤) (φ x o (beside x κs args g) p))
+
+-- and of every three that calls of three functions allow
+abbrev pub AllThree : (T : Ended) (c : Contract T) (T₂ : Ended) (c₂ : Contract T₂) (T₃ : Ended) (c₃ : Contract T₃)
+    → ((x : Call T c) → Outcome T c x → (y : Call T₂ c₂) → Outcome T₂ c₂ y → (z : Call T₃ c₃) → Outcome T₃ c₃ z → Type 0) → Type 2
+AllThree T c T₂ c₂ T₃ c₃ φ =
+    (x : Call T c) (κs : Lfts (T₂ .signature .lifetimes)) (args : Args (T₂ .signature) κs) (g : c₂ (x .M) (x .𝓤) (x .H) (x .A) (x .mem) (x .run) κs args .ghost)
+    (κs₂ : Lfts (T₃ .signature .lifetimes)) (args₂ : Args (T₃ .signature) κs₂) (g₂ : c₃ (x .M) (x .𝓤) (x .H) (x .A) (x .mem) (x .run) κs₂ args₂ .ghost)
+    (o : Outcome T c x) (p : Outcome T₂ c₂ (beside x κs args g)) (q : Outcome T₃ c₃ (beside x κs₂ args₂ g₂))
+    → ent (x .𝓤) (conj (x .𝓤) (allowed T c x o) (conj (x .𝓤) (allowed T₂ c₂ (beside x κs args g) p) (allowed T₃ c₃ (beside x κs₂ args₂ g₂) q)))
+    (fact (x .𝓤) (φ x o (beside x κs args g) p (beside x κs₂ args₂ g₂) q))

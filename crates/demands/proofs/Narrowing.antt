@@ -52,7 +52,7 @@ use Rattle.demands.specs.Recorder.{sheetE, sheetE′, command}
 use Rattle.demands.proofs.Sending.{Answers, demand2}
 use Rattle.demands.proofs.Readings.{ReadBack, Reads, reads}
 use Rattle.demands.proofs.EndToEnd.{sheet-fine, got, read-back}
-use Rattle.demands.proofs.Named.{saying}
+use Rattle.demands.proofs.Named.{saying, Both}
 
 -- ---- what a request selects
 
@@ -209,17 +209,12 @@ module _ {s : Sheet} {c d : List ℕ} {made : Made} {buffer : List ℕ} {rt sfn 
       }
 
 -- A complete response holds what its command selects: `respond` is called, then `read` with what the box sent.
-module _ (x : Call respond.ended (λ M. respond.clauses)) (κs : Lfts (read.ended .signature .lifetimes)) (args : Args (read.ended .signature) κs) where
-  abbrev reading-of : Call read.ended (λ M. read.clauses)
-  reading-of = beside x κs args tt
-
-  pub complete-end-to-end : (o : Outcome respond.ended (λ M. respond.clauses) x) (p : Outcome read.ended (λ M. read.clauses) reading-of)
-      → ent (x .𝓤) (conj (x .𝓤) (allowed respond.ended (λ M. respond.clauses) x o) (allowed read.ended (λ M. read.clauses) reading-of p)) (fact (x .𝓤) (
-      saying x o (λ _ lay s command out r _ _ _ out′.
-      saying reading-of p (λ _ rt₂ sfn₂ s₂ r₂ _ _ _.
-      Bytes (now s) → Exchanged (now command) r out′ rt₂ (sfn₂ .0) (now s₂) r₂
-      → Holds (stored lay (now s)) rt₂ (sfn₂ .0) (now s₂)))))
-  complete-end-to-end o p = both (x .𝓤) (λ e f. holds (by (Answers _ _ _) (demand2 _ _ _) e) (by (Reads _ _ _ _) (reads _ _ _ _) f))
+pub complete-end-to-end : Both respond.ended (λ M. respond.clauses) read.ended (λ M. read.clauses)
+    (λ x o y p. saying x o (λ _ lay s command out r _ _ _ out′.
+    saying y p (λ _ rt₂ sfn₂ s₂ r₂ _ _ _.
+    Bytes (now s) → Exchanged (now command) r out′ rt₂ (sfn₂ .0) (now s₂) r₂
+    → Holds (stored lay (now s)) rt₂ (sfn₂ .0) (now s₂))))
+complete-end-to-end x κs args g o p = both (x .𝓤) (λ e f. holds (by (Answers _ _ _) (demand2 _ _ _) e) (by (Reads _ _ _ _) (reads _ _ _ _) f))
 
 -- ---- two exchanges
 
@@ -242,19 +237,25 @@ module _ (x : Call respond.ended (λ M. respond.clauses)) (κs : Lfts (read.ende
   abbrev again : Call respond.ended (λ M. respond.clauses)
   again = beside x κs₂ args₂ tt
 
-  pub combined-end-to-end : (o : Outcome respond.ended (λ M. respond.clauses) x) (p : Outcome read.ended (λ M. read.clauses) (reading-of x κs args))
-      (o′ : Outcome respond.ended (λ M. respond.clauses) again) (p′ : Outcome read.ended (λ M. read.clauses) (reading-of again κs₃ args₃))
+  abbrev first-read : Call read.ended (λ M. read.clauses)
+  first-read = beside x κs args tt
+
+  abbrev second-read : Call read.ended (λ M. read.clauses)
+  second-read = beside x κs₃ args₃ tt
+
+  pub combined-end-to-end : (o : Outcome respond.ended (λ M. respond.clauses) x) (p : Outcome read.ended (λ M. read.clauses) first-read)
+      (o′ : Outcome respond.ended (λ M. respond.clauses) again) (p′ : Outcome read.ended (λ M. read.clauses) second-read)
       → ent (x .𝓤) (conj (x .𝓤)
-      (conj (x .𝓤) (allowed respond.ended (λ M. respond.clauses) x o) (allowed read.ended (λ M. read.clauses) (reading-of x κs args) p))
-      (conj (x .𝓤) (allowed respond.ended (λ M. respond.clauses) again o′) (allowed read.ended (λ M. read.clauses) (reading-of again κs₃ args₃) p′))) (fact (x .𝓤) (
+      (conj (x .𝓤) (allowed respond.ended (λ M. respond.clauses) x o) (allowed read.ended (λ M. read.clauses) first-read p))
+      (conj (x .𝓤) (allowed respond.ended (λ M. respond.clauses) again o′) (allowed read.ended (λ M. read.clauses) second-read p′))) (fact (x .𝓤) (
       saying x o (λ _ lay s command out r _ _ _ out′.
-      saying (reading-of x κs args) p (λ _ rt₂ sfn₂ s₂ r₂ _ _ _.
+      saying first-read p (λ _ rt₂ sfn₂ s₂ r₂ _ _ _.
       saying again o′ (λ _ lay₃ s₃ command₃ out₃ r₃ _ _ _ out₃′.
-      saying (reading-of again κs₃ args₃) p′ (λ _ rt₄ sfn₄ s₄ r₄ _ _ _.
+      saying second-read p′ (λ _ rt₄ sfn₄ s₄ r₄ _ _ _.
       Bytes (now s) → stored lay (now s) ≡ stored lay₃ (now s₃)
       → Exchanged (now command) r out′ rt₂ (sfn₂ .0) (now s₂) r₂
       → Exchanged (now command₃) r₃ out₃′ rt₄ (sfn₄ .0) (now s₄) r₄
       → Combines rt₂ (sfn₂ .0) (found rt₂ (sfn₂ .0) (now s₂)) rt₄ (sfn₄ .0) (found rt₄ (sfn₄ .0) (now s₄))))))))
   combined-end-to-end o p o′ p′ =
-      via (x .𝓤) _ (conj-mono (x .𝓤) (complete-end-to-end x κs args o p) (complete-end-to-end again κs₃ args₃ o′ p′))
+      via (x .𝓤) _ (conj-mono (x .𝓤) (complete-end-to-end x κs args tt o p) (complete-end-to-end again κs₃ args₃ tt o′ p′))
       (both (x .𝓤) (λ f g b same e h. combined b same (f b e) (g (by (λ (t : Sheet). Bytes (t .bytes)) b (sym same)) h)))

@@ -5,14 +5,10 @@ use mathlib.Core.Path.{_≡_, sym, ap, _∙_}
 use mathlib.Core.List.{List}
 use Prim.Native.Nat.{ℕ, _≤_, _<_}
 use lib.ListN.{take}
-use base.Logic.{ent}
-use contract.Monad.{conj, fact}
-use contract.Lifetimes.{Lfts}
-use denote.Triple.Entry.{Args}
 use denote.Ref.{now}
 use Rattle.base.specs.Lists.{Bytes}
-use Rattle.base.proofs.Decided.{Call, Outcome, allowed}
-use Rattle.base.proofs.Promise.{Promised, promises, by, beside, both, all-three, Twice}
+use Rattle.base.proofs.Decided.{Outcome}
+use Rattle.base.proofs.Promise.{Promised, promises, by, both, all-three, Twice}
 use Rattle.refusal.specs.declared.Refusal.{Refusal}
 use Rattle.refusal.specs.First.{accept, unless, _orElse_}
 use Rattle.lent.specs.declared.Made.{Made}
@@ -48,7 +44,7 @@ use Rattle.abi.proofs.gcf_respond_image_accepted as gcf-respond-image-accepted
 use Rattle.demands.proofs.Sending.{Answers, demand2}
 use Rattle.demands.proofs.Readings.{ReadBack, Reads, reads}
 use Rattle.demands.proofs.EndToEnd.{read-back}
-use Rattle.demands.proofs.Named.{named, saying}
+use Rattle.demands.proofs.Named.{named, saying, Both, AllThree}
 
 -- ---- bytes 0 to 8 alone count, whichever of the two lengths a command has
 
@@ -172,75 +168,49 @@ module _ {n rt sfn a : ℕ} {was d c : List ℕ} {m : Made} (h : Handed m d sfn 
   is-asked f = ap (λ (r : Refusal). f r (rtOf c) (sfnOf c) (allocationOf c)) is-fine ∙ ap (λ (k : Command). f accept (k .rt) (k .sfn .0) (k .allocation)) is-command
 
 -- `fault` refuses nothing of it
-module _ (x : Call command-build.ended (λ M. command-build.clauses)) (κs : Lfts (command-fault.ended .signature .lifetimes)) (args : Args (command-fault.ended .signature) κs) where
-  abbrev looked : Call command-fault.ended (λ M. command-fault.clauses)
-  looked = beside x κs args tt
-
-  pub build-fault : (o : Outcome command-build.ended (λ M. command-build.clauses) x) (p : Outcome command-fault.ended (λ M. command-fault.clauses) looked)
-      → ent (x .𝓤) (conj (x .𝓤) (allowed command-build.ended (λ M. command-build.clauses) x o) (allowed command-fault.ended (λ M. command-fault.clauses) looked p)) (fact (x .𝓤) (
-      saying x o (λ _ length rt sfn allocation out r _ _ _ _ out′.
-      saying looked p (λ _ bytes₂ r₂ _.
-      Handed r out′ (sfn .0) allocation (now bytes₂) → r₂ ≡ accept))))
-  build-fault o p = both (x .𝓤) (λ e f h. f ∙ is-fine h (by (Builds _ _ _ _ _) (builds _ _ _ _ _) e))
+pub build-fault : Both command-build.ended (λ M. command-build.clauses) command-fault.ended (λ M. command-fault.clauses)
+    (λ x o y p. saying x o (λ _ length rt sfn allocation out r _ _ _ _ out′.
+    saying y p (λ _ bytes₂ r₂ _.
+    Handed r out′ (sfn .0) allocation (now bytes₂) → r₂ ≡ accept)))
+build-fault x κs args g o p = both (x .𝓤) (λ e f h. f ∙ is-fine h (by (Builds _ _ _ _ _) (builds _ _ _ _ _) e))
 
 -- `read` understands it as exactly those three
-module _ (x : Call command-build.ended (λ M. command-build.clauses)) (κs : Lfts (command-read.ended .signature .lifetimes)) (args : Args (command-read.ended .signature) κs) where
-  abbrev spelled : Call command-read.ended (λ M. command-read.clauses)
-  spelled = beside x κs args tt
-
-  pub build-read : (o : Outcome command-build.ended (λ M. command-build.clauses) x) (p : Outcome command-read.ended (λ M. command-read.clauses) spelled)
-      → ent (x .𝓤) (conj (x .𝓤) (allowed command-build.ended (λ M. command-build.clauses) x o) (allowed command-read.ended (λ M. command-read.clauses) spelled p)) (fact (x .𝓤) (
-      saying x o (λ _ length rt sfn allocation out r _ _ _ _ out′.
-      saying spelled p (λ _ bytes₂ r₂ _.
-      Handed r out′ (sfn .0) allocation (now bytes₂) → (r₂ .rt ≡ rt) × (r₂ .sfn ≡ sfn) × (r₂ .allocation ≡ allocation)))))
-  build-read o p = both (x .𝓤) (λ e f h. let k = f ∙ is-command h (by (Builds _ _ _ _ _) (builds _ _ _ _ _) e) in (ap (λ (z : Command). z .rt) k, ap (λ (z : Command). z .sfn) k, ap (λ (z : Command). z .allocation) k))
+pub build-read : Both command-build.ended (λ M. command-build.clauses) command-read.ended (λ M. command-read.clauses)
+    (λ x o y p. saying x o (λ _ length rt sfn allocation out r _ _ _ _ out′.
+    saying y p (λ _ bytes₂ r₂ _.
+    Handed r out′ (sfn .0) allocation (now bytes₂) → (r₂ .rt ≡ rt) × (r₂ .sfn ≡ sfn) × (r₂ .allocation ≡ allocation))))
+build-read x κs args g o p = both (x .𝓤) (λ e f h. let k = f ∙ is-command h (by (Builds _ _ _ _ _) (builds _ _ _ _ _) e) in (ap (λ (z : Command). z .rt) k, ap (λ (z : Command). z .sfn) k, ap (λ (z : Command). z .allocation) k))
 
 -- the image engine answers it with what is defined for those three
-module _ (x : Call command-build.ended (λ M. command-build.clauses)) (κs : Lfts (rom-respond.ended .signature .lifetimes)) (args : Args (rom-respond.ended .signature) κs) where
-  abbrev by-image : Call rom-respond.ended (λ M. rom-respond.clauses)
-  by-image = beside x κs args tt
-
-  pub build-rom-respond : (o : Outcome command-build.ended (λ M. command-build.clauses) x) (p : Outcome rom-respond.ended (λ M. rom-respond.clauses) by-image)
-      → ent (x .𝓤) (conj (x .𝓤) (allowed command-build.ended (λ M. command-build.clauses) x o) (allowed rom-respond.ended (λ M. rom-respond.clauses) by-image p)) (fact (x .𝓤) (
-      saying x o (λ _ length rt sfn allocation out r _ _ _ _ out′.
-      saying by-image p (λ _ image₂ command₂ out₂ r₂ _ _ out₂′.
-      Handed r out′ (sfn .0) allocation (now command₂)
-      → maker.outcome r₂ out₂′ ≡ maker.makes (captureFault (now image₂) orElse accept) 12 (sent rt (sfn .0) allocation (captured (descs (now image₂)))) (now out₂)))))
-  unfolding imageAnswered
-  build-rom-respond o p = both (x .𝓤) (λ e f h. f ∙ is-asked h (by (Builds _ _ _ _ _) (builds _ _ _ _ _) e) (λ r rt sfn a. maker.makes (captureFault (args .0 .now) orElse r) 12 (sent rt sfn a (captured (descs (args .0 .now)))) (args .1 .1 .0 .now)))
+pub build-rom-respond : Both command-build.ended (λ M. command-build.clauses) rom-respond.ended (λ M. rom-respond.clauses)
+    (λ x o y p. saying x o (λ _ length rt sfn allocation out r _ _ _ _ out′.
+    saying y p (λ _ image₂ command₂ out₂ r₂ _ _ out₂′.
+    Handed r out′ (sfn .0) allocation (now command₂)
+    → maker.outcome r₂ out₂′ ≡ maker.makes (captureFault (now image₂) orElse accept) 12 (sent rt (sfn .0) allocation (captured (descs (now image₂)))) (now out₂))))
+unfolding imageAnswered
+build-rom-respond x κs args g o p = both (x .𝓤) (λ e f h. f ∙ is-asked h (by (Builds _ _ _ _ _) (builds _ _ _ _ _) e) (λ r rt sfn a. maker.makes (captureFault (args .0 .now) orElse r) 12 (sent rt sfn a (captured (descs (args .0 .now)))) (args .1 .1 .0 .now)))
 
 -- and so does the sheet engine
-module _ (x : Call command-build.ended (λ M. command-build.clauses)) (κs : Lfts (respond.ended .signature .lifetimes)) (args : Args (respond.ended .signature) κs) where
-  abbrev answer : Call respond.ended (λ M. respond.clauses)
-  answer = beside x κs args tt
+pub build-respond : Both command-build.ended (λ M. command-build.clauses) respond.ended (λ M. respond.clauses)
+    (λ x o y p. saying x o (λ _ length rt sfn allocation out r _ _ _ _ out′.
+    saying y p (λ _ lay₂ s₂ command₂ out₂ r₂ _ _ _ out₂′.
+    Handed r out′ (sfn .0) allocation (now command₂)
+    → maker.outcome r₂ out₂′ ≡ maker.makes (verdict (stored lay₂ (now s₂)) orElse accept) 12 (sent rt (sfn .0) allocation (meaning (stored lay₂ (now s₂)))) (now out₂))))
+unfolding answered
+build-respond x κs args g o p = both (x .𝓤) (λ e f h.
+    let s : Sheet = stored (args .0) (args .1 .0 .now) in
+    f ∙ is-asked h (by (Builds _ _ _ _ _) (builds _ _ _ _ _) e) (λ r rt sfn a. maker.makes (verdict s orElse r) 12 (sent rt sfn a (meaning s)) (args .1 .1 .1 .0 .now)))
 
-  pub build-respond : (o : Outcome command-build.ended (λ M. command-build.clauses) x) (p : Outcome respond.ended (λ M. respond.clauses) answer)
-      → ent (x .𝓤) (conj (x .𝓤) (allowed command-build.ended (λ M. command-build.clauses) x o) (allowed respond.ended (λ M. respond.clauses) answer p)) (fact (x .𝓤) (
-      saying x o (λ _ length rt sfn allocation out r _ _ _ _ out′.
-      saying answer p (λ _ lay₂ s₂ command₂ out₂ r₂ _ _ _ out₂′.
-      Handed r out′ (sfn .0) allocation (now command₂)
-      → maker.outcome r₂ out₂′ ≡ maker.makes (verdict (stored lay₂ (now s₂)) orElse accept) 12 (sent rt (sfn .0) allocation (meaning (stored lay₂ (now s₂)))) (now out₂)))))
-  unfolding answered
-  build-respond o p = both (x .𝓤) (λ e f h.
-      let s : Sheet = stored (args .0) (args .1 .0 .now) in
-      f ∙ is-asked h (by (Builds _ _ _ _ _) (builds _ _ _ _ _) e) (λ r rt sfn a. maker.makes (verdict s orElse r) 12 (sent rt sfn a (meaning s)) (args .1 .1 .1 .0 .now)))
-
-  -- End to end: built, answered, read: the reading gives back what the sheet has for those three.
-  module _ (κs₂ : Lfts (read.ended .signature .lifetimes)) (args₂ : Args (read.ended .signature) κs₂) where
-    abbrev reading-of : Call read.ended (λ M. read.clauses)
-    reading-of = beside x κs₂ args₂ tt
-
-    pub build-end-to-end : (o : Outcome command-build.ended (λ M. command-build.clauses) x) (p : Outcome respond.ended (λ M. respond.clauses) answer) (q : Outcome read.ended (λ M. read.clauses) reading-of)
-        → ent (x .𝓤) (conj (x .𝓤) (allowed command-build.ended (λ M. command-build.clauses) x o)
-        (conj (x .𝓤) (allowed respond.ended (λ M. respond.clauses) answer p) (allowed read.ended (λ M. read.clauses) reading-of q))) (fact (x .𝓤) (
-        saying x o (λ _ length rt sfn allocation out r _ _ _ _ out′.
-        saying answer p (λ _ lay₂ s₂ command₂ out₂ r₂ _ _ _ out₂′.
-        saying reading-of q (λ _ rt₃ sfn₃ s₃ r₃ _ _ _.
-        Handed r out′ (sfn .0) allocation (now command₂) → r₂ .refusal .number ≡ 0 → Bytes (now s₂) → 8 ≤ allocation
-        → rt₃ ≡ rt → sfn₃ .0 ≡ sfn .0 → now s₃ ≡ take (r₂ .count) out₂′
-        → ReadBack (meaning (stored lay₂ (now s₂))) 65534 rt (sfn .0) allocation (now s₃) r₃)))))
-    build-end-to-end o p q =
-        all-three (x .𝓤) (λ e fg h z b eight is-rt is-sfn.
-        let k = by (Builds _ _ _ _ _) (builds _ _ _ _ _) e in
-        read-asked (is-asked h k (λ v rt sfn a. rt)) (is-asked h k (λ v rt sfn a. sfn)) (is-asked h k (λ v rt sfn a. a))
-        (by (Answers _ _ _) (demand2 _ _ _) (fg .0)) z (rw (is-rt, is-sfn) at (by (Reads _ _ _ _) (reads _ _ _ _) (fg .1))) b eight)
+-- End to end: built, answered, read: the reading gives back what the sheet has for those three.
+pub build-end-to-end : AllThree command-build.ended (λ M. command-build.clauses) respond.ended (λ M. respond.clauses) read.ended (λ M. read.clauses)
+    (λ x o y p z q. saying x o (λ _ length rt sfn allocation out r _ _ _ _ out′.
+    saying y p (λ _ lay₂ s₂ command₂ out₂ r₂ _ _ _ out₂′.
+    saying z q (λ _ rt₃ sfn₃ s₃ r₃ _ _ _.
+    Handed r out′ (sfn .0) allocation (now command₂) → r₂ .refusal .number ≡ 0 → Bytes (now s₂) → 8 ≤ allocation
+    → rt₃ ≡ rt → sfn₃ .0 ≡ sfn .0 → now s₃ ≡ take (r₂ .count) out₂′
+    → ReadBack (meaning (stored lay₂ (now s₂))) 65534 rt (sfn .0) allocation (now s₃) r₃))))
+build-end-to-end x κs args g κs₂ args₂ g₂ o p q =
+    all-three (x .𝓤) (λ e fg h z b eight is-rt is-sfn.
+    let k = by (Builds _ _ _ _ _) (builds _ _ _ _ _) e in
+    read-asked (is-asked h k (λ v rt sfn a. rt)) (is-asked h k (λ v rt sfn a. sfn)) (is-asked h k (λ v rt sfn a. a))
+    (by (Answers _ _ _) (demand2 _ _ _) (fg .0)) z (rw (is-rt, is-sfn) at (by (Reads _ _ _ _) (reads _ _ _ _) (fg .1))) b eight)

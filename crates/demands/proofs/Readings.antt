@@ -28,7 +28,7 @@ use Rattle.sheet.proofs.Meaning.{meaning-fine}
 use Rattle.reading.specs.declared.Scanned.{Scanned}
 use Rattle.reading.specs.Scan.{scanned}
 use Rattle.reading.specs.Completed.{completeFault, completed}
-use Rattle.reading.proofs.Completed.{complete-accept, reading-refusal}
+use Rattle.reading.proofs.Completed.{complete-accept, complete-fault, reading-refusal}
 
 -- the descriptors that the answer to RT rt from sfn with allocation length a holds whole
 abbrev pub sentWhole : (m : Drive) (rt sfn a : ℕ) → List Desc
@@ -99,6 +99,15 @@ completes s =
           let q : completeFault s ≡ accept = complete-accept s record { read = read e; ends = h ∙ ap (λ (x : ℕ). x + 4) (sym (field-four s 0)) } in
           ap (λ (x : Refusal). unless x nothingRead (reading 65534 0 0 s)) q ∙ unless-none accept nothingRead (reading 65534 0 0 s) refl;
     }
+
+-- the number of its refusal alone: that of such a reading
+pub record CompletesBy (s : List ℕ) (n : ℕ) : Type 0 where
+  pub reading : Reading
+  pub completes : Completes s reading
+  pub number : n ≡ reading .refusal .number
+
+pub completes-by : (s : List ℕ) → CompletesBy s (completeFault s .number)
+completes-by s = record { reading = completed s; completes = completes s; number = ap (λ (x : Refusal). x .number) (sym (complete-fault s (completed s) refl)) }
 
 -- what `reading::scan` gives besides: the number of the last whole descriptor
 pub record Scans (limit rt sfn : ℕ) (s : List ℕ) (r : Scanned) : Type 0 where

@@ -4,12 +4,13 @@ use mathlib.Core.Path.{_≡_, refl, sym, ap, _∙_}
 use mathlib.Core.List.{List, [], _∷_, _++_}
 use Prim.Native.Nat.{ℕ, zero, suc, _≤_, _<_}
 use native.Mathlib.Omega.{arith}
+use lib.Dec.{ltb}
 use lib.ListN.{length, drop}
 use Rattle.base.specs.Lists.{Bytes}
 use Rattle.hex.specs.Chars.{choose, at, value, blank, parts, isA, pastOf, past, ends, lineAt}
 use Rattle.hex.specs.Front.{isOffset, isSix, isEnd, isSaid, isWords, width, openedAt, opened}
 use Rattle.hex.specs.Steps.{digit, prefix, space, bar, between, newline, other, char, step}
-use Rattle.hex.specs.Text.{Spelling, some, ended, taken, spelling, Outcome, spelled, given}
+use Rattle.hex.specs.Text.{Spelling, some, ended, taken, spelling, Outcome, outcome, spelled, given}
 use Rattle.hex.specs.Printed.{figure, Lined, packedIn, packed, commaIn, commas, fileInC, linesOf, dotted, grouped, dumpLine, dumped, spaced, canonLine, canonical, single, odLine, odPrinted}
 use Rattle.hex.proofs.Cases.{choose-yes, choose-no}
 use Rattle.hex.proofs.Packed.{packed-spelled}
@@ -54,40 +55,29 @@ spelt-back s d bs e =
 
 pub spells : (s d : List ℕ) → Spells s d (given (spelled s) d)
 unfolding given
-spells s d = go (spelled s .line) refl
+spells s d = record {
+  line = told-line (spelled s .line) refl;
+  none = λ h. (ap (λ (o : Outcome). o .told .count) (wrong h), ap (λ (o : Outcome). o .buffer) (wrong h));
+  count = λ z. ap (λ (o : Outcome). o .told .count) (right z);
+  short = λ z h. ap (λ (o : Outcome). o .buffer) (right z) ∙ choose-yes _ _ _ (lt-ltb (length d) (length (spelled s .bytes)) h);
+  made = λ z h. ap (λ (o : Outcome). o .buffer) (right z) ∙ choose-no _ _ _ (le-ltb (length d) (length (spelled s .bytes)) h);
+  packed-back = λ bs y x. spelt-back s d bs (ap spelled x ∙ packed-spelled bs y);
+  commas-back = λ bs y x. spelt-back s d bs (ap spelled x ∙ commas-spelled bs y);
+  file-back = λ name count u v b bs y x. spelt-back s d (b ∷ bs) (ap spelled x ∙ file-spelled name count u v b bs y);
+  dumped-back = λ bs y x. spelt-back s d bs (ap spelled x ∙ dumped-spelled bs y);
+  canonical-back = λ bs y x. spelt-back s d bs (ap spelled x ∙ canonical-spelled bs y);
+  od-back = λ b bs y x. spelt-back s d (b ∷ bs) (ap spelled x ∙ od-spelled b bs y);
+}
   where
-    go : (n : ℕ) → spelled s .line ≡ n → Spells s d (given (spelled s) d)
-    go zero e =
-        let t = choose-yes _ _ _ (eq-eqb (spelled s .line) 0 e) in
-        record {
-          line = ap (λ (o : Outcome). o .told .line) t ∙ sym e;
-          none = λ h. absurd (h e);
-          count = λ z. ap (λ (o : Outcome). o .told .count) t;
-          short = λ z h. ap (λ (o : Outcome). o .buffer) t ∙ choose-yes _ _ _ (lt-ltb (length d) (length (spelled s .bytes)) h);
-          made = λ z h. ap (λ (o : Outcome). o .buffer) t ∙ choose-no _ _ _ (le-ltb (length d) (length (spelled s .bytes)) h);
-          packed-back = λ bs y x. spelt-back s d bs (ap spelled x ∙ packed-spelled bs y);
-          commas-back = λ bs y x. spelt-back s d bs (ap spelled x ∙ commas-spelled bs y);
-          file-back = λ name count u v b bs y x. spelt-back s d (b ∷ bs) (ap spelled x ∙ file-spelled name count u v b bs y);
-          dumped-back = λ bs y x. spelt-back s d bs (ap spelled x ∙ dumped-spelled bs y);
-          canonical-back = λ bs y x. spelt-back s d bs (ap spelled x ∙ canonical-spelled bs y);
-          od-back = λ b bs y x. spelt-back s d (b ∷ bs) (ap spelled x ∙ od-spelled b bs y);
-        }
-    go (suc n) e =
-        let k : spelled s .line ≡ 0 → ⊥ = λ z. omega arith in
-        let t = choose-no _ _ _ (ne-eqb (spelled s .line) 0 k) in
-        record {
-          line = ap (λ (o : Outcome). o .told .line) t;
-          none = λ h. (ap (λ (o : Outcome). o .told .count) t, ap (λ (o : Outcome). o .buffer) t);
-          count = λ z. absurd (k z);
-          short = λ z h. absurd (k z);
-          made = λ z h. absurd (k z);
-          packed-back = λ bs y x. spelt-back s d bs (ap spelled x ∙ packed-spelled bs y);
-          commas-back = λ bs y x. spelt-back s d bs (ap spelled x ∙ commas-spelled bs y);
-          file-back = λ name count u v b bs y x. spelt-back s d (b ∷ bs) (ap spelled x ∙ file-spelled name count u v b bs y);
-          dumped-back = λ bs y x. spelt-back s d bs (ap spelled x ∙ dumped-spelled bs y);
-          canonical-back = λ bs y x. spelt-back s d bs (ap spelled x ∙ canonical-spelled bs y);
-          od-back = λ b bs y x. spelt-back s d (b ∷ bs) (ap spelled x ∙ od-spelled b bs y);
-        }
+    right : spelled s .line ≡ 0 → given (spelled s) d ≡ outcome (record { line = 0; count = length (spelled s .bytes) }) (choose (ltb (length d) (length (spelled s .bytes))) d (spelled s .bytes ++ drop (length (spelled s .bytes)) d))
+    right e = choose-yes _ _ _ (eq-eqb (spelled s .line) 0 e)
+
+    wrong : (spelled s .line ≡ 0 → ⊥) → given (spelled s) d ≡ outcome (record { line = spelled s .line; count = 0 }) d
+    wrong h = choose-no _ _ _ (ne-eqb (spelled s .line) 0 h)
+
+    told-line : (n : ℕ) → spelled s .line ≡ n → given (spelled s) d .told .line ≡ spelled s .line
+    told-line zero e = ap (λ (o : Outcome). o .told .line) (right e) ∙ sym e
+    told-line (suc n) e = ap (λ (o : Outcome). o .told .line) (wrong (λ z. omega arith))
 
 -- Texts, character by character: "46 0a" and "FF" on two lines are three bytes, the first digit of each the higher one; in "46" and "4z" on two lines the second
 -- spells none, in "465" half a byte is left. In "000000 46 0a" and "000002", as `od` prints them, the offsets are no bytes, and in "000001 46" the first word is.

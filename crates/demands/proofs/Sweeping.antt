@@ -7,16 +7,16 @@ use mathlib.Core.List.{List, [], _∷_}
 use Prim.Native.Nat.{ℕ, zero, suc, _≤_, _<_}
 use native.Mathlib.Omega.{arith}
 use lib.Dec.{ltb}
-use lib.ListN.{replicate}
+use lib.ListN.{length, replicate}
 use borrow.Author.Tests.{ltb-true, ltb-false}
-use Rattle.base.specs.Lists.{each, flat, keep, Bytes}
+use Rattle.base.specs.Lists.{each, flat, keep, All, Bytes}
 use Rattle.fields.specs.Field.{field, spell}
 use Rattle.refusal.specs.declared.Refusal.{Refusal}
 use Rattle.refusal.specs.First.{refuse, accept, _if_else_, pickZero, _orElse_, firstOf, unless, placed}
 use Rattle.refusal.proofs.First.{if-zero, orElse-none, orElse-fault, unless-fault}
 use Rattle.text.specs.Flags as flags
 use Rattle.text.specs.Drive.{Drive, profileBytes}
-use Rattle.text.specs.Response.{headerLength, feature0, all, wants, selected}
+use Rattle.text.specs.Response.{headerLength, most, feature0, all, wants, selected}
 use Rattle.text.specs.Packing.{total, whole, rest, groups}
 use Rattle.layout.specs.Layout as layout
 use Rattle.profiles.specs.Profiles as profiles
@@ -25,7 +25,7 @@ use Rattle.sheet.specs.Check.{Accepted, numberBefore, endBefore, flagsRule, ent
 use Rattle.sheet.specs.Meaning.{desc, meaning}
 use Rattle.sweep.specs.Sweep.{startRule, fresh}
 use Rattle.bench.specs.Bench.{Buffers, buffers, state, Ending, failing, rounds, firstFault, benched}
-use Rattle.bench.specs.Swept.{Premises, Swept, Ended, swept, short, long, narrow, many}
+use Rattle.bench.specs.Swept.{room, HasRoom, Premises, Swept, Ended, swept, short, long, narrow, many}
 use Rattle.bench.proofs.Demand as bench
 use Rattle.bench.proofs.Promised.{Outright, outright}
 use Rattle.demands.specs.Recorder.{sheetE, sheetE′}
@@ -124,16 +124,13 @@ acceptedE = refl
 abbrev buffersE : Buffers
 buffersE = buffers (replicate 20 0) (replicate 36 0) (replicate 4 0)
 
+premises-of : {m : Drive} {rt a : ℕ} {b : Buffers} → rt < 2 → headerLength ≤ a → All (HasRoom a) (selected rt 0 m) → most a ≤ length (b .response)
+    → total (selected rt 0 m) ≤ length (b .collected) → length (groups (room a) 65536 (selected rt 0 m)) ≤ length (b .starts) → Premises m rt a b
+premises-of k e s r c t = record { kind = k; eight = e; small = s; response-room = r; collected-room = c; starts-room = t }
+
 premisesE : Premises (meaning sheetE) 0 20 buffersE
 unfolding each flat keep field spell profileBytes feature0 all wants selected total whole rest groups layout.features layout.profiles layout.numberPlace layout.flagsPlace layout.lengthPlace layout.offsetPlace layout.number layout.flags layout.bodyLength layout.offset layout.profilesIn profiles.profileNumber profiles.profileCurrent profiles.listed profiles.profilesOf desc meaning sheetE
-premisesE = record {
-  kind = omega arith;
-  eight = omega arith;
-  small = omega arith;
-  response-room = omega arith;
-  collected-room = omega arith;
-  starts-room = omega arith;
-}
+premisesE = premises-of (omega arith) (omega arith) (omega arith) (omega arith) (omega arith) (omega arith)
 
 pub sweptE : Swept (meaning sheetE) 0 20 buffersE (benched sheetE 0 20 buffersE)
 sweptE = demand3 sheetE 0 20 buffersE bytesE acceptedE premisesE
@@ -153,14 +150,7 @@ buffersE′ = buffers (replicate 20 0) (replicate 32 0) (replicate 3 0)
 
 premisesE′ : Premises (meaning sheetE′) 1 20 buffersE′
 unfolding each flat keep field spell profileBytes feature0 all wants selected total whole rest groups layout.features layout.profiles layout.numberPlace layout.flagsPlace layout.lengthPlace layout.offsetPlace layout.number layout.flags layout.bodyLength layout.offset layout.profilesIn profiles.profileNumber profiles.profileCurrent profiles.listed profiles.profilesOf desc meaning sheetE sheetE′
-premisesE′ = record {
-  kind = omega arith;
-  eight = omega arith;
-  small = omega arith;
-  response-room = omega arith;
-  collected-room = omega arith;
-  starts-room = omega arith;
-}
+premisesE′ = premises-of (omega arith) (omega arith) (omega arith) (omega arith) (omega arith) (omega arith)
 
 pub sweptE′ : Swept (meaning sheetE′) 1 20 buffersE′ (benched sheetE′ 1 20 buffersE′)
 sweptE′ = demand3 sheetE′ 1 20 buffersE′ bytesE′ acceptedE′ premisesE′

@@ -4,29 +4,9 @@ ghost use Prim.Native.Nat.{_+_, _≤_, _<_};
 ghost use lib.Dec.{eqb};
 ghost use lib.ListN.{length};
 ghost use lib.Seq.{sets};
-ghost use Rattle.hex.specs.Chars.{isA, lineAt};
-ghost use Rattle.hex.specs.Chars.{at as Chars·at};
-ghost use Rattle.hex.specs.Chars.{value as Chars·value};
-ghost use Rattle.hex.specs.Chars.{blank as Chars·blank};
-ghost use Rattle.hex.specs.Chars.{parts as Chars·parts};
-ghost use Rattle.hex.specs.Chars.{past as Chars·past};
-ghost use Rattle.hex.specs.Chars.{ends as Chars·ends};
-ghost use Rattle.hex.specs.Front.{isOffset, isSix, isEnd, isSaid, isWords, openedAt};
-ghost use Rattle.hex.specs.Front.{fresh as Front·fresh};
-ghost use Rattle.hex.specs.Front.{width as Front·width};
-ghost use Rattle.hex.specs.Front.{opened as Front·opened};
-ghost use Rattle.hex.specs.Steps.{skipping};
-ghost use Rattle.hex.specs.Steps.{on as Steps·on};
-ghost use Rattle.hex.specs.Steps.{broken as Steps·broken};
-ghost use Rattle.hex.specs.Steps.{digit as Steps·digit};
-ghost use Rattle.hex.specs.Steps.{prefix as Steps·prefix};
-ghost use Rattle.hex.specs.Steps.{space as Steps·space};
-ghost use Rattle.hex.specs.Steps.{bar as Steps·bar};
-ghost use Rattle.hex.specs.Steps.{between as Steps·between};
-ghost use Rattle.hex.specs.Steps.{newline as Steps·newline};
-ghost use Rattle.hex.specs.Steps.{other as Steps·other};
-ghost use Rattle.hex.specs.Steps.{char as Steps·char};
-ghost use Rattle.hex.specs.Steps.{step as Steps·step};
+ghost use Rattle.hex.specs.Chars.{isA, lineAt, at as Chars·at, value as Chars·value, blank as Chars·blank, parts as Chars·parts, past as Chars·past, ends as Chars·ends};
+ghost use Rattle.hex.specs.Front.{isOffset, isSix, isEnd, isSaid, isWords, openedAt, fresh as Front·fresh, width as Front·width, opened as Front·opened};
+ghost use Rattle.hex.specs.Steps.{skipping, on as Steps·on, broken as Steps·broken, digit as Steps·digit, prefix as Steps·prefix, space as Steps·space, bar as Steps·bar, between as Steps·between, newline as Steps·newline, other as Steps·other, char as Steps·char, step as Steps·step};
 ghost use Rattle.hex.specs.Text.{some, ended, spelled, outcome, given};
 ghost use Rattle.hex.specs.inner.Walk.{finished, Walked};
 
@@ -355,12 +335,9 @@ fn on(q: State) -> Effect
 fn broken(q: State) -> Effect
     ensures { λ r. ⌜ r ≡ Steps·broken q ⌝ }
 {
-    Effect {
-        fault: true,
-        spells: false,
-        byte: 0,
-        state: q,
-    }
+    let mut none = on(q);
+    none.fault = true;
+    none
 }
 
 // What is left of the line is skipped.

@@ -6,7 +6,7 @@ use Prim.Native.Nat.{ℕ, zero, suc, _+_, _-_, _*_, _%_, _^_, _≤_, _<_, min}
 use native.Mathlib.Numerals.{add-one}
 use native.Mathlib.Omega.{arith}
 use lib.Dec.{eqb, ltb}
-use lib.ListN.{length, getD, take, drop, replicate, length-append, length-drop}
+use lib.ListN.{length, getD, take, drop, replicate, length-append, length-drop, length-replicate}
 use lib.Seq.{sets, length-sets, length-take-le, take-append-seam, drop-at, take-at}
 use borrow.Author.Tests.{eq-eqb, ne-eqb, lt-ltb, le-ltb}
 use Rattle.base.specs.Lists.{flat, each, Bytes}
@@ -133,21 +133,21 @@ module _ (s : Sheet) (y : Bytes (s .bytes)) (ok : Accepted s) (rt sfn a : ℕ) (
   unfolding requested
   made-is = e ∙ trusting-accepted s y ok rt sfn a d ∙ makes-made accept 12 xs d refl sent-room
 
-  pub sent-count : m .count ≡ length xs
+  sent-count : m .count ≡ length xs
   unfolding making
   sent-count = ap (λ (o : Outcome). o .made .count) made-is
 
-  pub sent-buffer : d1 ≡ xs ++ drop (length xs) d
+  sent-buffer : d1 ≡ xs ++ drop (length xs) d
   unfolding making
   sent-buffer = ap (λ (o : Outcome). o .buffer) made-is
 
   pub sent-inside : m .count ≤ length d1
   sent-inside = omega (arith, sent-count, ap length sent-buffer, length-append xs (drop (length xs) d))
 
-  pub sent-length : length d1 ≡ length d
+  sent-length : length d1 ≡ length d
   sent-length = ap length sent-buffer ∙ omega (arith, length-append xs (drop (length xs) d), length-drop (length xs) d, sent-room)
 
-  pub sent-front : take (m .count) d1 ≡ xs
+  sent-front : take (m .count) d1 ≡ xs
   sent-front = rw (sent-count, sent-buffer) (take-append-seam xs (drop (length xs) d))
 
   -- a header is put over the front
@@ -164,21 +164,36 @@ module _ (s : Sheet) (y : Bytes (s .bytes)) (ok : Accepted s) (rt sfn a : ℕ) (
     front-length : length f ≡ m .count
     front-length = kept w ∙ length-take-le (m .count) d1 sent-inside
 
-    pub stated-length : length (f ++ drop (m .count) d1) ≡ length d
+    stated-length : length (f ++ drop (m .count) d1) ≡ length d
     stated-length = omega (arith, length-append f (drop (m .count) d1), length-drop (m .count) d1, front-length, sent-inside, sent-length)
 
-    pub stated-inside : m .count ≤ length (f ++ drop (m .count) d1)
+    stated-inside : m .count ≤ length (f ++ drop (m .count) d1)
     stated-inside = omega (arith, stated-length, sent-length, sent-inside)
 
-    pub stated-sent : take (m .count) (f ++ drop (m .count) d1) ≡ sentBy b a (meaning s)
-    stated-sent = take-at f (drop (m .count) d1) (m .count) front-length ∙ stated-front
+    pub stated : (m .count ≤ length (f ++ drop (m .count) d1)) × (length (f ++ drop (m .count) d1) ≡ length d) × (take (m .count) (f ++ drop (m .count) d1) ≡ sentBy b a (meaning s))
+    stated = (stated-inside, stated-length, take-at f (drop (m .count) d1) (m .count) front-length ∙ stated-front)
 
 drop-zeros : (n k : ℕ) → drop {A = ℕ} k (replicate n 0) ≡ replicate (n - k) 0
 drop-zeros n zero = ap (λ (k : ℕ). replicate {A = ℕ} k 0) {x = n} {y = n - 0} (omega arith)
 drop-zeros zero (suc k) = ap (λ (n : ℕ). replicate {A = ℕ} n 0) {x = 0} {y = 0 - suc k} (omega arith)
 drop-zeros (suc n) (suc k) = drop-zeros n k ∙ ap (λ (m : ℕ). replicate {A = ℕ} m 0) {x = n - k} {y = suc n - suc k} (omega arith)
 
--- what the right box sends, over zeros
-pub due-alone : (xs d : List ℕ) → xs ++ drop (length xs) (replicate {A = ℕ} (length d) 0) ≡ alone xs (length d)
-unfolding alone
-due-alone xs d = ap (λ (l : List ℕ). xs ++ l) (drop-zeros (length d) (length xs))
+-- what the right box sends over a buffer d that was cleared before, to z
+module _ (s : Sheet) (y : Bytes (s .bytes)) (ok : Accepted s) (rt sfn a : ℕ) (d z : List ℕ) (room : most a ≤ length d) (zeros : z ≡ replicate (length d) 0) (m : Made) (d1 : List ℕ) (e : outcome m d1 ≡ trusting s rt sfn a z) where
+  long : length z ≡ length d
+  long = ap length zeros ∙ length-replicate {A = ℕ} (length d) 0
+
+  wide : most a ≤ length z
+  wide = omega (arith, room, long)
+
+  behind : (xs : List ℕ) → xs ++ drop (length xs) z ≡ alone xs (length d)
+  unfolding alone
+  behind xs = ap (λ (l : List ℕ). xs ++ l) (ap (drop (length xs)) zeros ∙ drop-zeros (length d) (length xs))
+
+  pub due-put : (m .count ≤ length d1) × (length d1 ≡ length d) × (take (m .count) d1 ≡ sent rt sfn a (meaning s)) × (d1 ≡ alone (sent rt sfn a (meaning s)) (length d))
+  due-put = (
+    sent-inside s y ok rt sfn a z wide m d1 e,
+    sent-length s y ok rt sfn a z wide m d1 e ∙ long,
+    sent-front s y ok rt sfn a z wide m d1 e,
+    sent-buffer s y ok rt sfn a z wide m d1 e ∙ behind (sent rt sfn a (meaning s)),
+  )

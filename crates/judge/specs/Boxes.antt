@@ -60,6 +60,10 @@ boxOf Unexplained rt sfn a m = right rt sfn m
 unfoldable pub mistakes : List Mistake
 mistakes = OnlyAbove ∷ LengthCut ∷ LengthOfAll ∷ HighestCurrent ∷ HighestListed ∷ NotOnlyCurrent ∷ NotOnlyOne ∷ []
 
+-- the number that tells a mistake: its place in that order, from 1 on; 0 is none
+unfoldable pub mistakeNumber : Mistake → ℕ
+mistakeNumber w = elim w [ OnlyAbove ↦ 1 | LengthCut ↦ 2 | LengthOfAll ↦ 3 | HighestCurrent ↦ 4 | HighestListed ↦ 5 | NotOnlyCurrent ↦ 6 | NotOnlyOne ↦ 7 | Unexplained ↦ 0 ]
+
 -- what the box of a mistake sends
 abbrev pub sentWith : Mistake → (rt sfn a : ℕ) → Drive → List ℕ
 sentWith w rt sfn a m = sentBy (boxOf w rt sfn a m) a m

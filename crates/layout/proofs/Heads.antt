@@ -17,7 +17,7 @@ use Rattle.layout.specs.Layout.{Sheet, stored, sheetSize, featureCount, 
 use Rattle.layout.specs.Contents.{entryOf, headBytes}
 use Rattle.layout.specs.inner.Room.{Room}
 use Rattle.layout.specs.inner.Found.{foundOf}
-use Rattle.layout.proofs.Laws.{number-inside, offset-inside}
+use Rattle.layout.proofs.Laws.{fields-inside}
 
 pub length-head : (e : Entry) → length (headBytes e) ≡ 4
 length-head e = simp (length-append, length-spell)
@@ -45,7 +45,7 @@ pub head-gathered : (l : Layout) (b : List ℕ) (n i : ℕ) → Bytes b → Room
     → take 2 (drop (numberPlace l n i) b) ++ (getD b (flagsPlace l n i) 0 ∷ getD b (lengthPlace l n i) 0 ∷ []) ≡ headBytes (entryOf (stored l b) i)
 unfolding entryOf number flags bodyLength
 head-gathered l b n i k r h =
-    let e : spell 2 (field 2 b (numberPlace l n i)) ≡ take 2 (drop (numberPlace l n i) b) = spell-field 2 b (numberPlace l n i) k (omega (arith, number-inside l n i h, r .1)) in
+    let e : spell 2 (field 2 b (numberPlace l n i)) ≡ take 2 (drop (numberPlace l n i) b) = spell-field 2 b (numberPlace l n i) k (omega (arith, fields-inside l n i h .number, r .1)) in
     rw (← r .0, e) (sym (append-assoc (take 2 (drop (numberPlace l n i) b)) (getD b (flagsPlace l n i) 0 ∷ []) (getD b (lengthPlace l n i) 0 ∷ [])))
 
 -- in rows it stands in one piece
@@ -72,4 +72,4 @@ module _ (s : Sheet) (i : ℕ) where
 
   pub found-inside : i < featureCount s → 4 + 8 * featureCount s ≤ sheetSize s → foundOf s i .place + 4 ≤ sheetSize s
   unfolding foundOf
-  found-inside h r = omega (arith, offset-inside (s .layout) (featureCount s) i h)
+  found-inside h r = omega (arith, fields-inside (s .layout) (featureCount s) i h .offset)

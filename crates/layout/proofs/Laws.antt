@@ -5,22 +5,14 @@ use Rattle.layout.specs.declared.Layout.{Layout}
 use Rattle.layout.specs.declared.Layout.the-variants.{Rows, Columns}
 use Rattle.layout.specs.Layout.{numberPlace, flagsPlace, lengthPlace, offsetPlace}
 
-pub number-inside : (l : Layout) (n i : ℕ) → i < n → numberPlace l n i + 2 ≤ 4 + 8 * n
-unfolding numberPlace
-number-inside Rows n i h = omega arith
-number-inside Columns n i h = omega arith
+-- the four fields of entry i of n
+pub record Inside (l : Layout) (n i : ℕ) : Type 0 where
+  pub number : numberPlace l n i + 2 ≤ 4 + 8 * n
+  pub flags : flagsPlace l n i + 1 ≤ 4 + 8 * n
+  pub length : lengthPlace l n i + 1 ≤ 4 + 8 * n
+  pub offset : offsetPlace l n i + 4 ≤ 4 + 8 * n
 
-pub flags-inside : (l : Layout) (n i : ℕ) → i < n → flagsPlace l n i + 1 ≤ 4 + 8 * n
-unfolding flagsPlace
-flags-inside Rows n i h = omega arith
-flags-inside Columns n i h = omega arith
-
-pub length-inside : (l : Layout) (n i : ℕ) → i < n → lengthPlace l n i + 1 ≤ 4 + 8 * n
-unfolding lengthPlace
-length-inside Rows n i h = omega arith
-length-inside Columns n i h = omega arith
-
-pub offset-inside : (l : Layout) (n i : ℕ) → i < n → offsetPlace l n i + 4 ≤ 4 + 8 * n
-unfolding offsetPlace
-offset-inside Rows n i h = omega arith
-offset-inside Columns n i h = omega arith
+pub fields-inside : (l : Layout) (n i : ℕ) → i < n → Inside l n i
+unfolding numberPlace flagsPlace lengthPlace offsetPlace
+fields-inside Rows n i h = record { number = omega arith; flags = omega arith; length = omega arith; offset = omega arith }
+fields-inside Columns n i h = record { number = omega arith; flags = omega arith; length = omega arith; offset = omega arith }

@@ -57,69 +57,91 @@ pub fn profiles_part(s: &[u8]) -> &[u8]
     fields::part(s, at, 4 * (profile_count(s) as usize))
 }
 
-// ---- where the fields of entry i of n stand
+// ---- where the fields of an entry stand
 
-fn number_place(lay: Layout, n: u16, i: u16) -> usize
-    ensures { λ r. ⌜ r ≡ numberPlace lay n i ⌝ }
+// Which entry: how the contents stand, how many entries they have, and the index of the one. They go together to whoever looks at an entry.
+pub struct Nth {
+    pub lay: Layout,
+    pub n: u16,
+    pub i: u16,
+}
+
+fn number_place(nth: Nth) -> usize
+    ensures { λ r. ⌜ r ≡ numberPlace (nth .lay) (nth .n) (nth .i) ⌝ }
 {
+    let lay = nth.lay;
     match lay {
-        Layout::Rows => 4 + 8 * (i as usize),
-        Layout::Columns => 4 + 2 * (i as usize),
+        Layout::Rows => 4 + 8 * (nth.i as usize),
+        Layout::Columns => 4 + 2 * (nth.i as usize),
     }
 }
 
-fn flags_place(lay: Layout, n: u16, i: u16) -> usize
-    ensures { λ r. ⌜ r ≡ flagsPlace lay n i ⌝ }
+fn flags_place(nth: Nth) -> usize
+    ensures { λ r. ⌜ r ≡ flagsPlace (nth .lay) (nth .n) (nth .i) ⌝ }
 {
+    let lay = nth.lay;
     match lay {
-        Layout::Rows => 4 + 8 * (i as usize) + 2,
-        Layout::Columns => 4 + 2 * (n as usize) + i as usize,
+        Layout::Rows => 4 + 8 * (nth.i as usize) + 2,
+        Layout::Columns => 4 + 2 * (nth.n as usize) + nth.i as usize,
     }
 }
 
-fn length_place(lay: Layout, n: u16, i: u16) -> usize
-    ensures { λ r. ⌜ r ≡ lengthPlace lay n i ⌝ }
+fn length_place(nth: Nth) -> usize
+    ensures { λ r. ⌜ r ≡ lengthPlace (nth .lay) (nth .n) (nth .i) ⌝ }
 {
+    let lay = nth.lay;
     match lay {
-        Layout::Rows => 4 + 8 * (i as usize) + 3,
-        Layout::Columns => 4 + 3 * (n as usize) + i as usize,
+        Layout::Rows => 4 + 8 * (nth.i as usize) + 3,
+        Layout::Columns => 4 + 3 * (nth.n as usize) + nth.i as usize,
     }
 }
 
-fn offset_place(lay: Layout, n: u16, i: u16) -> usize
-    ensures { λ r. ⌜ r ≡ offsetPlace lay n i ⌝ }
+fn offset_place(nth: Nth) -> usize
+    ensures { λ r. ⌜ r ≡ offsetPlace (nth .lay) (nth .n) (nth .i) ⌝ }
 {
+    let lay = nth.lay;
     match lay {
-        Layout::Rows => 4 + 8 * (i as usize) + 4,
-        Layout::Columns => 4 + 4 * (n as usize) + 4 * (i as usize),
+        Layout::Rows => 4 + 8 * (nth.i as usize) + 4,
+        Layout::Columns => 4 + 4 * (nth.n as usize) + 4 * (nth.i as usize),
     }
 }
 
 // ---- an entry of any sheet
 
+// Entry i of as many as the sheet says.
+fn nth_of(lay: Layout, s: &[u8], i: u16) -> Nth
+    ensures { λ r. ⌜ (r .lay ≡ lay) × (r .n ≡ features (now (s .entry))) × (r .i ≡ i) ⌝ }
+{
+    Nth {
+        lay,
+        n: feature_count(s),
+        i,
+    }
+}
+
 // The feature number of entry i.
 pub fn feature_at(lay: Layout, s: &[u8], i: u16) -> Feature
     ensures { λ r. ⌜ r .0 ≡ number (stored lay (now (s .entry))) i ⌝ }
 {
-    Feature(fields::get2(s, number_place(lay, feature_count(s), i)))
+    Feature(fields::get2(s, number_place(nth_of(lay, s, i))))
 }
 
 pub fn flags_at(lay: Layout, s: &[u8], i: u16) -> Flags
     ensures { λ r. ⌜ r .0 ≡ flags (stored lay (now (s .entry))) i ⌝ }
 {
-    Flags(fields::byte(s, flags_place(lay, feature_count(s), i)))
+    Flags(fields::byte(s, flags_place(nth_of(lay, s, i))))
 }
 
 pub fn length_at(lay: Layout, s: &[u8], i: u16) -> u8
     ensures { λ r. ⌜ r ≡ bodyLength (stored lay (now (s .entry))) i ⌝ }
 {
-    fields::byte(s, length_place(lay, feature_count(s), i))
+    fields::byte(s, length_place(nth_of(lay, s, i)))
 }
 
 pub fn offset_at(lay: Layout, s: &[u8], i: u16) -> u32
     ensures { λ r. ⌜ r ≡ offset (stored lay (now (s .entry))) i ⌝ }
 {
-    fields::get4(s, offset_place(lay, feature_count(s), i))
+    fields::get4(s, offset_place(nth_of(lay, s, i)))
 }
 
 // ---- an entry of a sheet that has its contents
@@ -131,17 +153,17 @@ pub struct Entry {
     pub offset: u32,
 }
 
-// Entry i of n, with no look at the sheet's end.
-// Asks: a sheet of n features that has its contents, and one of their indices; its length was held to `profiles_behind` or `bodies_at` before.
-pub fn entry_in(lay: Layout, s: &[u8], n: u16, i: u16) -> Entry
-    requires { ⌜ Room (now s) n × (i < n) ⌝ }
-    ensures { λ r. ⌜ r ≡ entryOf (stored lay (now (s .entry))) i ⌝ }
+// That entry, with no look at the sheet's end.
+// Asks: a sheet of so many features that has its contents, and one of their indices; its length was held to `profiles_behind` or `bodies_at` before.
+pub fn entry_in(s: &[u8], nth: Nth) -> Entry
+    requires { ⌜ Room (now s) (nth .n) × (nth .i < nth .n) ⌝ }
+    ensures { λ r. ⌜ r ≡ entryOf (stored (nth .lay) (now (s .entry))) (nth .i) ⌝ }
 {
     Entry {
-        number: Feature(fields::inside2(s, number_place(lay, n, i))),
-        flags: Flags(fields::inside(s, flags_place(lay, n, i))),
-        length: fields::inside(s, length_place(lay, n, i)),
-        offset: fields::inside4(s, offset_place(lay, n, i)),
+        number: Feature(fields::inside2(s, number_place(nth))),
+        flags: Flags(fields::inside(s, flags_place(nth))),
+        length: fields::inside(s, length_place(nth)),
+        offset: fields::inside4(s, offset_place(nth)),
     }
 }
 
@@ -153,16 +175,16 @@ pub struct Found {
 }
 
 // Asks: the same as `entry_in`.
-pub fn find(lay: Layout, s: &[u8], n: u16, i: u16) -> Found
-    requires { ⌜ Room (now s) n × (i < n) ⌝ }
-    ensures { λ r. ⌜ r ≡ foundOf (stored lay (now (s .entry))) i ⌝ }
+pub fn find(s: &[u8], nth: Nth) -> Found
+    requires { ⌜ Room (now s) (nth .n) × (nth .i < nth .n) ⌝ }
+    ensures { λ r. ⌜ r ≡ foundOf (stored (nth .lay) (now (s .entry))) (nth .i) ⌝ }
 {
-    let flags = Flags(fields::inside(s, flags_place(lay, n, i)));
-    let length = fields::inside(s, length_place(lay, n, i));
+    let flags = Flags(fields::inside(s, flags_place(nth)));
+    let length = fields::inside(s, length_place(nth));
     Found {
         flags,
         length,
-        place: offset_place(lay, n, i),
+        place: offset_place(nth),
     }
 }
 
@@ -180,20 +202,21 @@ fn gathered(s: &[u8], number: usize, flags: usize, len: usize) -> [u8; 4]
     head
 }
 
-// Writes number, flags and body length of entry i of n, which is how a descriptor starts, with no look at the sheet's end or the buffer's.
+// Writes number, flags and body length of an entry, which is how a descriptor starts, with no look at the sheet's end or the buffer's.
 // Asks: the same as `entry_in`, and room for the four bytes; whoever writes has looked at the buffer's length.
-pub fn put_head(out: &mut [u8], at: usize, lay: Layout, s: &[u8], n: u16, i: u16) -> usize
-    requires { ⌜ Room (now s) n × (i < n) × (at + 4 ≤ length (now out)) ⌝ }
-    ensures { λ r. ⌜ Wrote (now (out .entry)) at (headBytes (entryOf (stored lay (now (s .entry))) i)) r (now (out .exit)) ⌝ }
+pub fn put_head(out: &mut [u8], at: usize, s: &[u8], nth: Nth) -> usize
+    requires { ⌜ Room (now s) (nth .n) × (nth .i < nth .n) × (at + 4 ≤ length (now out)) ⌝ }
+    ensures { λ r. ⌜ Wrote (now (out .entry)) at (headBytes (entryOf (stored (nth .lay) (now (s .entry))) (nth .i))) r (now (out .exit)) ⌝ }
 {
-    let number = number_place(lay, n, i);
+    let number = number_place(nth);
+    let lay = nth.lay;
     match lay {
         Layout::Rows => {
             let end = number + 4;
             lent::place4(out, at, &s[number..end])
         }
         Layout::Columns => {
-            let head = gathered(s, number, flags_place(lay, n, i), length_place(lay, n, i));
+            let head = gathered(s, number, flags_place(nth), length_place(nth));
             lent::place4(out, at, &head)
         }
     }
@@ -209,13 +232,13 @@ pub fn put_counts(out: &mut [u8], features: u16, profiles: u16) -> usize
     lent::put2(out, second, profiles)
 }
 
-// Sets the flags of entry i of n in a lent sheet.
+// Sets the flags of an entry in a lent sheet.
 // Asks: an index of the entries, and a sheet that has them all; whoever changes a sheet has checked it.
-pub fn set_flags(out: &mut [u8], lay: Layout, n: u16, i: u16, flags: Flags)
-    requires { ⌜ (i < n) × (profilesBehind n ≤ length (now out)) ⌝ }
-    ensures { λ _. ⌜ now (out .exit) ≡ set (now (out .entry)) (flagsPlace lay n i) (flags .0) ⌝ }
+pub fn set_flags(out: &mut [u8], nth: Nth, flags: Flags)
+    requires { ⌜ (nth .i < nth .n) × (profilesBehind (nth .n) ≤ length (now out)) ⌝ }
+    ensures { λ _. ⌜ now (out .exit) ≡ set (now (out .entry)) (flagsPlace (nth .lay) (nth .n) (nth .i)) (flags .0) ⌝ }
 {
-    let at = flags_place(lay, n, i);
+    let at = flags_place(nth);
     out[at] = flags.0;
 }
 
@@ -273,7 +296,7 @@ fn put_pieces(out: &mut [u8], at: usize, piece: Piece, lay: Layout, s: &[u8], n:
     let mut next = at;
     let mut i: u16 = 0;
     while i < n {
-        next = put_piece(out, next, piece, entry_in(lay, s, n, i));
+        next = put_piece(out, next, piece, entry_in(s, Nth { lay, n, i }));
         i += 1;
     }
     next

@@ -320,13 +320,16 @@ fn counted_fault(mask: u32, body: &[u8]) -> Refusal
     pad_fault(fields::part(body, 4 + n as usize, body.len()))
 }
 
-// 36 anywhere in a body.
+// 36 anywhere in a body. Most have four bytes or none, and every row has one word for these.
 pub fn reserved_fault(row: Row, body: &[u8]) -> Refusal
     ensures { λ r. ⌜ r ≡ firstOf (reservedAt row (now (body .entry))) 0 (length (now (body .entry))) ⌝ }
 {
     let view = &body[..];
     let length = row.1;
     let masks = row.2;
+    if view.len() <= 4 {
+        return reserved_rule(fields::get4(view, 0), masks.0);
+    }
     match length {
         Length::Any => periodic_fault(masks, view),
         Length::Exactly(_) => periodic_fault(masks, view),

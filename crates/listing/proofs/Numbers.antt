@@ -1,16 +1,13 @@
 -- A reading's refusals are numbered 20 or less. Assumes nothing.
-use mathlib.Core.Path.{_≡_, refl}
-use mathlib.Core.Logic.{_⊎_, inl, inr}
 use mathlib.Core.Bool.{Bool, true, false}
 use mathlib.Core.List.{List}
-use Prim.Native.Nat.{ℕ, zero, suc, _+_, _≤_, _<_}
+use Prim.Native.Nat.{ℕ, zero, suc, _≤_}
 use native.Mathlib.Omega.{arith}
 use lib.ListN.{length}
 use Rattle.refusal.specs.declared.Refusal.{Refusal}
 use Rattle.refusal.specs.First.{refuse, _if_else_, pickZero, _orElse_}
-use Rattle.text.specs.Reading.{statedLength, statedEnd, headerRule, headRule, numberAt, lengthAt, headFault, walk, walked, readFault}
-use Rattle.base.proofs.Compare.{le-or-lt}
-use Rattle.text.proofs.Walk.{walk-few, walk-bad, walk-short, walk-step}
+use Rattle.text.specs.Reading.{Walked, statedLength, statedEnd, headerRule, headRule, headFault, walk, walked, readFault}
+use Rattle.text.proofs.Walk.{walk-by}
 
 if-most : (k : ℕ) (b : Bool) (y : Refusal) → k ≤ 20 → y .number ≤ 20 → (refuse k if b else y) .number ≤ 20
 unfolding _if_else_
@@ -37,20 +34,9 @@ head-most rt sfn end s lo at =
     if-most 17 _ _ (omega arith) (if-most 18 _ _ (omega arith) (if-most 18 _ _ (omega arith) (if-most 19 _ _ (omega arith) (if-most 20 _ _ (omega arith) (omega arith)))))
 
 walk-most : (k rt sfn end : ℕ) (s : List ℕ) (lo at : ℕ) → walk k rt sfn end s lo at .fault .number ≤ 20
-unfolding walk
-walk-most zero rt sfn end s lo at = omega arith
-walk-most (suc k) rt sfn end s lo at =
-    go (headFault rt sfn end s lo at .number) refl (le-or-lt (at + 4) (length s)) (le-or-lt (at + 4 + lengthAt s at) (length s))
-    (walk-most k rt sfn end s (numberAt s at + 1) (at + 4 + lengthAt s at))
-  where
-    go : (n : ℕ) → headFault rt sfn end s lo at .number ≡ n → (at + 4 ≤ length s) ⊎ (length s < at + 4)
-        → (at + 4 + lengthAt s at ≤ length s) ⊎ (length s < at + 4 + lengthAt s at)
-        → walk k rt sfn end s (numberAt s at + 1) (at + 4 + lengthAt s at) .fault .number ≤ 20
-        → walk (suc k) rt sfn end s lo at .fault .number ≤ 20
-    go n e (inr few) q h = rw (walk-few k rt sfn end s lo at few) (omega arith)
-    go zero e (inl four) (inl all) h = rw (walk-step k rt sfn end s lo at four e all) h
-    go zero e (inl four) (inr cut) h = rw (walk-short k rt sfn end s lo at four e cut) (omega arith)
-    go (suc n) e (inl four) q h = rw (walk-bad k rt sfn end s lo at four (λ z. omega arith)) (head-most rt sfn end s lo at)
+walk-most k rt sfn end s lo at =
+    walk-by rt sfn end s (λ (lo at : ℕ) (w : Walked). w .fault .number ≤ 20) (λ lo at. omega arith) (λ lo at four. head-most rt sfn end s lo at)
+    (λ lo at w e all h. h) k lo at
 
 pub readFault-most : (limit rt sfn : ℕ) (s : List ℕ) → readFault limit rt sfn s .number ≤ 20
 unfolding readFault walked

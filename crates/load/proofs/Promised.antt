@@ -19,7 +19,7 @@ use Rattle.text.specs.Flags.{persistent}
 use Rattle.text.specs.Drive.{bit}
 use Rattle.profiles.specs.Profiles.{profileNumber}
 use Rattle.layout.specs.Layout.{Sheet, stored, sheetSize, featureCount, profileCount, profilesAt, flagsPlace, number, flags, profilesPart}
-use Rattle.layout.proofs.Laws.{flags-inside}
+use Rattle.layout.proofs.Laws.{fields-inside}
 use Rattle.sheet.specs.Check.{verdict, Accepted}
 use Rattle.sheet.specs.Facts.{Facts}
 use Rattle.sheet.specs.Meaning.{meaning}
@@ -183,7 +183,7 @@ module _ (fs ps : List ℕ) (s : Sheet) (k : Accepted s) where
         flags-are : (i : ℕ) → i < featureCount s → getD e (flagsPlace (s .layout) (featureCount s) i) 0 ≡ flagsWith (isIn fs (number s i)) (flags s i)
         unfolding flagsMet
         flags-are i h =
-            front (flagsPlace (s .layout) (featureCount s) i) (omega (arith, flags-inside (s .layout) (featureCount s) i h, f .room))
+            front (flagsPlace (s .layout) (featureCount s) i) (omega (arith, fields-inside (s .layout) (featureCount s) i h .flags, f .room))
             ∙ patched-flags fs ps f i h ∙ ap (λ (t : Bool). flagsWith t (flags s i)) (met-is f fs (rises fs (λ q. up (inl q))) none i h)
 
         current-is : (i : ℕ) → i < featureCount s → {t : Bool} → (eqb (persistent (flags s i)) 1 || isIn fs (number s i)) ≡ t → getD e (flagsPlace (s .layout) (featureCount s) i) 0 % 2 ≡ bit t

@@ -13,7 +13,7 @@ use Rattle.text.specs.Drive.{Drive, bit}
 use Rattle.refusal.specs.declared.Refusal.{Refusal}
 use Rattle.profiles.specs.Profiles.{profileNumber, profileCurrent, profileLast, listed, profilesOf, Kept}
 use Rattle.layout.specs.Layout.{Sheet, stored, sheetSize, features, profiles, featureCount, profileCount, profilesAt, bodiesAt, numberPlace, flagsPlace, lengthPlace, offsetPlace, number, flags, bodyLength, offset, profilesIn, profilesPart}
-use Rattle.layout.proofs.Laws.{number-inside, flags-inside, length-inside, offset-inside}
+use Rattle.layout.proofs.Laws.{fields-inside}
 use Rattle.layout.proofs.Places.{flags-behind, flags-apart, number-apart, length-apart, offset-apart}
 use Rattle.sheet.specs.Check.{numberBefore, endBefore, flagsRule, Accepted}
 use Rattle.sheet.specs.Facts.{Facts}
@@ -71,7 +71,7 @@ module _ (fs ps : List ℕ) {s : Sheet} (f : Facts s) where
 
   -- behind the contents what is no third byte of a profile
   kept-behind : (x : ℕ) → profilesAt s ≤ x → ((j : ℕ) → j < profileCount s → x ≡ currentPlace s j → ⊥) → getD (sheetPatched fs ps s) x 0 ≡ getD (s .bytes) x 0
-  kept-behind x l g = patched-kept x (λ j m e. omega (arith, e, flags-inside (s .layout) n j m)) g
+  kept-behind x l g = patched-kept x (λ j m e. omega (arith, e, fields-inside (s .layout) n j m .flags)) g
 
   same-features : featureCount t ≡ n
   unfolding features
@@ -85,18 +85,18 @@ module _ (fs ps : List ℕ) {s : Sheet} (f : Facts s) where
   unfolding number
   same-number i l =
       rw same-features (field-kept 2 (s .bytes) (sheetPatched fs ps s) (numberPlace (s .layout) n i)
-      (λ k m. kept-before (numberPlace (s .layout) n i + k) (omega (arith, number-inside (s .layout) n i l)) (λ j q. number-apart (s .layout) n i j k l q m)))
+      (λ k m. kept-before (numberPlace (s .layout) n i + k) (omega (arith, fields-inside (s .layout) n i l .number)) (λ j q. number-apart (s .layout) n i j k l q m)))
 
   same-length : (i : ℕ) → i < n → bodyLength t i ≡ bodyLength s i
   unfolding bodyLength
   same-length i l =
-      rw same-features (kept-before (lengthPlace (s .layout) n i) (omega (arith, length-inside (s .layout) n i l)) (λ j q. length-apart (s .layout) n i j l q))
+      rw same-features (kept-before (lengthPlace (s .layout) n i) (omega (arith, fields-inside (s .layout) n i l .length)) (λ j q. length-apart (s .layout) n i j l q))
 
   same-offset : (i : ℕ) → i < n → offset t i ≡ offset s i
   unfolding offset
   same-offset i l =
       rw same-features (field-kept 4 (s .bytes) (sheetPatched fs ps s) (offsetPlace (s .layout) n i)
-      (λ k m. kept-before (offsetPlace (s .layout) n i + k) (omega (arith, offset-inside (s .layout) n i l)) (λ j q. offset-apart (s .layout) n i j k l q m)))
+      (λ k m. kept-before (offsetPlace (s .layout) n i + k) (omega (arith, fields-inside (s .layout) n i l .offset)) (λ j q. offset-apart (s .layout) n i j k l q m)))
 
   same-behind : (k : ℕ) → bodiesAt s ≤ k → drop k (sheetPatched fs ps s) ≡ drop k (s .bytes)
   same-behind k l =
@@ -108,8 +108,8 @@ module _ (fs ps : List ℕ) {s : Sheet} (f : Facts s) where
   pub patched-flags : (i : ℕ) → i < n → getD (sheetPatched fs ps s) (fp i) 0 ≡ flagsMet s fs i
   unfolding sheetPatched
   patched-flags i l =
-      patched-other (currentPlace s) (currentByte ps s) (flagsPatched fs s) (length (profilesPart s) / 4) (fp i) (λ j m e. omega (arith, e, flags-inside (s .layout) n i l))
-      ∙ patched-at fp (flagsMet s fs) (s .bytes) n (λ a b h k. flags-apart (s .layout) n a b h) (λ j m. omega (arith, flags-inside (s .layout) n j m, f .room)) i l
+      patched-other (currentPlace s) (currentByte ps s) (flagsPatched fs s) (length (profilesPart s) / 4) (fp i) (λ j m e. omega (arith, e, fields-inside (s .layout) n i l .flags))
+      ∙ patched-at fp (flagsMet s fs) (s .bytes) n (λ a b h k. flags-apart (s .layout) n a b h) (λ j m. omega (arith, fields-inside (s .layout) n j m .flags, f .room)) i l
 
   set-flags : (i : ℕ) → i < n → flags t i ≡ flagsMet s fs i
   unfolding flags

@@ -16,6 +16,7 @@ ghost use Rattle.load.specs.Load.{isIn, ascends, lacks, featureNumbers, 
 ghost use Rattle.load.specs.inner.Beside.{Above, met, flagsMet};
 ghost use Rattle.load.specs.inner.Patch.{patched, sheetPatched};
 use layout::Layout;
+use layout::Nth;
 use lent::Made;
 use refusal::Refusal;
 use text::Feature;
@@ -107,7 +108,7 @@ fn met(lay: Layout, s: &[u8], n: u16, list: &[u16]) -> usize
         if list.len() <= j {
             return j;
         }
-        let e = layout::entry_in(lay, s, n, i);
+        let e = layout::entry_in(s, Nth { lay, n, i });
         let walk = passed(list, j, next, e.number);
         j = walk.met;
         next = walk.next;
@@ -153,9 +154,9 @@ fn set_features(out: &mut [u8], lay: Layout, s: &[u8], n: u16, list: &[u16])
     let mut j: usize = 0;
     let mut next = number_at(list, 0);
     while i < n {
-        let e = layout::entry_in(lay, s, n, i);
+        let e = layout::entry_in(s, Nth { lay, n, i });
         let walk = passed(list, j, next, e.number);
-        layout::set_flags(out, lay, n, i, flags_with(e.flags, walk.found));
+        layout::set_flags(out, Nth { lay, n, i }, flags_with(e.flags, walk.found));
         j = walk.met;
         next = walk.next;
         i += 1;

@@ -1,5 +1,5 @@
 -- What the check of the descriptors can still find in a response that was mended: 30, 31 or 39. Assumes nothing.
-use borrow.Author.Tests.{eqb-true, eq-eqb, ne-eqb, leb-true}
+use borrow.Author.Tests.{eq-eqb, ne-eqb, leb-true}
 use mathlib.Core.Path.{_≡_, refl, sym, ap, subst, _∙_}
 use mathlib.Core.Logic.{⊎-elim}
 use mathlib.Core.Bool.{Bool, true, false, not, _&&_, true≢false}
@@ -17,9 +17,9 @@ use Rattle.refusal.specs.declared.Refusal.{Refusal}
 use Rattle.refusal.specs.First.{refuse, accept, _orElse_, firstOf}
 use Rattle.refusal.proofs.First.{orElse-none, orElse-fault, first-accept}
 use Rattle.refusal.proofs.Numbers.{if-holds, first-holds}
-use Rattle.text.specs.Flags.{newer, persistent, current, alone}
+use Rattle.text.specs.Flags.{newer, persistent}
 use Rattle.text.specs.Drive.{Desc, Good}
-use Rattle.text.proofs.FlagsRule.{flags-accept}
+use Rattle.text.proofs.FlagsRule.{flags-quiet}
 use Rattle.reading.specs.Places.{descs, reported}
 use Rattle.reading.specs.Completed.{completeFault}
 use Rattle.checks.specs.declared.Finding.{Finding}
@@ -40,7 +40,7 @@ use Rattle.mend.proofs.Again.{descs-good, flags-mended, body-touched, t
 -- ---- what holds of each number of some rules holds of the number given
 
 module _ (P : ℕ → Type 0) where
-  next-is : (a b : Finding) → P (a .refusal .number) → P (b .refusal .number) → P ((a orNext b) .refusal .number)
+  pub next-is : (a b : Finding) → P (a .refusal .number) → P (b .refusal .number) → P ((a orNext b) .refusal .number)
   next-is a b h l = go (a .refusal .number) refl
     where
       go : (n : ℕ) → a .refusal .number ≡ n → P ((a orNext b) .refusal .number)
@@ -70,14 +70,7 @@ module _ (removable : Bool) (d : Desc) (g : Good d) where
   unfolding flagsFault
   no-flags =
       let m = flags-mended removable f (d .flags) (g .flags-low) in
-      flags-accept (refuse 33) (refuse 34) flags record { reserved-zero = m .reserved-zero; current-too = λ p. lone (current flags) (m .not-alone) p }
-    where
-      lone : (c : ℕ) → alone flags ≡ false → persistent flags ≡ 1 → current flags ≡ 1
-      lone c e p = go (eqb (current flags) 1) refl
-        where
-          go : (t : Bool) → eqb (current flags) 1 ≡ t → current flags ≡ 1
-          go true t = eqb-true _ _ t
-          go false t = absurd (true≢false (sym (true-and _ _ (eq-eqb _ _ p) (not-yes _ t)) ∙ e))
+      flags-quiet (refuse 33) (refuse 34) flags (m .reserved-zero) (m .not-alone)
 
   -- no 32
   no-short : flagsShort f flags ≡ false

@@ -159,9 +159,6 @@ module _ (removable : Bool) (d : Desc) where
 
 -- ---- a descriptor at a place, as it was read
 
-pub barred-is : (both bar bar′ : Bool) (f : ℕ) → bar ≡ bar′ → flagsMended both bar f ≡ flagsMended both bar′ f
-barred-is both bar bar′ f e = ap (λ (b : Bool). flagsMended both b f) e
-
 pub place-length : (s : List ℕ) (at : ℕ) (b : List ℕ) → at + 4 + lengthAt s at ≤ length s → b ≡ descAt s at .body → length b ≡ lengthAt s at
 unfolding descAt
 place-length s at b h e = ap length e ∙ length-take-le (lengthAt s at) (drop (at + 4) s) (omega (arith, length-drop (at + 4) s))
@@ -172,6 +169,13 @@ pub record Seen (removable : Bool) (s : List ℕ) (at fn fl : ℕ) (b : List ℕ
   pub body : b ≡ descAt s at .body
   pub row-is : row ≡ rowOf fn
   pub mends : g ≡ flagsMended (leb fn 0x0003) (row .3 && removable) fl
+
+-- by the calls that read it: its number, flags, body and row, whether Persistent is barred, and the flags mended
+pub seen-by : {removable : Bool} {s : List ℕ} {at fn fl : ℕ} {b : List ℕ} {row : Row} {bar : Bool} {g : ℕ}
+    → fn ≡ numberAt s at → fl ≡ flagsAt s at → b ≡ descAt s at .body → row ≡ rowOf fn → bar ≡ (row .3 && removable) → g ≡ flagsMended (leb fn 0x0003) bar fl
+    → Seen removable s at fn fl b row g
+seen-by {fn = fn} {fl = fl} n f b r p g =
+    record { number = n; flags = f; body = b; row-is = r; mends = g ∙ ap (λ (x : Bool). flagsMended (leb fn 0x0003) x fl) p }
 
 module _ {removable : Bool} {s : List ℕ} {at fn fl : ℕ} {b : List ℕ} {row : Row} {g : ℕ} (v : Seen removable s at fn fl b row g) (bs : Bytes s) (whole : at + 4 + lengthAt s at ≤ length s) where
   abbrev pub seen : Desc

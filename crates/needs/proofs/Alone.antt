@@ -5,15 +5,13 @@ use mathlib.Core.Bool.{Bool, true, false, _&&_}
 use mathlib.Core.List.{List, [], _∷_}
 use Prim.Native.Nat.{ℕ, zero, suc, _+_, _-_, _≤_, _<_}
 use native.Mathlib.Numerals.{add-one}
-use native.Mathlib.Omega.{arith}
 use lib.Dec.{eqb}
 use lib.ListN.{length}
 use Rattle.base.specs.Lists.{each}
 use Rattle.base.specs.Pick.{pick}
 use Rattle.base.proofs.Pick.{pick-here, pick-past}
 use Rattle.refusal.specs.declared.Refusal.{Refusal}
-use Rattle.refusal.specs.First.{refuse, accept}
-use Rattle.refusal.proofs.First.{if-true, if-false, orElse-none, orElse-fault, unless-none, unless-fault}
+use Rattle.refusal.proofs.First.{if-true, if-false}
 use Rattle.text.specs.Drive.{Desc}
 use Rattle.text.specs.Reading.{numberAt, descAt}
 use Rattle.reading.specs.Places.{descs, nextAt}
@@ -23,18 +21,19 @@ use Rattle.reading.proofs.Places.{from-step, from-end}
 use Rattle.reading.proofs.Completed.{descs-from}
 use Rattle.needs.specs.declared.Wrong.{Wrong}
 use Rattle.needs.specs.declared.Wrong.the-variants.{Absent, TooShort, BitClear, NotCurrent, TooLong}
-use Rattle.needs.specs.declared.Judgement.the-variants.{Refused}
 use Rattle.needs.specs.declared.walk.Fit.{Fit}
 use Rattle.needs.specs.declared.walk.Fit.the-variants.{Fits, Lacks}
 use Rattle.needs.specs.declared.table.Column.{Column}
 use Rattle.needs.specs.declared.table.Need.{Need}
-use Rattle.needs.specs.Required.{required, marked, columnOf, hasTable}
-use Rattle.needs.specs.Judge.{Said, saysConforms, saysBroken, said, wrongNumber, tooLong, descWrong, lineOf, descOf, wrongOf, wrongIn, lowestFrom, judgeFault}
+use Rattle.needs.specs.Required.{required, marked, columnOf}
+use Rattle.needs.specs.Judge.{Said, saysConforms, saysBroken, wrongNumber, tooLong, descWrong, lineOf, descOf, wrongOf, wrongIn, lowestFrom}
 use Rattle.needs.specs.Alone.{judgedOf}
 use Rattle.needs.specs.inner.Walk.{fitNumber}
+use Rattle.needs.specs.inner.Refused.{columnFault}
 use Rattle.needs.specs.inner.Table.{lineAt, linesIn}
 use Rattle.needs.specs.inner.Alone.{noNeed, lineIn, lineList, saysOne}
 use Rattle.needs.proofs.Rules.{and-true}
+use Rattle.needs.proofs.Judgements.{judge-passed}
 use Rattle.needs.proofs.Columns.{each-step, each-end}
 
 pub and-yes : (b x y : Bool) → b ≡ x → b ≡ true → y ≡ (x && y)
@@ -192,28 +191,8 @@ unfolding wrongIn
 one-wrong c ns n ds f v q e =
     e ∙ ap (λ (l : List Need). saysOne f (wrongOf (c .2) l (descOf f ds))) (ap (lineList (c .1)) q ∙ line-list (c .1) f ns) ∙ one-lowest (wrongIn ns c ds) f
 
-module _ (p f : ℕ) (s : List ℕ) where
-  refused-one : (r : Refusal) → r ≡ judgeFault p s → (r .number ≡ 0 → ⊥) → said (Refused r) ≡ judgedOf p f s
-  unfolding judgedOf
-  refused-one r e k = rw e (sym (unless-fault (judgeFault p s) _ _ (rw (← e) k)))
-
-  pub one-input : (r : Refusal) → r ≡ completeFault s → (r .number ≡ 0 → ⊥) → said (Refused r) ≡ judgedOf p f s
-  unfolding judgeFault
-  one-input r e k =
-      refused-one r (e ∙ sym (orElse-fault (completeFault s) _ (λ z. k (ap (λ (x : Refusal). x .number) e ∙ z)))) k
-
-  module _ (r : Refusal) (e : r ≡ completeFault s) (k : r .number ≡ 0) (c : Column) (q : c ≡ columnOf p) where
-    no-fault : completeFault s .number ≡ 0
-    no-fault = ap (λ (x : Refusal). x .number) (sym e) ∙ k
-
-    pub one-table : c .1 ≡ 0 → said (Refused (refuse 40)) ≡ judgedOf p f s
-    unfolding judgeFault hasTable
-    one-table h =
-        refused-one (refuse 40)
-        (sym (orElse-none (completeFault s) _ no-fault ∙ rw (← q, eq-eqb (c .1) 0 h) (if-true _ _))) (λ z. absurd (omega arith))
-
-    pub one-judged : (x : Said) → (c .1 ≡ 0 → ⊥) → x ≡ lowestFrom (wrongIn required c (descs s)) f 1 → x ≡ judgedOf p f s
-    unfolding judgedOf judgeFault hasTable
-    one-judged x h l =
-        let g : judgeFault p s ≡ accept = orElse-none (completeFault s) _ no-fault ∙ rw (← q, ne-eqb (c .1) 0 h) (if-false _ _) in
-        l ∙ ap (λ (d : Column). lowestFrom (wrongIn required d (descs s)) f 1) q ∙ sym (unless-none (judgeFault p s) _ _ (ap (λ (x : Refusal). x .number) g))
+-- what is wrong with the feature by the column is the answer
+pub one-judged : (p f : ℕ) (s : List ℕ) (r : Refusal) (c : Column) → c ≡ columnOf p → r ≡ columnFault c s → r .number ≡ 0
+    → (x : Said) → x ≡ lowestFrom (wrongIn required c (descs s)) f 1 → x ≡ judgedOf p f s
+unfolding judgedOf
+one-judged p f s r c q e k x l = l ∙ ap (λ (d : Column). lowestFrom (wrongIn required d (descs s)) f 1) q ∙ judge-passed p s _ r c q e k

@@ -145,7 +145,8 @@ judged-cases p s k =
 
 module _ (p : ℕ) (s : List ℕ) where
   pub input-refuses : (completeFault s .number ≡ 0 → ⊥) → judged p s ≡ says (completeFault s) false [] 0
-  input-refuses h = sym (judge-input p s (completeFault s) refl h)
+  unfolding judged
+  input-refuses h = sym (judge-input p s _ (completeFault s) refl h)
 
   -- no feature breaks a profile by a number of its own
   lowest-plain : (w : ℕ → ℕ) (f k : ℕ) → lowestFrom w f k .refusal ≡ accept

@@ -1,7 +1,7 @@
 -- Which case of a judgement it is, that the lines of every column ascend, and that a judgement is known by what it says. Assumes nothing.
 use borrow.Author.Tests.{eq-eqb, ne-eqb}
 use mathlib.Core.Path.{_≡_, refl, sym, ap, _∙_}
-use mathlib.Core.Bool.{Bool, true, false, true≢false}
+use mathlib.Core.Bool.{Bool, true, false, not, true≢false}
 use mathlib.Core.List.{List, [], _∷_}
 use Prim.Native.Nat.{ℕ, zero, suc}
 use native.Mathlib.Omega.{arith}
@@ -11,8 +11,8 @@ use Rattle.base.specs.Lists.{All}
 use Rattle.base.specs.Pick.{pick}
 use Rattle.base.proofs.Pick.{pick-here, pick-past}
 use Rattle.refusal.specs.declared.Refusal.{Refusal}
-use Rattle.refusal.specs.First.{refuse, accept}
-use Rattle.refusal.proofs.First.{if-true, if-false, orElse-none, orElse-fault, unless-none, unless-fault}
+use Rattle.refusal.specs.First.{refuse, accept, unless, _if_else_, _orElse_}
+use Rattle.refusal.proofs.First.{if-true, if-false, orElse-none, orElse-fault, orElse-zero, unless-none, unless-fault, call-none, call-fault}
 use Rattle.reading.specs.Places.{descs}
 use Rattle.reading.specs.Completed.{completeFault}
 use Rattle.needs.specs.declared.Wrong.{Wrong}
@@ -22,6 +22,7 @@ use Rattle.needs.specs.declared.Judgement.the-variants.{Conforms, Broken
 use Rattle.needs.specs.declared.table.Column.{Column}
 use Rattle.needs.specs.Required.{required, columns, columnOf, noColumn, hasTable, marked}
 use Rattle.needs.specs.Judge.{Said, said, wrongNumber, lowest, judgeFault, judged}
+use Rattle.needs.specs.inner.Refused.{columnFault}
 use Rattle.needs.specs.inner.Walk.{ascends}
 use Rattle.needs.proofs.Rules.{every-all}
 
@@ -51,32 +52,55 @@ column-ascends p =
 
 -- ---- which case
 
-module _ (p : ℕ) (s : List ℕ) where
-  refused-is : (r : Refusal) → r ≡ judgeFault p s → (r .number ≡ 0 → ⊥) → said (Refused r) ≡ judged p s
-  unfolding judged
+-- what refuses, by the reading's refusal x and a column
+module _ (s : List ℕ) (c : Column) (x : Refusal) (e : x ≡ completeFault s) where
+  pub fault-input : (x .number ≡ 0 → ⊥) → x ≡ columnFault c s
+  fault-input k = e ∙ sym (orElse-fault (completeFault s) _ (call-fault x _ e k))
+
+  pub fault-table : x .number ≡ 0 → c .1 ≡ 0 → refuse 40 ≡ columnFault c s
+  fault-table k h = sym (orElse-none (completeFault s) _ (call-none x _ e k) ∙ rw (eq-eqb (c .1) 0 h) (if-true _ _))
+
+  pub fault-none : x .number ≡ 0 → (c .1 ≡ 0 → ⊥) → accept ≡ columnFault c s
+  fault-none k h = sym (orElse-none (completeFault s) _ (call-none x _ e k) ∙ rw (ne-eqb (c .1) 0 h) (if-false _ _))
+
+-- and back: where nothing refuses, the response is complete
+pub fault-complete : (s : List ℕ) (c : Column) (r : Refusal) → r ≡ columnFault c s → r .number ≡ 0 → completeFault s .number ≡ 0
+fault-complete s c r e k = orElse-zero (completeFault s) _ (sym (ap (λ (x : Refusal). x .number) e) ∙ k) .0
+
+-- of a judgement that gives `next` where nothing is refused
+module _ (p : ℕ) (s : List ℕ) (next : Said) where
+  abbrev answer : Said
+  answer = unless (judgeFault p s) (λ (r : Refusal). said (Refused r)) next
+
+  refused-is : (r : Refusal) → r ≡ judgeFault p s → (r .number ≡ 0 → ⊥) → said (Refused r) ≡ answer
   refused-is r e k = rw e (sym (unless-fault (judgeFault p s) _ _ (rw (← e) k)))
 
-  pub judge-input : (r : Refusal) → r ≡ completeFault s → (r .number ≡ 0 → ⊥) → said (Refused r) ≡ judged p s
+  pub judge-input : (r : Refusal) → r ≡ completeFault s → (r .number ≡ 0 → ⊥) → said (Refused r) ≡ answer
   unfolding judgeFault
   judge-input r e k =
       refused-is r (e ∙ sym (orElse-fault (completeFault s) _ (λ z. k (ap (λ (x : Refusal). x .number) e ∙ z)))) k
 
   -- with the profile's column at hand
-  module _ (r : Refusal) (e : r ≡ completeFault s) (k : r .number ≡ 0) (c : Column) (q : c ≡ columnOf p) where
-    none : completeFault s .number ≡ 0
-    none = ap (λ (x : Refusal). x .number) (sym e) ∙ k
-
-    pub judge-table : c .1 ≡ 0 → said (Refused (refuse 40)) ≡ judged p s
+  module _ (r : Refusal) (c : Column) (q : c ≡ columnOf p) (e : r ≡ columnFault c s) where
+    fault-is : r ≡ judgeFault p s
     unfolding judgeFault hasTable
-    judge-table h =
-        refused-is (refuse 40)
-        (sym (orElse-none (completeFault s) _ none ∙ rw (← q, eq-eqb (c .1) 0 h) (if-true _ _))) (λ z. absurd (omega arith))
+    fault-is = e ∙ ap (λ (b : Bool). completeFault s orElse refuse 40 if b else accept) (sym (not-twice _) ∙ ap (λ (d : Column). not (not (eqb (d .1) 0))) q)
+      where
+        not-twice : (b : Bool) → not (not b) ≡ b
+        not-twice true = refl
+        not-twice false = refl
 
-    pub judge-lowest : (x : Said) → (c .1 ≡ 0 → ⊥) → x ≡ lowest c (descs s) → x ≡ judged p s
-    unfolding judged judgeFault hasTable
-    judge-lowest x h l =
-        let g : judgeFault p s ≡ accept = orElse-none (completeFault s) _ none ∙ rw (← q, ne-eqb (c .1) 0 h) (if-false _ _) in
-        l ∙ ap (λ (d : Column). lowest d (descs s)) q ∙ sym (unless-none (judgeFault p s) _ _ (ap (λ (x : Refusal). x .number) g))
+    pub judge-refused : (r .number ≡ 0 → ⊥) → said (Refused r) ≡ answer
+    judge-refused k = refused-is r fault-is k
+
+    pub judge-passed : r .number ≡ 0 → next ≡ answer
+    judge-passed k = sym (unless-none (judgeFault p s) _ _ (rw (← fault-is) k))
+
+-- the lowest that breaks the column is the answer
+pub judge-lowest : (p : ℕ) (s : List ℕ) (r : Refusal) (c : Column) → c ≡ columnOf p → r ≡ columnFault c s → r .number ≡ 0
+    → (x : Said) → x ≡ lowest c (descs s) → x ≡ judged p s
+unfolding judged
+judge-lowest p s r c q e k x l = l ∙ ap (λ (d : Column). lowest d (descs s)) q ∙ judge-passed p s _ r c q e k
 
 -- ---- a judgement is known by what it says
 

@@ -16,7 +16,7 @@ use Rattle.needs.specs.Judge.{Said, says, saysConforms, saysBroken, said
 use Rattle.needs.specs.Alone.{judgedOf}
 use Rattle.needs.proofs.Lowest.{Lowest, none-lowest, found-lowest, lowest-past, lowest-here}
 use Rattle.needs.proofs.Judgements.{column-ascends}
-use Rattle.needs.proofs.Alone.{one-input}
+use Rattle.needs.proofs.Judgements.{judge-input}
 use Rattle.needs.proofs.Judged.{unrefused}
 use Rattle.needs.proofs.Broken.{Breaks, Reason}
 use Rattle.needs.proofs.Breaks.{wrong-breaks, breaks-wrong, wrong-reason}
@@ -50,8 +50,9 @@ module _ (p f : ℕ) (s : List ℕ) where
   one-is x e k = sym (unless-none (judgeFault p s) _ _ (unrefused (judgeFault p s) _ x e k)) ∙ e
 
   pub judged-so : Judged p f s (judgedOf p f s)
+  unfolding judgedOf
   judged-so = record {
-    refuses = λ h. sym (one-input p f s (completeFault s) refl h);
+    refuses = λ h. sym (judge-input p s _ (completeFault s) refl h);
     conforms = λ e b.
         breaks-wrong (columnOf p) 0 (descs s) (column-ascends p) (wholes-asc 65534 0 0 s) f b
         (none-lowest wrongs f 1 (one-is saysConforms e refl) f (omega arith) (omega arith));

@@ -2,3 +2,4 @@
 pub mod Table
 pub mod Walk
 pub mod Alone
+pub mod Refused

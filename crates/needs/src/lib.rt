@@ -2,6 +2,7 @@
 ghost use mathlib.Core.Path.{_≡_};
 ghost use Rattle.needs.specs.Judge.{wrongNumber, said, judged};
 ghost use Rattle.needs.specs.Alone.{judgedOf};
+ghost use Rattle.needs.specs.inner.Refused.{columnFault};
 
 mod one;
 mod table;
@@ -44,18 +45,28 @@ pub enum Judgement {
     Refused(Refusal),
 }
 
+// What refuses a judgement: the reading's numbers and 29, then 40, where a profile has no column with a mark.
+fn judge_fault(column: table::Column, s: &[u8]) -> Refusal
+    ensures { λ r. ⌜ r ≡ columnFault column (now (s .entry)) ⌝ }
+{
+    let number = reading::complete_number(s);
+    if number != 0 {
+        return Refusal { number, place: 0 };
+    }
+    if column.1 == 0 {
+        return refusal::NO_TABLE;
+    }
+    refusal::ACCEPTED
+}
+
 // Whether a response has what a profile requires.
 pub fn check_profile(profile: Profile, s: &[u8]) -> Judgement
     ensures { λ r. ⌜ said r ≡ judged (profile .0) (now (s .entry)) ⌝ }
 {
-    let reading = reading::complete(s);
-    let fault = reading.refusal;
+    let column = table::column_of(profile);
+    let fault = judge_fault(column, s);
     if fault.number != 0 {
         return Judgement::Refused(fault);
-    }
-    let column = table::column_of(profile);
-    if column.1 == 0 {
-        return Judgement::Refused(refusal::NO_TABLE);
     }
     table::lowest_broken(column, s)
 }
@@ -64,15 +75,10 @@ pub fn check_profile(profile: Profile, s: &[u8]) -> Judgement
 pub fn check_feature(profile: Profile, feature: Feature, s: &[u8]) -> Judgement
     ensures { λ r. ⌜ said r ≡ judgedOf (profile .0) (feature .0) (now (s .entry)) ⌝ }
 {
-    let reading = reading::complete(s);
-    let fault = reading.refusal;
+    let column = table::column_of(profile);
+    let fault = judge_fault(column, s);
     if fault.number != 0 {
         return Judgement::Refused(fault);
-    }
-    let column = table::column_of(profile);
-    if column.1 == 0 {
-        let none = refusal::NO_TABLE;
-        return Judgement::Refused(none);
     }
     table::judged_one(column, feature, s)
 }

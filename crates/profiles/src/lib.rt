@@ -1,28 +1,22 @@
 // A list of profiles as bytes, four each: a sheet's profile part and the body of feature 0 are such a list.
 ghost use mathlib.Core.Path.{_≡_};
 ghost use mathlib.Core.Bool.{_||_};
-ghost use Prim.Native.Nat.{_+_, _-_, _/_, _≤_, _<_, min};
-ghost use lib.ListN.{length};
+ghost use Prim.Native.Nat.{_+_, _-_, _*_, _/_, _%_, _≤_, _<_, min};
+ghost use lib.ListN.{length, getD};
 ghost use Rattle.text.specs.Response.{currentProfile};
 ghost use Rattle.profiles.specs.Profiles.{profilesOf, lists, recordRule, recordFault, recordsFault, stopped};
 ghost use Rattle.profiles.specs.inner.Within.{Within};
 use refusal::Refusal;
 use text::Profile;
 
-// 3 of a record's fields; `before` says whether a record before it has its number.
-fn rule(number: Profile, before: bool, current: u8, last: u8) -> Refusal
-    ensures { λ r. ⌜ r ≡ recordRule (number .0) before current last ⌝ }
+// 3 of a record's number; `before` says whether a record before it has it.
+fn rule(number: Profile, before: bool) -> Refusal
+    ensures { λ r. ⌜ r ≡ recordRule (number .0) before 0 0 ⌝ }
 {
     if number.0 == 0 {
         return refusal::PROFILE_BAD;
     }
     if before {
-        return refusal::PROFILE_BAD;
-    }
-    if current > 1 {
-        return refusal::PROFILE_BAD;
-    }
-    if last != 0 {
         return refusal::PROFILE_BAD;
     }
     refusal::ACCEPTED
@@ -44,6 +38,15 @@ fn listed(b: &[u8], number: Profile, n: usize) -> bool
     false
 }
 
+// Two bytes as a number, the first the lowest: so they stand in memory, and one load has them, or those of several records.
+// Asks: bytes that the list has; the walks stop at its end.
+fn two(b: &[u8], at: usize) -> u16
+    requires { ⌜ at + 2 ≤ length (now b) ⌝ }
+    ensures { λ r. ⌜ (r % 256 ≡ getD (now (b .entry)) at 0) × (r / 256 ≡ getD (now (b .entry)) (at + 1) 0) ⌝ }
+{
+    fields::inside(b, at) as u16 + fields::inside(b, at + 1) as u16 * 256
+}
+
 fn either(a: bool, b: bool) -> bool
     ensures { λ r. ⌜ r ≡ (a || b) ⌝ }
 {
@@ -53,34 +56,19 @@ fn either(a: bool, b: bool) -> bool
     b
 }
 
-// The same with no way out at a record: for a number that is most likely new, a walk to the end without a branch is quicker.
+// The same of a number as `two` has it, with no way out at a record: for one that is most likely new, a walk to the end without a branch is quicker.
 // Asks: the same as `listed`.
-fn seen(b: &[u8], number: Profile, n: usize) -> bool
+fn seen(b: &[u8], wanted: u16, n: usize) -> bool
     requires { ⌜ n ≤ length (now b) / 4 ⌝ }
-    ensures { λ r. ⌜ r ≡ lists (number .0) (now (b .entry)) 0 n ⌝ }
+    ensures { λ r. ⌜ r ≡ lists (wanted % 256 * 256 + wanted / 256) (now (b .entry)) 0 n ⌝ }
 {
     let mut found = false;
     let mut i = 0;
     while i < n {
-        found = either(found, fields::inside2(b, 4 * i) == number.0);
+        found = either(found, two(b, 4 * i) == wanted);
         i += 1;
     }
     found
-}
-
-// The same, where the numbers of the first n records lie from low to high: a number outside is looked for nowhere.
-// Asks: no more records than the list has, and their lowest and highest number; the walk carries them along.
-fn among(b: &[u8], number: Profile, n: usize, low: Profile, high: Profile) -> bool
-    requires { ⌜ (n ≤ length (now b) / 4) × Within (low .0) (high .0) (now b) n ⌝ }
-    ensures { λ r. ⌜ r ≡ lists (number .0) (now (b .entry)) 0 n ⌝ }
-{
-    if number.0 < low.0 {
-        return false;
-    }
-    if high.0 < number.0 {
-        return false;
-    }
-    seen(b, number, n)
 }
 
 // The place of record i, counted from 1. It is a sixteen-bit number and stops at the highest.
@@ -93,16 +81,26 @@ fn place_of(i: usize) -> u16
     65535
 }
 
+// A number outside of those before it is new, and is looked for nowhere.
 // Asks: an index inside the list, and the lowest and highest number before it; the walk stops at its end.
 fn record_fault(b: &[u8], i: usize, low: Profile, high: Profile) -> Refusal
     requires { ⌜ (i < length (now b) / 4) × Within (low .0) (high .0) (now b) i ⌝ }
     ensures { λ r. ⌜ r ≡ stopped (recordFault (now (b .entry)) i) ⌝ }
 {
     let number = Profile(fields::inside2(b, 4 * i));
-    let before = among(b, number, i, low, high);
-    let current = fields::inside(b, 4 * i + 2);
-    let last = fields::inside(b, 4 * i + 3);
-    let fault = rule(number, before, current, last);
+    // the byte with CurrentP and the last one
+    if 1 < two(b, 4 * i + 2) {
+        return refusal::PROFILE_BAD.placed(place_of(i));
+    }
+    if high.0 < number.0 {
+        return refusal::ACCEPTED;
+    }
+    if number.0 < low.0 {
+        let fault = rule(number, false);
+        return fault.placed(place_of(i));
+    }
+    let before = seen(b, two(b, 4 * i), i);
+    let fault = rule(number, before);
     fault.placed(place_of(i))
 }
 

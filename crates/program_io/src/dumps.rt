@@ -32,28 +32,39 @@ fn say_name(named: usize) {
     }
 }
 
-fn say_line(named: usize, line: usize) {
+// Words, a number, and more words.
+fn say_number(before: &[u8], number: usize, behind: &[u8]) {
+    streams::say_to(STDERR_FILENO, before);
+    streams::say_decimal_to(STDERR_FILENO, number as u64);
+    streams::say_to(STDERR_FILENO, behind);
+}
+
+// Something is wrong with the text that is read.
+fn blame(named: usize) {
     streams::mark_fault();
     say_name(named);
-    streams::say_to(STDERR_FILENO, b"line ");
-    streams::say_decimal_to(STDERR_FILENO, line as u64);
-    streams::say_to(
-        STDERR_FILENO,
+}
+
+fn say_line(named: usize, line: usize) {
+    blame(named);
+    say_number(
+        b"line ",
+        line,
         b" spells no bytes: it is no hexadecimal text of a kind that is read here\n",
     );
 }
 
 fn say_too_many(named: usize, count: usize) {
-    streams::mark_fault();
-    say_name(named);
-    streams::say_to(STDERR_FILENO, b"the text spells ");
-    streams::say_decimal_to(STDERR_FILENO, count as u64);
-    streams::say_to(STDERR_FILENO, b" bytes, more than are taken here\n");
+    blame(named);
+    say_number(
+        b"the text spells ",
+        count,
+        b" bytes, more than are taken here\n",
+    );
 }
 
 fn say_too_long(named: usize) {
-    streams::mark_fault();
-    say_name(named);
+    blame(named);
     streams::say_to(
         STDERR_FILENO,
         b"the text has over 524,288 characters, more than are taken here\n",
@@ -61,8 +72,7 @@ fn say_too_long(named: usize) {
 }
 
 fn say_none(named: usize) {
-    streams::mark_fault();
-    say_name(named);
+    blame(named);
     streams::say_to(STDERR_FILENO, b"the text spells no byte at all\n");
 }
 
@@ -97,21 +107,6 @@ fn spelt_within(named: usize, text: &[u8], buf: &mut [u8]) -> Input {
     spelt(named, text, buf)
 }
 
-// Reads a text from a descriptor into lent memory, and gives the bytes that it spells.
-fn read_into(named: usize, fd: i32, text: &mut [u8; ROOM], buf: &mut [u8]) -> Input {
-    let got = streams::read_from(fd, text);
-    if got.failed {
-        return failed();
-    }
-    spelt_within(named, fields::part(text, 0, got.count), buf)
-}
-
-// Only a function that reads a text has the memory for one.
-fn read_text(named: usize, fd: i32, buf: &mut [u8]) -> Input {
-    let mut text = [0u8; ROOM];
-    read_into(named, fd, &mut text, buf)
-}
-
 // Bytes that stand for themselves, as many as there is room for.
 fn taken(bytes: &[u8], buf: &mut [u8]) -> Input {
     Input {
@@ -120,32 +115,38 @@ fn taken(bytes: &[u8], buf: &mut [u8]) -> Input {
     }
 }
 
-// Whether these are bytes of a response and no text: a response begins with a byte 0, and no text has one.
-fn is_bytes(s: &[u8]) -> bool {
+// Whether these are bytes of a response and no text, where that may be: a response begins with a byte 0, and no text has one.
+fn is_bytes(plain: bool, s: &[u8]) -> bool {
+    if !plain {
+        return false;
+    }
     if s.len() == 0 {
         return false;
     }
     fields::byte(s, 0) == 0
 }
 
-fn either(s: &[u8], buf: &mut [u8]) -> Input {
-    if is_bytes(s) {
+// The bytes that a text spells; or these bytes, where they may stand for themselves.
+fn bytes_of(plain: bool, named: usize, s: &[u8], buf: &mut [u8]) -> Input {
+    if is_bytes(plain, s) {
         return taken(s, buf);
     }
-    spelt_within(0, s, buf)
+    spelt_within(named, s, buf)
 }
 
-fn read_either_into(text: &mut [u8; ROOM], buf: &mut [u8]) -> Input {
-    let got = streams::read(text);
+// Reads a text from a descriptor into lent memory, and gives its bytes.
+fn read_into(plain: bool, named: usize, fd: i32, text: &mut [u8; ROOM], buf: &mut [u8]) -> Input {
+    let got = streams::read_from(fd, text);
     if got.failed {
         return failed();
     }
-    either(fields::part(text, 0, got.count), buf)
+    bytes_of(plain, named, fields::part(text, 0, got.count), buf)
 }
 
-fn read_either_text(buf: &mut [u8]) -> Input {
+// Only a function that reads a text has the memory for one.
+fn read_text(plain: bool, named: usize, fd: i32, buf: &mut [u8]) -> Input {
     let mut text = [0u8; ROOM];
-    read_either_into(&mut text, buf)
+    read_into(plain, named, fd, &mut text, buf)
 }
 
 // What was read, which the buffer has.
@@ -159,12 +160,21 @@ fn within(got: Input, buf: &[u8]) -> Input
     }
 }
 
-// Standard input: bytes, or where argument i is given the bytes that a text spells.
-fn read_all(i: usize, buf: &mut [u8]) -> Input {
+// Standard input: bytes, or where argument i is given the bytes of a text.
+fn read_all(plain: bool, i: usize, buf: &mut [u8]) -> Input {
     if streams::given(i) {
-        return read_text(0, STDIN_FILENO, buf);
+        return read_text(plain, 0, STDIN_FILENO, buf);
     }
     streams::read(buf)
+}
+
+// Without its padding, where the argument behind i says so.
+fn read_trimmed(plain: bool, i: usize, buf: &mut [u8]) -> Input
+    ensures { λ r. ⌜ Counts (r .count) (now (buf .exit)) ⌝ }
+{
+    let got = read_all(plain, i, buf);
+    let kept = trimmed(i, 0, got, buf);
+    within(kept, buf)
 }
 
 // Reads standard input: bytes, or where argument i is given the bytes that a text spells. Where the argument behind it is given, no more of these than a response has by
@@ -172,32 +182,21 @@ fn read_all(i: usize, buf: &mut [u8]) -> Input {
 pub fn read(i: usize, buf: &mut [u8]) -> Input
     ensures { λ r. ⌜ Counts (r .count) (now (buf .exit)) ⌝ }
 {
-    let got = read_all(i, buf);
-    let kept = trimmed(i, 0, got, buf);
-    within(kept, buf)
-}
-
-fn read_all_either(i: usize, buf: &mut [u8]) -> Input {
-    if streams::given(i) {
-        return read_either_text(buf);
-    }
-    streams::read(buf)
+    read_trimmed(false, i, buf)
 }
 
 // As read, but where argument i is given the input may be bytes all the same: that argument then speaks of what is written.
 pub fn read_either(i: usize, buf: &mut [u8]) -> Input
     ensures { λ r. ⌜ Counts (r .count) (now (buf .exit)) ⌝ }
 {
-    let got = read_all_either(i, buf);
-    let kept = trimmed(i, 0, got, buf);
-    within(kept, buf)
+    read_trimmed(true, i, buf)
 }
 
 fn read_named_text(file: usize, named: usize, buf: &mut [u8]) -> Input {
     let mut name = io::buffer();
     let length = os::arg(file, &mut name);
     let fd = os::open_read(&name[..length]);
-    let got = read_text(named, fd, buf);
+    let got = read_text(false, named, fd, buf);
     libc::close(fd);
     got
 }
@@ -258,10 +257,9 @@ fn is_zero(s: &[u8]) -> bool {
 // What trimming left out is told where it is no mere padding.
 fn say_left_out(named: usize, count: usize) {
     say_name(named);
-    streams::say_to(STDERR_FILENO, b"--trim left out ");
-    streams::say_decimal_to(STDERR_FILENO, count as u64);
-    streams::say_to(
-        STDERR_FILENO,
+    say_number(
+        b"--trim left out ",
+        count,
         b" bytes behind the response that are not all 0\n",
     );
 }
@@ -318,14 +316,15 @@ fn is_text(s: &[u8]) -> bool {
 // Of a response that is longer than its own Data Length says: how many bytes it has by that, and what the others are. Of an input that is too long for a response only the
 // front was read.
 fn say_padded(own: usize, rest: &[u8], all: bool) {
-    streams::say_to(STDERR_FILENO, b"by its own Data Length the response has ");
-    streams::say_decimal_to(STDERR_FILENO, own as u64);
-    streams::say_to(STDERR_FILENO, b" bytes; the ");
+    say_number(
+        b"by its own Data Length the response has ",
+        own,
+        b" bytes; the ",
+    );
     if !all {
         streams::say_to(STDERR_FILENO, b"first ");
     }
-    streams::say_decimal_to(STDERR_FILENO, rest.len() as u64);
-    streams::say_to(STDERR_FILENO, b" bytes behind it are ");
+    say_number(b"", rest.len(), b" bytes behind it are ");
     if !is_zero(rest) {
         streams::say_to(STDERR_FILENO, b"not ");
     }

@@ -21,34 +21,6 @@ pub struct Exchange {
     pub response: usize,
 }
 
-fn value(byte: u8) -> u8 {
-    match byte {
-        b'0'..=b'9' => byte - b'0',
-        b'a'..=b'f' => byte - b'a' + 10,
-        b'A'..=b'F' => byte - b'A' + 10,
-        _ => 0,
-    }
-}
-
-// Byte i of those that pairs of digits spell.
-fn spelt(text: &[u8], i: usize) -> u8 {
-    let high = value(fields::byte(text, 2 * (i % 65536)));
-    let low = value(fields::byte(text, 2 * (i % 65536) + 1));
-    high % 16 * 16 + low % 16
-}
-
-// Puts the bytes that pairs of digits spell to the front, as far as there is room.
-fn unpack(text: &[u8], out: &mut [u8]) {
-    let mut i = 0;
-    while i < out.len() {
-        if text.len() / 2 <= i {
-            return;
-        }
-        out[i] = spelt(text, i);
-        i += 1;
-    }
-}
-
 // Reads so many digits, if there is room for them.
 fn read_digits(count: usize, buf: &mut [u8]) -> usize {
     if buf.len() < count {
@@ -61,24 +33,23 @@ fn read_digits(count: usize, buf: &mut [u8]) -> usize {
 fn read_command(count: usize, out: &mut [u8; COMMAND]) -> usize {
     let mut text = [0u8; COMMAND_DIGITS];
     let got = read_digits(count % 256 * 2, &mut text);
-    unpack(fields::part(&text, 0, got), out);
-    got / 2
+    streams::unpacked(fields::part(&text, 0, got), out)
 }
 
 fn read_response(count: usize, out: &mut [u8; RESPONSE]) -> usize {
     let mut text = [0u8; RESPONSE_DIGITS];
     let got = read_digits(count % 65536 * 2 + 1, &mut text);
-    unpack(fields::part(&text, 0, got), out);
-    got / 2
+    streams::unpacked(fields::part(&text, 0, got), out)
 }
 
 // Reads the next exchange of standard input.
 pub fn read_next(command: &mut [u8; COMMAND], response: &mut [u8; RESPONSE]) -> Exchange {
     let mut counts = [0u8; COUNTS];
     streams::read(&mut counts);
-    let long = spelt(&counts, 1) as usize * 256 + spelt(&counts, 2) as usize;
+    let mut sizes = [0u8; 3];
+    streams::unpacked(&counts, &mut sizes);
     Exchange {
-        command: read_command(spelt(&counts, 0) as usize, command),
-        response: read_response(long, response),
+        command: read_command(fields::byte(&sizes, 0) as usize, command),
+        response: read_response(fields::get2(&sizes, 1) as usize, response),
     }
 }

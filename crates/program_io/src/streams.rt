@@ -139,7 +139,7 @@ pub fn arg(i: usize) -> u16 {
 }
 
 // Puts the bytes that pairs of hexadecimal digits spell at the front, as far as there is room. Any other byte counts as the digit 0.
-fn unpacked(word: &[u8], bytes: &mut [u8]) -> usize
+pub fn unpacked(word: &[u8], bytes: &mut [u8]) -> usize
     ensures { λ r. ⌜ Counts r (now (bytes .exit)) ⌝ }
 {
     let mut n = 0;

@@ -6,7 +6,7 @@ use program_io::streams;
 use program_io::streams::say;
 
 // Says one of two texts.
-pub fn either(json: bool, value: &[u8], words: &[u8]) {
+pub fn say_either(json: bool, value: &[u8], words: &[u8]) {
     if json {
         say(value);
         return;

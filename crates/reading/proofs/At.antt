@@ -11,17 +11,13 @@ use lib.Seq.{take-nil}
 use denote.Ref.{RefT, now}
 use Rattle.base.specs.Lists.{Bytes}
 use Rattle.fields.specs.Part.{PartOf}
-use Rattle.text.specs.Reading.{flagsAt, lengthAt, descAt}
+use Rattle.text.specs.Reading.{lengthAt, descAt}
 use Rattle.reading.specs.Places.{nextAt}
 
 module _ (s : List ℕ) (at : ℕ) where
-  pub flags-behind : length s ≤ at → 0 ≡ flagsAt s at
-  unfolding flagsAt
-  flags-behind h = sym (List·getD-eq-default s 0 {n = at + 2} (omega arith))
-
-  pub length-behind : length s ≤ at → 0 ≡ lengthAt s at
-  unfolding lengthAt
-  length-behind h = sym (List·getD-eq-default s 0 {n = at + 3} (omega arith))
+  -- flags and Additional Length behind the end
+  pub byte-behind : (k : ℕ) → length s ≤ at → 0 ≡ getD s (at + k) 0
+  byte-behind k h = sym (List·getD-eq-default s 0 {n = at + k} (omega arith))
 
   pub next-behind : length s ≤ at → at ≡ nextAt s at
   unfolding nextAt

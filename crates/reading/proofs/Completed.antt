@@ -1,17 +1,18 @@
 -- The reading of a response that has to be complete: refused, cut, or read; and what it says that it is not refused. Assumes nothing.
-use borrow.Author.Tests.{eq-eqb, eqb-true, not-false}
+use borrow.Author.Tests.{eq-eqb, ne-eqb, eqb-true, not-false}
 use mathlib.Core.Path.{_≡_, refl, sym, ap, _∙_}
 use mathlib.Core.Bool.{Bool, true, false, not}
 use mathlib.Core.List.{List}
-use Prim.Native.Nat.{ℕ, zero, suc}
+use Prim.Native.Nat.{ℕ, zero, suc, _+_}
 use native.Mathlib.Omega.{arith}
 use lib.Dec.{eqb}
 use lib.ListN.{length}
+use Rattle.fields.specs.Field.{field}
 use Rattle.refusal.specs.declared.Refusal.{Refusal}
 use Rattle.refusal.specs.First.{refuse, accept, _if_else_}
-use Rattle.refusal.proofs.First.{known, if-true, if-false, if-zero, orElse-none, orElse-fault, orElse-zero, unless-none, unless-fault}
+use Rattle.refusal.proofs.First.{known, if-true, if-false, if-plain, if-zero, orElse-none, orElse-fault, orElse-plain, orElse-zero, unless-none, unless-fault}
 use Rattle.text.specs.declared.Reading.{Reading}
-use Rattle.text.specs.Reading.{statedEnd, readFault, nothingRead, taken, reading}
+use Rattle.text.specs.Reading.{statedLength, statedEnd, headerRule, walk, walked, readFault, nothingRead, taken, reading}
 use Rattle.text.proofs.Walk.{readFault-plain}
 use Rattle.text.proofs.Received.{reading-fault, reading-none, reading-cases}
 use Rattle.reading.specs.declared.Scanned.{Scanned}
@@ -107,3 +108,46 @@ module _ (s : List ℕ) where
       complete-whole h =
           let g : completeFault s ≡ accept = fault-is ∙ rw h (if-false _ _) in
           e ∙ sym (unless-none (completeFault s) nothingRead (reading 65534 0 0 s) (number-is g))
+
+-- ---- by its number alone
+
+module _ (s : List ℕ) where
+  -- it has no place
+  pub complete-numbered : (n : ℕ) → n ≡ completeFault s .number → refuse n ≡ completeFault s
+  unfolding completeFault
+  complete-numbered n e = sym (known (completeFault s) (orElse-plain _ _ (readFault-plain 65534 0 0 s) (if-plain _ _ _ refl)) (sym e))
+
+  pub number-zero : (n : ℕ) → n ≡ completeFault s .number → n ≡ 0 → completeFault s .number ≡ 0
+  number-zero n e z = sym e ∙ z
+
+  -- with the header's refusal and the walk's number at hand
+  module _ (stated : ℕ) (r : Refusal) (t : stated ≡ field 4 s 0) (q : r ≡ headerRule 65534 0 (length s) stated) where
+    header-is : r ≡ headerRule 65534 0 (length s) (statedLength s)
+    unfolding statedLength
+    header-is = rw (← t) q
+
+    pub number-header : (r .number ≡ 0 → ⊥) → r .number ≡ completeFault s .number
+    unfolding completeFault readFault
+    number-header k =
+        let e : readFault 65534 0 0 s ≡ r = orElse-fault _ _ (rw (← header-is) k) ∙ sym header-is in
+        number-is (sym (orElse-fault (readFault 65534 0 0 s) _ (rw e k) ∙ e))
+
+    module _ (k : r .number ≡ 0) (n : ℕ) (v : n ≡ walk (length s) 0 0 (stated + 4) s 0 8 .fault .number) where
+      walk-is : readFault 65534 0 0 s .number ≡ n
+      unfolding readFault statedLength walked
+      walk-is = number-is (orElse-none _ _ (rw (← header-is) k)) ∙ sym (rw (← t) v)
+
+      pub number-walk : (n ≡ 0 → ⊥) → n ≡ completeFault s .number
+      unfolding completeFault
+      number-walk z = sym (number-is (orElse-fault (readFault 65534 0 0 s) _ (λ y. z (sym walk-is ∙ y))) ∙ walk-is)
+
+      module _ (z : n ≡ 0) where
+        cut-is : completeFault s ≡ (refuse 29 if not (eqb (length s) (stated + 4)) else accept)
+        unfolding completeFault statedLength
+        cut-is = orElse-none _ _ (walk-is ∙ z) ∙ rw t refl
+
+        pub number-cut : (length s ≡ stated + 4 → ⊥) → 29 ≡ completeFault s .number
+        number-cut h = let e : completeFault s ≡ refuse 29 = cut-is ∙ rw (ne-eqb (length s) (stated + 4) h) (if-true _ _) in sym (number-is e)
+
+        pub number-none : length s ≡ stated + 4 → 0 ≡ completeFault s .number
+        number-none h = let e : completeFault s ≡ accept = cut-is ∙ rw (eq-eqb (length s) (stated + 4) h) (if-false _ _) in sym (number-is e)

@@ -6,6 +6,8 @@ pub mod Fresh
 pub mod Lies
 pub mod Places
 pub mod Rest
+pub mod Going
+pub mod Spots
 pub mod Stopped
 pub mod Completed
 pub mod Loops

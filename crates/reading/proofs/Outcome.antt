@@ -92,19 +92,22 @@ module _ (limit rt sfn : ℕ) (s : List ℕ) where
       pub stop-taken : (count end : ℕ) (last : Feature) → w ≡ Whole count end last → standing s end ≡ stopped limit rt sfn s
       stop-taken count end last h = stop-there end (tally-whole 0 8 0 (walked rt sfn s) count end last (sym h ∙ walk-is) .2)
 
+      -- what is read where nothing is refused
+      abbrev scanOf : (profile count end : ℕ) → Feature → Scanned
+      scanOf p count end last = record {
+        reading = record {
+          refusal = accept;
+          profile = record { 0 = p };
+          data_length = stated;
+          count = count;
+          end = end;
+          complete = eqb (length s) (stated + 4);
+        };
+        last = last;
+      }
+
       pub scan-taken : (count end : ℕ) (last : Feature) → w ≡ Whole count end last → (p : ℕ) → p ≡ field 2 s 6
-          → record {
-            reading = record {
-              refusal = accept;
-              profile = record { 0 = p };
-              data_length = stated;
-              count = count;
-              end = end;
-              complete = eqb (length s) (stated + 4);
-            };
-            last = last;
-          }
-          ≡ scanned limit rt sfn s
+          → scanOf p count end last ≡ scanned limit rt sfn s
       unfolding scanned taken statedLength statedProfile
       scan-taken count end last h p m =
           let f = tally-whole 0 8 0 (walked rt sfn s) count end last (sym h ∙ walk-is) in
@@ -126,21 +129,7 @@ module _ (limit rt sfn : ℕ) (s : List ℕ) where
 
       pub judged-taken : (n : ℕ) → n ≡ oddIn (walk (length s) rt sfn (stated + 4) s sfn 8 .found) → (count end : ℕ) (last : Feature) → w ≡ Whole count end last → (p : ℕ)
           → p ≡ field 2 s 6
-          → record {
-            scan = record {
-              reading = record {
-                refusal = accept;
-                profile = record { 0 = p };
-                data_length = stated;
-                count = count;
-                end = end;
-                complete = eqb (length s) (stated + 4);
-              };
-              last = last;
-            };
-            odd = n;
-          }
-          ≡ scannedAs (scanned limit rt sfn s) (oddIn (wholes limit rt sfn s))
+          → scannedAs (scanOf p count end last) n ≡ scannedAs (scanned limit rt sfn s) (oddIn (wholes limit rt sfn s))
       judged-taken n o count end last h p m = both-scanned (scan-taken count end last h p m) (odd-taken n o count end last h)
 
 -- ---- the feature at a place where a walk stopped, by its two cases

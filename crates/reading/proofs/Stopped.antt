@@ -1,7 +1,6 @@
 -- What stands where a reading stops: the descriptor at fault, judged by its own four header bytes. Assumes nothing.
 use borrow.Author.Tests.{le-leb, lt-leb}
 use mathlib.Core.Path.{_≡_, refl, sym, ap, _∙_}
-use mathlib.Core.Logic.{_⊎_, inl, inr}
 use mathlib.Core.Bool.{Bool, true, false}
 use mathlib.Core.List.{List, [], _∷_, _++_}
 use Prim.Native.Nat.{ℕ, zero, suc, _+_, _≤_, _<_}
@@ -9,14 +8,13 @@ use native.Mathlib.Omega.{arith}
 use native.Mathlib.Nat.{add-zero}
 use lib.ListN.{length, length-append}
 use Rattle.base.specs.Lists.{flat}
-use Rattle.base.proofs.Compare.{le-or-lt}
 use Rattle.refusal.specs.declared.Refusal.{Refusal}
 use Rattle.refusal.proofs.First.{orElse-none, orElse-zero, unless-none, unless-fault}
 use Rattle.text.specs.declared.Reading.{Reading}
 use Rattle.text.specs.Drive.{Desc}
 use Rattle.text.specs.Response.{bytes}
 use Rattle.text.specs.Reading.{statedLength, statedEnd, headerRule, Walked, stop, onward, numberAt, lengthAt, descAt, headFault, walk, walked, readFault, taken, reading}
-use Rattle.text.proofs.Walk.{walk-few, walk-bad, walk-short, walk-step}
+use Rattle.text.proofs.Walk.{walk-by}
 use Rattle.text.proofs.Received.{length-descAt, reading-none}
 use Rattle.reading.specs.Stop.{nowhere, featureAt, standing, stopPlace, stopped}
 
@@ -47,20 +45,9 @@ module _ (rt sfn end : ℕ) (s : List ℕ) (lo at : ℕ) where
       rw p (record { received = f x .received; judged = f x .judged })
 
 pub walk-fault : (k rt sfn end : ℕ) (s : List ℕ) (lo at : ℕ) → StopsAt rt sfn end s lo at (walk k rt sfn end s lo at)
-unfolding walk
-walk-fault zero rt sfn end s lo at = λ n. absurd (n refl)
-walk-fault (suc k) rt sfn end s lo at =
-    go (headFault rt sfn end s lo at .number) refl (le-or-lt (at + 4) (length s)) (le-or-lt (at + 4 + lengthAt s at) (length s))
-    (walk-fault k rt sfn end s (numberAt s at + 1) (at + 4 + lengthAt s at))
-  where
-    go : (m : ℕ) → headFault rt sfn end s lo at .number ≡ m → (at + 4 ≤ length s) ⊎ (length s < at + 4)
-        → (at + 4 + lengthAt s at ≤ length s) ⊎ (length s < at + 4 + lengthAt s at)
-        → StopsAt rt sfn end s (numberAt s at + 1) (at + 4 + lengthAt s at) (walk k rt sfn end s (numberAt s at + 1) (at + 4 + lengthAt s at))
-        → StopsAt rt sfn end s lo at (walk (suc k) rt sfn end s lo at)
-    go m e (inr few) q h = rw (walk-few k rt sfn end s lo at few) (λ x. absurd (x refl))
-    go zero e (inl four) (inl whole) h = rw (walk-step k rt sfn end s lo at four e whole) (stops-onward rt sfn end s lo at _ whole h)
-    go zero e (inl four) (inr cut) h = rw (walk-short k rt sfn end s lo at four e cut) (λ x. absurd (x refl))
-    go (suc m) e (inl four) q h = rw (walk-bad k rt sfn end s lo at four (λ z. omega arith)) (stops-here rt sfn end s lo at four)
+walk-fault k rt sfn end s lo at =
+    walk-by rt sfn end s (StopsAt rt sfn end s) (λ lo at x. absurd (x refl)) (λ lo at four. stops-here rt sfn end s lo at four)
+    (λ lo at w e whole f. stops-onward rt sfn end s lo at w whole f) k lo at
 
 -- ---- what is promised of the place and the feature
 

@@ -41,7 +41,7 @@ last-start (d ∷ ds) = last-from d ds
 -- ---- a walk in numbers
 
 -- an answer v by cases: there is no refusal, or it is made of the refusal
-by-cases : {A P : Type 0} (r : Refusal) (refused : Refusal → A) (x v : A) → v ≡ unless r refused x
+pub by-cases : {A P : Type 0} (r : Refusal) (refused : Refusal → A) (x v : A) → v ≡ unless r refused x
     → (r .number ≡ 0 → v ≡ x → P) → ((r .number ≡ 0 → ⊥) → v ≡ refused r → P) → P
 by-cases {A} {P} r refused x v q none fault = go (r .number) refl
   where
@@ -111,7 +111,7 @@ module _ (rt sfn end : ℕ) (s : List ℕ) (lo at : ℕ) where
     head-none k = rw (← number-is, ← length-is) (sym (unless-none _ head.Refused _ (rw (← fault-is) k)))
 
 -- what a descriptor that stands says
-head-facts : (rt sfn end : ℕ) (s : List ℕ) (lo at : ℕ) (h : Head) → h ≡ headAt rt sfn end s lo at → (number : Feature) (len : ℕ) → h ≡ head.Stands number len
+pub head-facts : (rt sfn end : ℕ) (s : List ℕ) (lo at : ℕ) (h : Head) → h ≡ headAt rt sfn end s lo at → (number : Feature) (len : ℕ) → h ≡ head.Stands number len
     → (headFault rt sfn end s lo at .number ≡ 0) × (number ≡ record { 0 = numberAt s at }) × (len ≡ lengthAt s at)
 unfolding headAt
 head-facts rt sfn end s lo at h q number len k =

@@ -2,9 +2,10 @@
 ghost use mathlib.Core.Path.{_≡_};
 ghost use mathlib.Core.Bool.{not, _&&_};
 ghost use Prim.Native.Nat.{_+_, _≤_};
-ghost use lib.Dec.{leb, eqb};
+ghost use lib.Dec.{ltb, leb, eqb};
 ghost use lib.ListN.{length, drop};
 ghost use Rattle.fields.specs.Part.{PartOf};
+ghost use Rattle.refusal.specs.First.{_if_else_};
 ghost use Rattle.text.specs.Flags.{current};
 ghost use Rattle.text.specs.Response.{headerLength, returnLimit};
 ghost use Rattle.text.specs.Reading.{headerRule, headRule, numberAt, flagsAt, lengthAt, descAt, walk, reading};
@@ -13,6 +14,7 @@ ghost use Rattle.reading.specs.Scan.{scanned};
 ghost use Rattle.reading.specs.Stop.{standing, stopped};
 ghost use Rattle.reading.specs.Judged.{oddFlags, judged};
 ghost use Rattle.reading.specs.inner.Tally.{refusal, headAt, tally, walkJudged, scanJudged};
+ghost use Rattle.reading.specs.inner.Spot.{spotFrom, spotIn};
 ghost use Rattle.reading.specs.Completed.{completeFault, completed};
 ghost use Rattle.reading.specs.Held.{placeIn, HeldIn, HeldOf};
 use refusal::Refusal;
@@ -70,6 +72,18 @@ struct ScanJudged {
     scan: Scanned,
     odd: u32,
 }
+
+// Where the descriptor of a feature stands, or would stand, and how many bytes it has: 0 where the response does not have it whole.
+struct Spot {
+    place: usize,
+    size: usize,
+}
+
+// That of a response that is refused.
+const NO_SPOT: Spot = Spot {
+    place: Header::LENGTH,
+    size: 0,
+};
 
 // ---- the header bytes of a descriptor at a place that has them, with no look at the end of s
 
@@ -379,6 +393,51 @@ pub fn complete(s: &[u8]) -> Reading
     reading
 }
 
+// The walk over the descriptors of a response to RT 0 from 0 that ends at end: the number of its refusal, 0 if there is none.
+// Asks: as many bytes as 14 lets through, which has been shown before.
+fn walk_number(end: usize, s: &[u8]) -> u8
+    requires { ⌜ (headerLength ≤ length (now s)) × (length (now s) ≤ returnLimit) ⌝ }
+    ensures { λ r. ⌜ r ≡ walk (length (now (s .entry))) 0 0 end (now (s .entry)) 0 headerLength .fault .number ⌝ }
+{
+    let lengths = &s[3..];
+    let mut at = Header::LENGTH;
+    let mut lo: u32 = 0;
+    while at + 4 <= s.len() {
+        match head_at(0, Feature(0), end, s, lengths, lo, at) {
+            Head::Refused(fault) => {
+                return fault.number;
+            }
+            Head::Stands { number, len } => {
+                at = at + 4 + len as usize;
+                let above = number.0 as u32 + 1;
+                lo = above;
+            }
+        }
+    }
+    0
+}
+
+// The number that `complete` refuses a response by, 0 if it does not: for who needs no more of it, since it comes in a register.
+pub fn complete_number(s: &[u8]) -> u8
+    ensures { λ r. ⌜ r ≡ completeFault (now (s .entry)) .number ⌝ }
+{
+    let stated = fields::get4(s, 0);
+    let fault = header_rule(Header::RETURN_LIMIT, 0, s.len(), stated);
+    if fault.number != 0 {
+        return fault.number;
+    }
+    let full = stated as usize + 4;
+    let number = walk_number(full, &s[..]);
+    if number != 0 {
+        return number;
+    }
+    if s.len() != full {
+        let cut = refusal::RESPONSE_CUT;
+        return cut.number;
+    }
+    0
+}
+
 // ---- where it stops
 
 // The walk has come to a place; a feature stands there if its four header bytes were received.
@@ -413,23 +472,6 @@ pub fn stops(limit: usize, rt: u8, sfn: Feature, s: &[u8]) -> Stop
         Walk::Refused { fault, at } => standing(s, at),
         Walk::Whole { count, end, last } => standing(s, end),
     }
-}
-
-// Where a feature's descriptor stands in a response to RT 0 from 0: behind the whole descriptors of lower features, and so where it would stand if it is not there.
-pub fn place_of(feature: Feature, s: &[u8]) -> usize
-    ensures { λ r. ⌜ r ≡ placeIn (feature .0) (now (s .entry)) ⌝ }
-{
-    let reading = read(0, Feature(0), s);
-    let end = reading.end;
-    let mut at = Header::LENGTH;
-    while at < end {
-        let number = number_at(s, at);
-        if feature.0 <= number.0 {
-            return at;
-        }
-        at = next_at(s, at);
-    }
-    at
 }
 
 // ---- a complete response, whose descriptors stand one behind the other from behind the header on
@@ -587,24 +629,84 @@ pub fn judge(s: &[u8]) -> Judged
 
 // ---- fresh or kept
 
+// Where a feature's descriptor stands, or would stand, with one more descriptor behind the place so far: behind that one, if it is of a lower feature.
+fn place_behind(feature: Feature, number: Feature, place: usize, behind: usize) -> usize
+    ensures { λ r. ⌜ r ≡ (behind if ltb (number .0) (feature .0) else place) ⌝ }
+{
+    if number.0 < feature.0 {
+        return behind;
+    }
+    place
+}
+
+// How many bytes it has there: as many as that one, if it is the feature's.
+fn size_with(feature: Feature, number: Feature, size: usize, own: usize) -> usize
+    ensures { λ r. ⌜ r ≡ (own if eqb (number .0) (feature .0) else size) ⌝ }
+{
+    if number.0 == feature.0 {
+        return own;
+    }
+    size
+}
+
+// The walk over the descriptors of a response to RT 0 from 0 that ends at end: where that of a feature stands.
+// Asks: as many bytes as 14 lets through, which has been shown before.
+fn walk_finding(feature: Feature, end: usize, s: &[u8]) -> Spot
+    requires { ⌜ (headerLength ≤ length (now s)) × (length (now s) ≤ returnLimit) ⌝ }
+    ensures { λ r. ⌜ r ≡ spotFrom (feature .0) headerLength 0 (walk (length (now (s .entry))) 0 0 end (now (s .entry)) 0 headerLength) ⌝ }
+{
+    let lengths = &s[3..];
+    let mut at = Header::LENGTH;
+    let mut lo: u32 = 0;
+    let mut place = Header::LENGTH;
+    let mut size: usize = 0;
+    while at + 4 <= s.len() {
+        match head_at(0, Feature(0), end, s, lengths, lo, at) {
+            Head::Refused(_) => {
+                return NO_SPOT;
+            }
+            Head::Stands { number, len } => {
+                let after = at + 4 + len as usize;
+                if s.len() < after {
+                    return Spot { place, size };
+                }
+                place = place_behind(feature, number, place, after);
+                size = size_with(feature, number, size, 4 + len as usize);
+                at = after;
+                let above = number.0 as u32 + 1;
+                lo = above;
+            }
+        }
+    }
+    Spot { place, size }
+}
+
+// Where the descriptor of a feature stands in a response to RT 0 from 0.
+fn spot_of(feature: Feature, s: &[u8]) -> Spot
+    ensures { λ r. ⌜ r ≡ spotIn (feature .0) (now (s .entry)) ⌝ }
+{
+    let stated = fields::get4(s, 0);
+    let fault = header_rule(Header::RETURN_LIMIT, 0, s.len(), stated);
+    if fault.number != 0 {
+        return NO_SPOT;
+    }
+    walk_finding(feature, stated as usize + 4, &s[..])
+}
+
+// Where a feature's descriptor stands in a response to RT 0 from 0: behind the whole descriptors of lower features, and so where it would stand if it is not there.
+pub fn place_of(feature: Feature, s: &[u8]) -> usize
+    ensures { λ r. ⌜ r ≡ placeIn (feature .0) (now (s .entry)) ⌝ }
+{
+    let spot = spot_of(feature, s);
+    spot.place
+}
+
 // The descriptor of a feature as a part of a response to RT 0 from 0, empty where the response is refused or does not have it whole.
 fn held_in(feature: Feature, s: &[u8]) -> &[u8]
     ensures { λ r. ⌜ HeldIn (feature .0) (s .entry) r ⌝ }
 {
-    let reading = read(0, Feature(0), s);
-    let end = reading.end;
-    let mut at = Header::LENGTH;
-    while at < end {
-        let number = number_at(s, at);
-        if number.0 == feature.0 {
-            return fields::part(s, at, 4 + length_at(s, at) as usize);
-        }
-        if number.0 > feature.0 {
-            return fields::part(s, at, 0);
-        }
-        at = next_at(s, at);
-    }
-    fields::part(s, at, 0)
+    let spot = spot_of(feature, s);
+    fields::part(s, spot.place, spot.size)
 }
 
 // The descriptor of a feature, its header bytes and body, as a part of the fresh response if whole there, else of the kept one, else empty. Both are

@@ -23,7 +23,7 @@ use Rattle.layout.specs.inner.Found.{foundOf}
 use Rattle.layout.proofs.Heads.{found-offset}
 use Rattle.layout.specs.Layout.{Sheet, features, profiles, number, lengthPlace, offsetPlace, flags, bodyLength, offset, profilesIn}
 use Rattle.sheet.specs.Check.{endBefore}
-use Rattle.responder.specs.inner.Index.{wantedEnd, skips, descOf, descBytes, piece, wholeBytes, foundBytes, going, pieces, pieceSize, foundSize, piecesSize, span, entriesSize, zeroOf, atZero, zeroBytes, zeroPart, zeroSize}
+use Rattle.responder.specs.inner.Index.{wantedEnd, skips, descOf, descBytes, piece, wholeBytes, going, pieces, pieceSize, foundSize, piecesSize, span, entriesSize, zeroOf, atZero, zeroBytes, zeroPart, zeroSize}
 
 -- ---- what goes as numbers of four bytes
 
@@ -87,15 +87,6 @@ size-entry rt s i = refl
 pub found-size : (rt : ℕ) (s : Sheet) (i : ℕ) (f : Found) → f ≡ foundOf s i → foundSize rt (f .flags .0) (f .length) ≡ pieceSize rt s i
 found-size rt s i f e = (λ j. foundSize rt (e j .flags .0) (e j .length)) ∙ size-entry rt s i
 
-module _ (rt : ℕ) (s : Sheet) (i f body len : ℕ) where
-  pub found-none : skips rt f ≡ true → foundBytes rt s i f body len ≡ []
-  unfolding foundBytes
-  found-none e = rw (e, foundBytes)
-
-  pub found-some : skips rt f ≡ false → foundBytes rt s i f body len ≡ wholeBytes s i body len
-  unfolding foundBytes
-  found-some e = rw (e, foundBytes)
-
 module _ (s : Sheet) (i body len : ℕ) where
   -- with no body the head is all
   pub whole-head : len ≡ 0 → wholeBytes s i body len ≡ headBytes (entryOf s i)
@@ -108,20 +99,26 @@ module _ (s : Sheet) (i body len : ℕ) where
   unfolding wholeBytes
   whole-body k h w v = rw (← h) (then w v)
 
--- with what the entry says of its body it is the entry's
-found-whole : (s : Sheet) (i : ℕ) → wholeBytes s i (offset s i) (bodyLength s i) ≡ descBytes s i
-unfolding wholeBytes descBytes entryOf
+-- what was found of an entry, flags, length and body, makes its piece: nothing where it is passed over, else the whole
+found-flags : (s : Sheet) (i : ℕ) → foundOf s i .flags .0 ≡ flags s i
+unfolding foundOf
+found-flags s i = refl
+
+found-whole : (s : Sheet) (i : ℕ) → wholeBytes s i (offset s i) (foundOf s i .length) ≡ descBytes s i
+unfolding wholeBytes descBytes entryOf foundOf
 found-whole s i = refl
 
-found-entry : (rt : ℕ) (s : Sheet) (i : ℕ) → foundBytes rt s i (foundOf s i .flags .0) (offset s i) (foundOf s i .length) ≡ piece rt s i
-unfolding foundBytes piece foundOf
-found-entry rt s i = λ j. elim (skips rt (flags s i)) [ true ↦ [] | false ↦ found-whole s i j ]
+module _ (rt : ℕ) (s : Sheet) (i : ℕ) (f : Found) (e : f ≡ foundOf s i) where
+  same : skips rt (flags s i) ≡ skips rt (f .flags .0)
+  same = sym (ap (λ (f : Found). skips rt (f .flags .0)) e ∙ ap (skips rt) (found-flags s i))
 
-pub found-piece : (rt : ℕ) (s : Sheet) (i : ℕ) (f : Found) (body : ℕ) → f ≡ foundOf s i → body ≡ field 4 (s .bytes) (f .place)
-    → foundBytes rt s i (f .flags .0) body (f .length) ≡ piece rt s i
-found-piece rt s i f body e h =
-    let o : body ≡ offset s i = h ∙ ap (λ (f : Found). field 4 (s .bytes) (f .place)) e ∙ found-offset s i in
-    (λ j. foundBytes rt s i (e j .flags .0) (o j) (e j .length)) ∙ found-entry rt s i
+  pub found-none : skips rt (f .flags .0) ≡ true → piece rt s i ≡ []
+  found-none h = piece-none rt s i (same ∙ h)
+
+  pub found-some : (body : ℕ) → body ≡ field 4 (s .bytes) (f .place) → skips rt (f .flags .0) ≡ false → wholeBytes s i body (f .length) ≡ piece rt s i
+  found-some body h k =
+      let o : body ≡ offset s i = h ∙ ap (λ (f : Found). field 4 (s .bytes) (f .place)) e ∙ found-offset s i in
+      (λ j. wholeBytes s i (o j) (e j .length)) ∙ found-whole s i ∙ sym (piece-some rt s i (same ∙ k))
 
 -- ---- a loop over entries, at index i from `from` on
 
@@ -135,25 +132,42 @@ module _ (rt : ℕ) (s : Sheet) (from i : ℕ) (h : from ≤ i) where
       ap (pieces rt s from) {x = i + 1 - from} {y = suc (i - from)} (omega arith)
       ∙ ap (λ (k : ℕ). pieces rt s from (i - from) ++ piece rt s k) back
 
-  pub sizes-more : piecesSize rt s from (i + 1 - from) ≡ piecesSize rt s from (i - from) + pieceSize rt s i
+  sizes-more : piecesSize rt s from (i + 1 - from) ≡ piecesSize rt s from (i - from) + pieceSize rt s i
   unfolding piecesSize
   sizes-more =
       ap (piecesSize rt s from) {x = i + 1 - from} {y = suc (i - from)} (omega arith)
       ∙ ap (λ (k : ℕ). piecesSize rt s from (i - from) + pieceSize rt s k) back
 
+sizes-start : (rt : ℕ) (s : Sheet) (from : ℕ) → piecesSize rt s from (from - from) ≡ 0
+unfolding piecesSize
+sizes-start rt s from = ap (piecesSize rt s from) {x = from - from} {y = 0} (omega arith)
+
+-- the sum of the entries passed
+abbrev pub Summed : (rt : ℕ) (s : Sheet) (from to i sum : ℕ) → Type 0
+Summed rt s from to i sum = (from ≤ i) × (i - from ≤ to - from) × (sum ≡ piecesSize rt s from (i - from)) × (sum ≤ 259 * (i - from))
+
+module _ (rt : ℕ) (s : Sheet) (from to : ℕ) where
+  pub summed-start : Summed rt s from to from 0
+  summed-start = (omega arith, omega arith, sym (sizes-start rt s from), omega arith)
+
+  module _ {i sum : ℕ} (h : Summed rt s from to i sum) where
+    pub summed-more : {x : ℕ} → i < to → x ≡ pieceSize rt s i → x < 260 → Summed rt s from to (i + 1) (sum + x)
+    summed-more l e b = (omega (arith, h .0), omega (arith, h .0, l), omega (arith, sizes-more rt s from i (h .0), h .2, e), omega (arith, h .0, h .3, b))
+
+    pub summed-end : to ≤ i → (sum ≡ piecesSize rt s from (to - from)) × (sum ≤ 259 * (to - from))
+    summed-end l =
+        let e : i - from ≡ to - from = omega (arith, h .1) in
+        (h .2 ∙ ap (piecesSize rt s from) e, omega (arith, h .3, e))
+
 pub one-on : {from i to : ℕ} → from ≤ i → i < to → (from ≤ i + 1) × (i + 1 - from ≤ to - from)
 one-on h k = (omega arith, omega arith)
 
-pub one-less : {i to : ℕ} → i < to → to - (i + 1) < to - i
-one-less h = omega arith
+pub fewer-left : {i to : ℕ} → i < to → to - (i + 1) < to - i
+fewer-left h = omega arith
 
 pub pieces-start : (rt : ℕ) (s : Sheet) (from : ℕ) → pieces rt s from (from - from) ≡ []
 unfolding pieces
 pieces-start rt s from = ap (pieces rt s from) {x = from - from} {y = 0} (omega arith)
-
-pub sizes-start : (rt : ℕ) (s : Sheet) (from : ℕ) → piecesSize rt s from (from - from) ≡ 0
-unfolding piecesSize
-sizes-start rt s from = ap (piecesSize rt s from) {x = from - from} {y = 0} (omega arith)
 
 -- a full buffer takes no more entries
 full-more : {d e : List ℕ} {at w : ℕ} (rt : ℕ) (s : Sheet) (from k j : ℕ) → Wrote d at (pieces rt s from k) w e → length e ≤ w → Wrote d at (pieces rt s from (k + j)) w e

@@ -13,9 +13,10 @@ ghost use Rattle.responder.specs.Answer.{answered};
 ghost use Rattle.responder.specs.Trusting.{trusting, trustingCommand};
 ghost use Rattle.responder.specs.Sized.{sized};
 ghost use Rattle.responder.specs.inner.Fitted.{Fitted};
-ghost use Rattle.responder.specs.inner.Index.{wantedEnd, skips, descOf, descBytes, piece, wholeBytes, foundBytes, going, pieces, pieceSize, foundSize, piecesSize, span, entriesSize, zeroOf, atZero, zeroSize, takenFrom, takenSize, planOf, fullBytes, limit};
+ghost use Rattle.responder.specs.inner.Index.{wantedEnd, skips, descOf, descBytes, piece, wholeBytes, going, pieces, pieceSize, foundSize, piecesSize, span, entriesSize, zeroOf, atZero, zeroSize, takenFrom, takenSize, planOf, fullBytes, limit};
 use command::Command;
 use layout::Layout;
+use layout::Nth;
 use lent::Made;
 use text::Feature;
 use text::Flags;
@@ -93,7 +94,7 @@ fn pieces_in(lay: Layout, s: &[u8], rt: u8, n: u16, from: u16, to: u16) -> usize
     let mut size: u32 = 0;
     let mut i = from;
     while i < to {
-        let entry = layout::find(lay, s, n, i);
+        let entry = layout::find(s, Nth { lay, n, i });
         size += found_size(rt, entry.flags, entry.length);
         i += 1;
     }
@@ -123,7 +124,7 @@ fn end_in(lay: Layout, s: &[u8], n: u16, i: u16) -> usize
     if i == 0 {
         return layout::bodies_at(s);
     }
-    let last = layout::entry_in(lay, s, n, i - 1);
+    let last = layout::entry_in(s, Nth { lay, n, i: i - 1 });
     last.offset as usize + last.length as usize
 }
 
@@ -254,22 +255,13 @@ fn put_slowly(out: &mut [u8], at: usize, lay: Layout, s: &[u8], rt: u8, i: u16) 
     put_entry(out, at, lay, s, i)
 }
 
-// The descriptor of entry i of n from where its body stands and how long that is, with no look at the room.
+// The descriptor of an entry from where its body stands and how long that is, with no look at the room.
 // Asks: an entry of a sheet that has its contents, room for the descriptor, and a sheet that has the body, which `put_next` has shown before.
-fn put_whole(
-    out: &mut [u8],
-    at: usize,
-    lay: Layout,
-    s: &[u8],
-    n: u16,
-    i: u16,
-    body: usize,
-    len: usize,
-) -> usize
-    requires { ⌜ Room (now s) n × (i < n) × (at + 4 + len ≤ length (now out)) × (body + len ≤ length (now s)) ⌝ }
-    ensures { λ r. ⌜ Wrote (now (out .entry)) at (wholeBytes (stored lay (now (s .entry))) i body len) r (now (out .exit)) ⌝ }
+fn put_whole(out: &mut [u8], at: usize, s: &[u8], nth: Nth, body: usize, len: usize) -> usize
+    requires { ⌜ Room (now s) (nth .n) × (nth .i < nth .n) × (at + 4 + len ≤ length (now out)) × (body + len ≤ length (now s)) ⌝ }
+    ensures { λ r. ⌜ Wrote (now (out .entry)) at (wholeBytes (stored (nth .lay) (now (s .entry))) (nth .i) body len) r (now (out .exit)) ⌝ }
 {
-    let behind = layout::put_head(out, at, lay, s, n, i);
+    let behind = layout::put_head(out, at, s, nth);
     if len == 0 {
         return behind;
     }
@@ -279,28 +271,6 @@ fn put_whole(
         return lent::place4(out, behind, &s[body..end]);
     }
     lent::place(out, behind, s, body, len)
-}
-
-// Asks: the same as `put_whole`.
-fn put_piece(
-    out: &mut [u8],
-    at: usize,
-    lay: Layout,
-    s: &[u8],
-    rt: u8,
-    n: u16,
-    i: u16,
-    flags: Flags,
-    body: usize,
-    len: usize,
-) -> usize
-    requires { ⌜ Room (now s) n × (i < n) × (at + 4 + len ≤ length (now out)) × (body + len ≤ length (now s)) ⌝ }
-    ensures { λ r. ⌜ Wrote (now (out .entry)) at (foundBytes rt (stored lay (now (s .entry))) i (flags .0) body len) r (now (out .exit)) ⌝ }
-{
-    if skipped(rt, flags) {
-        return at;
-    }
-    put_whole(out, at, lay, s, n, i, body, len)
 }
 
 // How far a writing of entries has come: the next entry, and where its descriptor starts.
@@ -315,13 +285,14 @@ struct Stepped {
     next: usize,
 }
 
-// Entry i of n, where the sheet has the body and the buffer room for the descriptor; else nothing.
+// An entry, where the sheet has the body and the buffer room for the descriptor, or nothing is sent of it; else nothing.
 // Asks: an entry of a sheet that has its contents, and a place inside the buffer; the walks have both.
 fn put_next(out: &mut [u8], at: usize, lay: Layout, s: &[u8], rt: u8, n: u16, i: u16) -> Stepped
     requires { ⌜ Room (now s) n × (i < n) × (at ≤ length (now out)) ⌝ }
     ensures { λ r. ⌜ Wrote (now (out .entry)) at (going (r .stops) (piece rt (stored lay (now (s .entry))) i)) (r .next) (now (out .exit)) ⌝ }
 {
-    let entry = layout::find(lay, s, n, i);
+    let nth = Nth { lay, n, i };
+    let entry = layout::find(s, nth);
     let len = entry.length as usize;
     if out.len() < at + 4 + len {
         return Stepped {
@@ -336,7 +307,13 @@ fn put_next(out: &mut [u8], at: usize, lay: Layout, s: &[u8], rt: u8, n: u16, i:
             next: at,
         };
     }
-    let next = put_piece(out, at, lay, s, rt, n, i, entry.flags, body, len);
+    if skipped(rt, entry.flags) {
+        return Stepped {
+            stops: false,
+            next: at,
+        };
+    }
+    let next = put_whole(out, at, s, nth, body, len);
     Stepped { stops: false, next }
 }
 
@@ -549,9 +526,9 @@ pub fn respond_accepted(lay: Layout, s: &[u8], command: &[u8], out: &mut [u8]) -
 pub fn respond(lay: Layout, s: &[u8], command: &[u8], out: &mut [u8]) -> Made
     ensures { λ r. ⌜ outcome r (now (out .exit)) ≡ answered (stored lay (now (s .entry))) (now (command .entry)) (now (out .entry)) ⌝ }
 {
-    let fault = sheet::check(lay, s);
-    if fault.number != 0 {
-        return Made::refused(fault);
+    let unfit = sheet::check(lay, s);
+    if unfit.number != 0 {
+        return Made::refused(unfit);
     }
     respond_accepted(lay, s, command, out)
 }

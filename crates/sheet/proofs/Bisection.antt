@@ -22,6 +22,9 @@ module _ (s : Sheet) (sfn low high : ℕ) where
   pub half-smaller : low < high → half s sfn low high .high - half s sfn low high .low < high - low
   half-smaller l = elim (decLe (suc (number s (middle low high))) sfn) [ yes h ↦ rw (half-above h) (omega arith) | no h ↦ rw (half-below (omega arith)) (omega arith) ]
 
+  half-inside : low < high → (half s sfn low high .low ≤ high) × (half s sfn low high .high ≤ high)
+  half-inside l = elim (decLe (suc (number s (middle low high))) sfn) [ yes h ↦ rw (half-above h) (omega arith, omega arith) | no h ↦ rw (half-below (omega arith)) (omega arith, omega arith) ]
+
   closing-more : (k : ℕ) → low < high → closing (suc k) s sfn low high ≡ closing k s sfn (half s sfn low high .low) (half s sfn low high .high)
   unfolding closing
   closing-more k l = rw (lt-ltb low high l, closing)
@@ -50,22 +53,26 @@ pub first-closed : (s : Sheet) (n sfn : ℕ) → closing (n - 0) s sfn 0 n ≡ f
 unfolding firstFrom
 first-closed s n sfn = ap (λ (k : ℕ). closing k s sfn 0 n) {x = n - 0} {y = n} (omega arith)
 
--- ---- the loop: what is left of the search, with turns enough for the range
+-- ---- the loop: what is left of the search, with turns enough for the range, and both ends indices
 
 pub record Turning (s : Sheet) (sfn from to low high : ℕ) : Type 0 where
   pub turns : ℕ
   pub enough : high - low ≤ turns
+  pub least : low < 65536
+  pub most : high < 65536
   pub left : closing (to - from) s sfn from to ≡ closing turns s sfn low high
 
-pub turning-start : (s : Sheet) (sfn from to : ℕ) → Turning s sfn from to from to
-turning-start s sfn from to = record { turns = to - from; enough = omega arith; left = refl }
+pub turning-start : {s : Sheet} {sfn from to : ℕ} → from < 65536 → to < 65536 → Turning s sfn from to from to
+turning-start {s} {sfn} {from} {to} l m = record { turns = to - from; enough = omega arith; least = l; most = m; left = refl }
 
 pub turning-more : {s : Sheet} {sfn from to low high : ℕ} {r : Range} → Turning s sfn from to low high → low < high → r ≡ half s sfn low high → Turning s sfn from to (r .low) (r .high)
 turning-more {s} {sfn} {from} {to} {low} {high} t l e = rw e (go (t .turns) (t .enough) (t .left))
   where
     go : (k : ℕ) → high - low ≤ k → closing (to - from) s sfn from to ≡ closing k s sfn low high → Turning s sfn from to (half s sfn low high .low) (half s sfn low high .high)
     go zero m q = absurd (omega arith)
-    go (suc k) m q = record { turns = k; enough = omega (arith, half-smaller s sfn low high l); left = q ∙ closing-more s sfn low high k l }
+    go (suc k) m q =
+        let inside = half-inside s sfn low high l in
+        record { turns = k; enough = omega (arith, half-smaller s sfn low high l); least = omega (arith, inside .0, t .most); most = omega (arith, inside .1, t .most); left = q ∙ closing-more s sfn low high k l }
 
 pub turning-end : {s : Sheet} {sfn from to low high : ℕ} → Turning s sfn from to low high → high ≤ low → low ≡ closing (to - from) s sfn from to
 turning-end {s} {sfn} {from} {to} {low} {high} t l = sym (t .left ∙ closing-done s sfn low high (t .turns) l)

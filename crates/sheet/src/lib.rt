@@ -6,6 +6,7 @@ ghost use Rattle.layout.specs.inner.Room.{Room};
 ghost use Rattle.sheet.specs.Check.{endBefore, flagsRule, entryRule, entriesVerdict, counted, verdict};
 ghost use Rattle.sheet.specs.inner.Search.{half, closing, firstFrom, nextFrom};
 use layout::Layout;
+use layout::Nth;
 use refusal::Refusal;
 use text::Feature;
 use text::Flags;
@@ -71,7 +72,7 @@ fn entries_fault(lay: Layout, s: &[u8], n: u16) -> Refusal
     let mut before = Feature(0);
     let mut end = layout::bodies_at(s);
     while i < n {
-        let e = layout::entry_in(lay, s, n, i);
+        let e = layout::entry_in(s, Nth { lay, n, i });
         let rule = entry_rule(e.number, before, e.flags, e.length, e.offset, end);
         let fault = rule.placed(i + 1);
         if fault.number != 0 {
@@ -126,19 +127,20 @@ pub fn check(lay: Layout, s: &[u8]) -> Refusal
 
 // ---- the search for an entry
 
+// Both ends are words, of which the compiler leaves branches: a processor foretells them where starts repeat or ascend, and no look waits for the one before.
 struct Range {
-    low: u16,
-    high: u16,
+    low: usize,
+    high: usize,
 }
 
 // The half of a range where the first entry numbered sfn or more is.
-// Asks: a range that is not empty; the bisection stops at an empty one.
-fn halved(lay: Layout, s: &[u8], sfn: Feature, low: u16, high: u16) -> Range
-    requires { ⌜ low < high ⌝ }
+// Asks: a range that is not empty, and indices; the bisection stops at an empty one.
+fn halved(lay: Layout, s: &[u8], sfn: Feature, low: usize, high: usize) -> Range
+    requires { ⌜ (low < high) × (high < 65536) ⌝ }
     ensures { λ r. ⌜ r ≡ half (stored lay (now (s .entry))) (sfn .0) low high ⌝ }
 {
     let middle = low + (high - low) / 2;
-    let feature = layout::feature_at(lay, s, middle);
+    let feature = layout::feature_at(lay, s, middle as u16);
     if feature.0 < sfn.0 {
         return Range {
             low: middle + 1,
@@ -155,14 +157,14 @@ fn halved(lay: Layout, s: &[u8], sfn: Feature, low: u16, high: u16) -> Range
 fn closed(lay: Layout, s: &[u8], sfn: Feature, from: u16, to: u16) -> u16
     ensures { λ r. ⌜ r ≡ closing (to - from) (stored lay (now (s .entry))) (sfn .0) from to ⌝ }
 {
-    let mut low = from;
-    let mut high = to;
+    let mut low = from as usize;
+    let mut high = to as usize;
     while low < high {
         let half = halved(lay, s, sfn, low, high);
         low = half.low;
         high = half.high;
     }
-    low
+    low as u16
 }
 
 // The first of n entries numbered sfn or more, n if there is none.

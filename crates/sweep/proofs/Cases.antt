@@ -14,7 +14,7 @@ use Rattle.text.specs.Response.{bytes, headerLength, most}
 use Rattle.text.specs.Reading.{readFault, lastNumber}
 use Rattle.refusal.proofs.First.{if-zero, orElse-none, orElse-fault, orElse-assoc, orElse-zero, unless-none, unless-fault, orElse-accepts, rule-accepts}
 use Rattle.sweep.specs.declared.Sweep.{Sweep}
-use Rattle.sweep.specs.Sweep.{step, startRule, fresh, started, cut, wholesOf, changed, takeFault, endedNow, endsSweep, leftBy, turn, taking, stepped}
+use Rattle.sweep.specs.Sweep.{step, startRule, fresh, started, cut, wholesOf, changed, roomRule, takeFault, endedNow, endsSweep, leftBy, turn, taking, stepped}
 use Rattle.sweep.specs.inner.Numbers.{closedRule}
 use Rattle.sweep.proofs.Numbers.{start-fault, start-fresh}
 
@@ -113,16 +113,6 @@ module _ (w : Sweep) (s out : List ℕ) (P : ℕ → Sweep → Type 0) where
       go (suc n) e = rw (stepped-fault w s out (λ z. omega arith), e) (mark n (endsSweep record { number = suc n; place = takeFault w s (length out) .place }))
 
 -- ---- the chain in parts: the record's own refusals come first, then the reading's, then those of the room
-
--- 28, 45, 23, 27, 24
-abbrev pub roomRule : (w : Sweep) (s : List ℕ) (room : ℕ) → Refusal
-roomRule w s room =
-    refuse 28 if cut s && ltb (length s) (most (w .allocation)) else
-    refuse 45 if changed w s else
-    refuse 23 if cut s && eqb (length (wholesOf w s)) 0 else
-    refuse 27 if cut s && eqb (lastNumber (wholesOf w s)) 65535 else
-    refuse 24 if ltb room (w .collected + length (flat bytes (wholesOf w s))) else
-    accept
 
 open-first : (a b : Bool) (z : Refusal) → ((refuse 26 if a else refuse 26 if b else accept) orElse z) ≡ (refuse 26 if a else refuse 26 if b else z)
 unfolding _if_else_

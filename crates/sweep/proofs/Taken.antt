@@ -23,9 +23,9 @@ use Rattle.reading.specs.declared.Scanned.{Scanned}
 use Rattle.reading.specs.Scan.{scanned}
 use Rattle.sweep.specs.declared.Sweep.{Sweep}
 use Rattle.sweep.specs.declared.Step.{Step}
-use Rattle.sweep.specs.Sweep.{step, cut, wholesOf, changed, takeFault, leftBy, advanced, turn, taking, stepped}
+use Rattle.sweep.specs.Sweep.{step, cut, wholesOf, changed, roomRule, takeFault, leftBy, advanced, turn, taking, stepped}
 use Rattle.sweep.specs.inner.Numbers.{closedRule, shortRule, profileRule, cutRule, spaceRule, scanRule}
-use Rattle.sweep.proofs.Cases.{stepped-fault, stepped-none, Taken, taken-facts, roomRule, closed-first, take-accepts}
+use Rattle.sweep.proofs.Cases.{stepped-fault, stepped-none, Taken, taken-facts, closed-first, take-accepts}
 
 -- ---- the rules of a scan are those of the definition
 

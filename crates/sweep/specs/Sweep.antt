@@ -51,16 +51,9 @@ wholesOf w s = walked (w .rt) (w .next .0) s .found
 unfoldable pub changed : Sweep → List ℕ → Bool
 changed w s = ltb 0 (w .commands) && not (eqb (statedProfile s) (w .profile .0))
 
--- the first refusal of a response s with any record, where the collecting buffer has `room` bytes
-unfoldable pub takeFault : (w : Sweep) (s : List ℕ) (room : ℕ) → Refusal
-takeFault w s room =
-    -- 21, 22
-    startRule (w .rt) (w .allocation) orElse
-    -- 26: it had ended, or has more than 65,535 commands
-    refuse 26 if w .ended else
-    refuse 26 if ltb 65535 (w .commands) else
-    -- the reading's
-    readFault (most (w .allocation)) (w .rt) (w .next .0) s orElse
+-- what is refused of a response s that reads well, where the collecting buffer has `room` bytes
+abbrev pub roomRule : (w : Sweep) (s : List ℕ) (room : ℕ) → Refusal
+roomRule w s room =
     -- 28: cut, of fewer than C bytes
     refuse 28 if cut s && ltb (length s) (most (w .allocation)) else
     -- 45: with commands so far, another Current Profile than the first response had
@@ -72,6 +65,19 @@ takeFault w s room =
     -- 24: no room behind what was collected
     refuse 24 if ltb room (w .collected + length (flat bytes (wholesOf w s))) else
     accept
+
+-- the first refusal of a response s with any record
+unfoldable pub takeFault : (w : Sweep) (s : List ℕ) (room : ℕ) → Refusal
+takeFault w s room =
+    -- 21, 22
+    startRule (w .rt) (w .allocation) orElse
+    -- 26: it had ended, or has more than 65,535 commands
+    refuse 26 if w .ended else
+    refuse 26 if ltb 65535 (w .commands) else
+    -- the reading's
+    readFault (most (w .allocation)) (w .rt) (w .next .0) s orElse
+    -- 28, 45, 23, 27, 24
+    roomRule w s room
 
 -- what a refusal leaves of the record: on 23 and 45 only the mark that it has ended changes, on any other nothing
 unfoldable pub endsSweep : Refusal → Bool

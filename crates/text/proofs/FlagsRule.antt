@@ -6,7 +6,7 @@ use Prim.Native.Nat.{ℕ}
 use Rattle.refusal.specs.declared.Refusal.{Refusal}
 use Rattle.refusal.specs.First.{accept, _if_else_}
 use Rattle.refusal.proofs.First.{orElse-none, orElse-zero}
-use Rattle.text.specs.Flags.{reserved, persistent, current, odd, flagsGiving}
+use Rattle.text.specs.Flags.{reserved, persistent, current, alone, odd, flagsGiving}
 use Rattle.base.proofs.Bools.{or-false}
 
 -- reserved bits 0, Persistent only with Current
@@ -46,11 +46,13 @@ module _ (a b : Refusal) (f : ℕ) where
         current-too = λ p. eqb-true _ _ (alone-too _ _ (if-no b _ i (x .1)) (eq-eqb _ _ p));
       }
 
-  pub flags-accept : Flagged f → flagsGiving a b f ≡ accept
+  -- no reserved bit, and Persistent not alone
+  pub flags-quiet : reserved f ≡ 0 → alone f ≡ false → flagsGiving a b f ≡ accept
   unfolding flagsGiving
-  flags-accept g =
-      orElse-none _ _ (none a _ (ap not (eq-eqb (reserved f) 0 (g .reserved-zero))))
-      ∙ if-accept b _ (not-alone _ _ (λ p. eq-eqb (current f) 1 (g .current-too (eqb-true (persistent f) 1 p))))
+  flags-quiet z l = orElse-none _ _ (none a _ (ap not (eq-eqb (reserved f) 0 z))) ∙ if-accept b _ l
+
+  pub flags-accept : Flagged f → flagsGiving a b f ≡ accept
+  flags-accept g = flags-quiet (g .reserved-zero) (not-alone _ _ (λ p. eq-eqb (current f) 1 (g .current-too (eqb-true (persistent f) 1 p))))
 
   -- flags that are not odd
   pub flags-even : odd f ≡ false → flagsGiving a b f ≡ accept

@@ -64,25 +64,35 @@ unfolding headerRule
 headerRule-plain limit rt received stated =
     if-plain _ _ _ (if-plain _ _ _ (if-plain _ _ _ (if-plain _ _ _ (if-plain _ _ _ (if-plain _ _ _ (if-plain _ _ _ refl))))))
 
--- what holds of every walk over s, by induction: of one that stops, and of one that finds a whole descriptor and goes on
+-- what holds of every walk over s, by induction: of one that ends, of one whose four header bytes are refused, and of one that finds a whole descriptor and goes on
+pub walk-by : (rt sfn end : ℕ) (s : List ℕ) (P : (lo at : ℕ) → Walked → Type 0)
+    → ((lo at : ℕ) → P lo at (stop accept))
+    → ((lo at : ℕ) → at + 4 ≤ length s → P lo at (stop (headFault rt sfn end s lo at)))
+    → ((lo at : ℕ) (w : Walked) → headFault rt sfn end s lo at .number ≡ 0 → at + 4 + lengthAt s at ≤ length s
+    → P (numberAt s at + 1) (at + 4 + lengthAt s at) w → P lo at (onward (descAt s at) w))
+    → (k lo at : ℕ) → P lo at (walk k rt sfn end s lo at)
+unfolding walk
+walk-by rt sfn end s P none bad more zero lo at = none lo at
+walk-by rt sfn end s P none bad more (suc k) lo at =
+    go (headFault rt sfn end s lo at .number) refl (le-or-lt (at + 4) (length s)) (le-or-lt (at + 4 + lengthAt s at) (length s))
+    (walk-by rt sfn end s P none bad more k (numberAt s at + 1) (at + 4 + lengthAt s at))
+  where
+    go : (n : ℕ) → headFault rt sfn end s lo at .number ≡ n → (at + 4 ≤ length s) ⊎ (length s < at + 4)
+        → (at + 4 + lengthAt s at ≤ length s) ⊎ (length s < at + 4 + lengthAt s at)
+        → P (numberAt s at + 1) (at + 4 + lengthAt s at) (walk k rt sfn end s (numberAt s at + 1) (at + 4 + lengthAt s at)) → P lo at (walk (suc k) rt sfn end s lo at)
+    go n e (inr few) q h = rw (walk-few k rt sfn end s lo at few) (none lo at)
+    go zero e (inl four) (inl all) h = rw (walk-step k rt sfn end s lo at four e all) (more lo at (walk k rt sfn end s (numberAt s at + 1) (at + 4 + lengthAt s at)) e all h)
+    go zero e (inl four) (inr cut) h = rw (walk-short k rt sfn end s lo at four e cut) (none lo at)
+    go (suc n) e (inl four) q h = rw (walk-bad k rt sfn end s lo at four (λ z. omega arith)) (bad lo at four)
+
+-- the same where whatever stops it, a refusal without a place, is the same to P
 pub walk-induct : (rt sfn end : ℕ) (s : List ℕ) (P : (lo at : ℕ) → Walked → Type 0)
     → ((lo at : ℕ) (r : Refusal) → r .place ≡ 0 → P lo at (stop r))
     → ((lo at : ℕ) (w : Walked) → headFault rt sfn end s lo at .number ≡ 0 → at + 4 + lengthAt s at ≤ length s
     → P (numberAt s at + 1) (at + 4 + lengthAt s at) w → P lo at (onward (descAt s at) w))
     → (k lo at : ℕ) → P lo at (walk k rt sfn end s lo at)
-unfolding walk
-walk-induct rt sfn end s P none more zero lo at = none lo at accept refl
-walk-induct rt sfn end s P none more (suc k) lo at =
-    go (headFault rt sfn end s lo at .number) refl (le-or-lt (at + 4) (length s)) (le-or-lt (at + 4 + lengthAt s at) (length s))
-    (walk-induct rt sfn end s P none more k (numberAt s at + 1) (at + 4 + lengthAt s at))
-  where
-    go : (n : ℕ) → headFault rt sfn end s lo at .number ≡ n → (at + 4 ≤ length s) ⊎ (length s < at + 4)
-        → (at + 4 + lengthAt s at ≤ length s) ⊎ (length s < at + 4 + lengthAt s at)
-        → P (numberAt s at + 1) (at + 4 + lengthAt s at) (walk k rt sfn end s (numberAt s at + 1) (at + 4 + lengthAt s at)) → P lo at (walk (suc k) rt sfn end s lo at)
-    go n e (inr few) q h = rw (walk-few k rt sfn end s lo at few) (none lo at accept refl)
-    go zero e (inl four) (inl all) h = rw (walk-step k rt sfn end s lo at four e all) (more lo at (walk k rt sfn end s (numberAt s at + 1) (at + 4 + lengthAt s at)) e all h)
-    go zero e (inl four) (inr cut) h = rw (walk-short k rt sfn end s lo at four e cut) (none lo at accept refl)
-    go (suc n) e (inl four) q h = rw (walk-bad k rt sfn end s lo at four (λ z. omega arith)) (none lo at (headFault rt sfn end s lo at) (headFault-plain rt sfn end s lo at))
+walk-induct rt sfn end s P none more =
+    walk-by rt sfn end s P (λ lo at. none lo at accept refl) (λ lo at four. none lo at (headFault rt sfn end s lo at) (headFault-plain rt sfn end s lo at)) more
 
 -- ---- a response's header
 

@@ -5,7 +5,9 @@ use std::fmt::{Debug, Write};
 
 use crate::lent::{Cell, Given, Lent, Memory};
 use crate::random::Random;
+use gcf::raw;
 use second::refusal::Refusal;
+use second::sheet::Layout;
 
 /// Longer inputs are written to a file rather than printed.
 const PRINTED_MOST: usize = 2_048;
@@ -16,10 +18,37 @@ pub struct Kind {
     pub name: &'static str,
     /// Every answer that can occur, each of which has to be seen.
     pub answers: fn() -> Vec<u64>,
-    /// The cases that are the same in every run.
-    pub fixed: fn(&mut Run),
-    /// Some made-up cases.
-    pub random: fn(&mut Run, &mut Random),
+    pub cases: Cases,
+}
+
+/// The cases that are the same in every run, and some made-up ones.
+pub enum Cases {
+    Of(fn(&mut Run), fn(&mut Run, &mut Random)),
+    /// Those of a sheet, in either layout.
+    InEachLayout(fn(&mut Run, Layout), fn(&mut Run, Layout, &mut Random)),
+}
+
+/// Both layouts.
+pub const LAYOUTS: [Layout; 2] = [Layout::Rows, Layout::Columns];
+
+impl Cases {
+    /// Tries those that are the same in every run.
+    pub fn try_fixed(&self, run: &mut Run) {
+        match self {
+            Cases::Of(fixed, _) => fixed(run),
+            Cases::InEachLayout(fixed, _) => LAYOUTS.into_iter().for_each(|layout| fixed(run, layout)),
+        }
+    }
+
+    /// Tries some made-up ones.
+    pub fn try_random(&self, run: &mut Run, made: &mut Random) {
+        match self {
+            Cases::Of(_, random) => random(run, made),
+            Cases::InEachLayout(_, random) => {
+                LAYOUTS.into_iter().for_each(|layout| random(run, layout, made))
+            }
+        }
+    }
 }
 
 /// What a call that can tell a place gives: the number and the place, both 0 where it is accepted.
@@ -32,6 +61,18 @@ pub fn told<T>(given: &Result<T, Refusal>) -> Told {
         Err(refusal) => (refusal.number, refusal.place),
     }
 }
+
+/// Has the plain side tell how many bytes it made, or the place of its refusal; gives the number and the place.
+pub fn tell_made(memory: &mut Memory, made: Result<usize, Refusal>) -> Told {
+    let told = told(&made);
+    memory.told.give(&[made.unwrap_or(0) as u64, told.1 as u64]);
+    told
+}
+
+/// One side of a call: what it answers, and does to the memory.
+pub trait Side<Answer = u64>: FnOnce(&mut Memory) -> Answer {}
+
+impl<Answer, Call: FnOnce(&mut Memory) -> Answer> Side<Answer> for Call {}
 
 /// An input of a call, with its name.
 pub enum Input<'a> {
@@ -54,25 +95,40 @@ impl Run {
     }
 
     /// Calls both sides on equal memory and compares what they answer and leave; counts and gives the plain answer.
-    pub fn compare(
-        &mut self,
-        inputs: &[Input],
-        memory: Memory,
-        proved: impl FnOnce(&mut Memory) -> u64,
-        plain: impl FnOnce(&mut Memory) -> u64,
-    ) -> u64 {
-        let answer = self.compare_uncounted(inputs, memory, proved, plain);
+    pub fn compare(&mut self, inputs: &[Input], memory: Memory, proved: impl Side, plain: impl Side) -> u64 {
+        let answer = self.uncounted(inputs, memory, proved, plain);
         self.saw(answer);
         answer
     }
 
+    /// Compares likewise what a function says of some bytes, by its number and by the first of its further results.
+    pub fn compare_said<T: raw::Told>(
+        &mut self,
+        name: &'static str,
+        bytes: &[u8],
+        proved: fn(&[u8], &mut T) -> u8,
+        plain: impl FnOnce(&[u8]) -> (u8, u64),
+    ) -> u64 {
+        let given = Given::new(bytes);
+        self.compare(
+            &[Input::Bytes(name, &given)],
+            Memory::none(),
+            |memory| u64::from(memory.told.by(|told| proved(given.proved(), told))),
+            |memory| {
+                let (number, further) = plain(given.plain());
+                memory.told.give(&[further]);
+                u64::from(number)
+            },
+        )
+    }
+
     /// Compares likewise where what is counted is not what the function returns.
-    pub fn compare_uncounted(
+    pub fn uncounted(
         &mut self,
         inputs: &[Input],
         memory: Memory,
-        proved: impl FnOnce(&mut Memory) -> u64,
-        plain: impl FnOnce(&mut Memory) -> u64,
+        proved: impl Side,
+        plain: impl Side,
     ) -> u64 {
         let mut left = memory.clone();
         let mut right = memory;
@@ -97,8 +153,8 @@ impl Run {
         &mut self,
         inputs: &[Input],
         memory: Memory,
-        proved: impl FnOnce(&mut Memory) -> u8,
-        plain: impl FnOnce(&mut Memory) -> Told,
+        proved: impl Side<u8>,
+        plain: impl Side<Told>,
     ) -> Told {
         let mut told = (0, 0);
         self.compare(
@@ -114,7 +170,7 @@ impl Run {
     }
 
     /// Calls the proved side only, where it may write anything between the guards.
-    pub fn only_returns(&mut self, inputs: &[Input], memory: Memory, proved: impl FnOnce(&mut Memory) -> u8) {
+    pub fn only_returns(&mut self, inputs: &[Input], memory: Memory, proved: impl Side<u8>) {
         if self.failure.is_some() {
             return;
         }

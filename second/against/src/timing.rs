@@ -35,6 +35,20 @@ pub struct Case<'a> {
     pub plain: Side<'a>,
 }
 
+impl<'a> Case<'a> {
+    /// A case that looks at all that is read, without a copy in pieces.
+    pub fn new(
+        name: String,
+        input: &'a [u8],
+        room: usize,
+        proved: impl FnMut(&[u8], &mut [u8]) -> usize + 'a,
+        plain: impl FnMut(&[u8], &mut [u8]) -> usize + 'a,
+    ) -> Case<'a> {
+        let (proved, plain) = (Box::new(proved), Box::new(plain));
+        Case { name, input, room, bytes: input.len(), pieces: None, proved, plain }
+    }
+}
+
 /// The times of one side.
 struct Times {
     median: f64,

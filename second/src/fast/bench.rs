@@ -1,83 +1,33 @@
 //! The bench sweep: the box answers and the driver reads, round by round, but where the box has got to is kept.
 
-use super::command::Wanted;
+use super::command::Rows;
 use super::reading::read_each;
-use super::sheet::{accept, Parts};
-use super::wire::first16;
-use crate::bench::Outcome;
+use super::sheet::accept;
+use super::wanted::{Entries, Wanted};
+use crate::bench::{Buffers, Outcome};
 use crate::command::most_bytes;
 use crate::numbers::*;
 use crate::refusal::Refusal;
 use crate::wire::Feature;
 
-/// What is still to come from a sheet.
-pub(super) trait Left {
-    /// The RT that is asked for.
-    fn rt(&self) -> u8;
-    /// The length of the response with all of it.
-    fn full_length(&self) -> usize;
-    /// Sends the first bytes of that response.
-    fn send(&self, full: usize, out: &mut [u8]);
-    /// Passes feature 0 and the entries below the next start.
-    fn pass(&mut self, next: u16);
-}
-
-/// What is still to come from a sheet in rows.
-struct Rows<'a> {
-    parts: Parts<'a>,
-    wanted: Wanted<'a>,
-}
-
-impl Left for Rows<'_> {
-    fn rt(&self) -> u8 {
-        self.wanted.rt
-    }
-
-    fn full_length(&self) -> usize {
-        self.wanted.full_length(self.parts)
-    }
-
-    fn send(&self, full: usize, out: &mut [u8]) {
-        self.wanted.send(self.parts, full, out);
-    }
-
-    fn pass(&mut self, next: u16) {
-        let passed = self.wanted.contents.chunks_exact(ENTRY_BYTES).take_while(|entry| first16(entry) < next);
-        self.wanted.contents = &self.wanted.contents[ENTRY_BYTES * passed.count()..];
-        self.wanted.with_list = false;
-    }
-}
-
 /// Sweeps the sheet; on a refusal all three buffers are set to zero.
-pub fn bench(
-    sheet: &[u8],
-    rt: u8,
-    allocation: u16,
-    response: &mut [u8],
-    collected: &mut [u8],
-    starts: &mut [u16],
-) -> Result<Outcome, Refusal> {
-    let left = accept(sheet).map(|parts| Rows { parts, wanted: Wanted::new(parts, rt, 0) });
-    sweep(left, rt, allocation, response, collected, starts)
+pub fn bench(sheet: &[u8], rt: u8, allocation: u16, buffers: Buffers) -> Result<Outcome, Refusal> {
+    sweep(accept(sheet).map(|parts| Wanted::new(Rows::of(parts), rt, 0)), allocation, buffers)
 }
 
 /// Sweeps what a sheet gives, if it is accepted; on a refusal all three buffers are set to zero.
-pub(super) fn sweep<L: Left>(
-    left: Result<L, Refusal>,
-    rt: u8,
+pub(super) fn sweep<E: Entries>(
+    wanted: Result<Wanted<E>, Refusal>,
     allocation: u16,
-    response: &mut [u8],
-    collected: &mut [u8],
-    starts: &mut [u16],
+    mut buffers: Buffers,
 ) -> Result<Outcome, Refusal> {
-    let swept = left.and_then(|left| {
-        begin(rt, allocation, response.len())?;
-        Ok(Sweep::new(left, allocation, response).run(response, collected, starts)?)
+    let swept = wanted.and_then(|wanted| {
+        let Buffers { response, collected, starts } = &mut buffers;
+        begin(wanted.rt, allocation, response.len())?;
+        Ok(Sweep::new(wanted, allocation, response).run(response, collected, starts)?)
     });
     if swept.is_err() {
-        response.fill(0);
-        collected.fill(0);
-        starts.fill(0);
+        buffers.clear();
     }
     swept
 }
@@ -97,11 +47,11 @@ fn begin(rt: u8, allocation: u16, room: usize) -> Result<(), u8> {
 }
 
 /// Where a sweep stands.
-struct Sweep<L> {
+struct Sweep<E> {
     /// The most bytes of a response.
     most: usize,
     /// What is still to come, and the length of the response with all of it.
-    left: L,
+    left: Wanted<E>,
     full: usize,
     next: u16,
     commands: usize,
@@ -110,9 +60,9 @@ struct Sweep<L> {
     dirty: usize,
 }
 
-impl<L: Left> Sweep<L> {
+impl<E: Entries> Sweep<E> {
     /// A sweep at its start.
-    fn new(left: L, allocation: u16, response: &[u8]) -> Sweep<L> {
+    fn new(left: Wanted<E>, allocation: u16, response: &[u8]) -> Sweep<E> {
         Sweep {
             most: most_bytes(allocation),
             full: left.full_length(),
@@ -150,7 +100,7 @@ impl<L: Left> Sweep<L> {
     /// The driver's half of a round: gives whether it was the last.
     fn take(&mut self, sent: &[u8], collected: &mut [u8]) -> Result<bool, u8> {
         let mut last = None;
-        let reading = read_each(self.left.rt(), Feature(self.next), sent, self.most, |header, _| {
+        let reading = read_each(self.left.rt, Feature(self.next), sent, self.most, |header, _| {
             last = Some(header.feature());
         })?;
         if !reading.complete {

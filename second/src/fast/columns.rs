@@ -1,11 +1,11 @@
 //! The same over a sheet whose contents stand in columns.
 
-use super::bench::{sweep, Left};
-use super::command::{send_descriptor, send_front};
+use super::bench::sweep;
 use super::sheet::{check_profiles, flags_are_legal, flags_refused, Parts};
+use super::wanted::{answer, send_descriptor, Entries, Wanted};
 use super::wire::{first16, first32};
-use crate::bench::Outcome;
-use crate::command::{most_bytes, Request, RT_ALL, RT_CURRENT, RT_ONE};
+use crate::bench::{Buffers, Outcome};
+use crate::command::{RT_ALL, RT_CURRENT};
 use crate::numbers::*;
 use crate::refusal::Refusal;
 
@@ -39,24 +39,6 @@ impl<'a> Columns<'a> {
             lengths: &self.lengths[from..to],
             offsets: &self.offsets[4 * from..4 * to],
         }
-    }
-
-    /// The entries from the first on whose number is the wanted one or higher.
-    fn from(self, wanted: u16) -> Columns<'a> {
-        // No entry has number 0, so the first is the one for it.
-        if wanted == 0 {
-            return self;
-        }
-        // A bisection without a branch that the wanted number decides.
-        let number = |index: usize| first16(&self.numbers[2 * index..]);
-        let (mut low, mut size) = (0, self.flags.len());
-        while size > 1 {
-            let half = size / 2;
-            low = if number(low + half) < wanted { low + half } else { low };
-            size -= half;
-        }
-        let passed = size == 1 && number(low) < wanted;
-        self.part(low + usize::from(passed), self.flags.len())
     }
 }
 
@@ -117,43 +99,44 @@ pub fn respond_checked(sheet: &[u8], command: &[u8], out: &mut [u8]) -> Result<u
     answer(columns, command, out)
 }
 
-/// Answers the command; gives the count of bytes sent.
-fn answer(columns: Columns, command: &[u8], out: &mut [u8]) -> Result<usize, u8> {
-    let request = Request::parse(command)?;
-    let wanted = Wanted::new(columns, request.rt, request.sfn.0);
-    let full = wanted.full_length();
-    let count = full.min(most_bytes(request.allocation));
-    wanted.send(full, out.get_mut(..count).ok_or(BUFFER_SHORT)?);
-    Ok(count)
-}
-
-/// What a response has behind its header.
-struct Wanted<'a> {
-    rt: u8,
-    /// Whether feature 0 is among them.
-    with_list: bool,
-    /// The entries of the others; for RT 1 only the current ones count.
-    entries: Columns<'a>,
-}
-
-impl<'a> Wanted<'a> {
-    /// What RT and SFN ask for.
-    fn new(columns: Columns<'a>, rt: u8, sfn: u16) -> Wanted<'a> {
-        let mut entries = columns.from(sfn);
-        if rt == RT_ONE {
-            let is_there = !entries.flags.is_empty() && first16(entries.numbers) == sfn;
-            entries = entries.part(0, usize::from(is_there));
-        }
-        Wanted { rt, with_list: sfn == 0, entries }
+impl Entries for Columns<'_> {
+    fn parts(&self) -> Parts<'_> {
+        self.parts
     }
 
-    /// The length of the entries' descriptors.
-    fn length_of_entries(&self) -> usize {
-        let Columns { parts, flags, lengths, offsets, .. } = self.entries;
+    fn from(self, wanted: u16) -> Self {
+        // No entry has number 0, so the first is the one for it.
+        if wanted == 0 {
+            return self;
+        }
+        // A bisection without a branch that the wanted number decides.
+        let number = |index: usize| first16(&self.numbers[2 * index..]);
+        let (mut low, mut size) = (0, self.flags.len());
+        while size > 1 {
+            let half = size / 2;
+            low = if number(low + half) < wanted { low + half } else { low };
+            size -= half;
+        }
+        let passed = size == 1 && number(low) < wanted;
+        self.part(low + usize::from(passed), self.flags.len())
+    }
+
+    fn one(self, wanted: u16) -> Self {
+        let is_there = !self.flags.is_empty() && first16(self.numbers) == wanted;
+        self.part(0, usize::from(is_there))
+    }
+
+    fn behind(self, next: u16) -> Self {
+        let passed = self.numbers.chunks_exact(2).take_while(|number| first16(number) < next);
+        self.part(passed.count(), self.flags.len())
+    }
+
+    fn length(&self, rt: u8) -> usize {
+        let Columns { parts, flags, lengths, offsets, .. } = *self;
         if flags.is_empty() {
             return 0;
         }
-        match self.rt {
+        match rt {
             // All bodies from the first on stand in a row up to the sheet's end.
             RT_ALL => {
                 let bodies = parts.bytes.len().saturating_sub(first32(offsets) as usize);
@@ -165,25 +148,12 @@ impl<'a> Wanted<'a> {
             _ => DESCRIPTOR_BYTES + usize::from(lengths[0]),
         }
     }
-}
 
-impl Left for Wanted<'_> {
-    fn rt(&self) -> u8 {
-        self.rt
-    }
-
-    fn full_length(&self) -> usize {
-        let list = if self.with_list { DESCRIPTOR_BYTES + self.entries.parts.profiles.len() } else { 0 };
-        HEADER_BYTES + list + self.length_of_entries()
-    }
-
-    fn send(&self, full: usize, out: &mut [u8]) {
-        let Columns { parts, numbers, flags, lengths, offsets } = self.entries;
-        let at = send_front(parts, self.with_list, full, out);
-        let mut out = &mut out[at..];
+    fn send(&self, rt: u8, mut out: &mut [u8]) {
+        let Columns { parts, numbers, flags, lengths, offsets } = *self;
         let heads = numbers.chunks_exact(2).zip(flags).zip(lengths);
         for (((number, &flags), &length), offset) in heads.zip(offsets.chunks_exact(4)) {
-            if self.rt == RT_CURRENT && flags & CURRENT == 0 {
+            if rt == RT_CURRENT && flags & CURRENT == 0 {
                 continue;
             }
             let from = first32(offset) as usize;
@@ -197,12 +167,6 @@ impl Left for Wanted<'_> {
             };
         }
     }
-
-    fn pass(&mut self, next: u16) {
-        let passed = self.entries.numbers.chunks_exact(2).take_while(|number| first16(number) < next);
-        self.entries = self.entries.part(passed.count(), self.entries.flags.len());
-        self.with_list = false;
-    }
 }
 
 /// The length of an entry's descriptor; 0 where it isn't current.
@@ -214,14 +178,6 @@ fn length_if_current(flags: u8, length: u8) -> usize {
 }
 
 /// Sweeps the sheet; on a refusal all three buffers are set to zero.
-pub fn bench(
-    sheet: &[u8],
-    rt: u8,
-    allocation: u16,
-    response: &mut [u8],
-    collected: &mut [u8],
-    starts: &mut [u16],
-) -> Result<Outcome, Refusal> {
-    let left = accept(sheet).map(|columns| Wanted::new(columns, rt, 0));
-    sweep(left, rt, allocation, response, collected, starts)
+pub fn bench(sheet: &[u8], rt: u8, allocation: u16, buffers: Buffers) -> Result<Outcome, Refusal> {
+    sweep(accept(sheet).map(|columns| Wanted::new(columns, rt, 0)), allocation, buffers)
 }

@@ -4,38 +4,29 @@
 use super::columns;
 use super::sheet::{self, Parts};
 use super::wire::first16;
+use crate::load::Medium;
 use crate::numbers::*;
 use crate::refusal::Refusal;
 use crate::wire::{Feature, Profile};
 
-/// Writes the sheet with a medium that makes these features and these profiles current; gives its length.
-pub fn load(
-    sheet: &[u8],
-    features: &[Feature],
-    profiles: &[Profile],
-    out: &mut [u8],
-) -> Result<usize, Refusal> {
+/// Writes the sheet with a medium in it; gives its length.
+pub fn load(sheet: &[u8], medium: Medium, out: &mut [u8]) -> Result<usize, Refusal> {
     let parts = sheet::accept(sheet)?;
     let numbers = || parts.contents.chunks_exact(ENTRY_BYTES).map(first16);
-    let room = accept(parts, numbers(), features, profiles, out)?;
+    let room = accept(parts, numbers(), medium, out)?;
     let contents = &mut room[SHEET_HEADER_BYTES..SHEET_HEADER_BYTES + parts.contents.len()];
     let flags = contents.chunks_exact_mut(ENTRY_BYTES).map(|entry| &mut entry[2]);
-    set(flags, numbers(), features);
+    set(flags, numbers(), medium.features);
     Ok(sheet.len())
 }
 
 /// The same of a sheet in columns.
-pub fn load_columns(
-    sheet: &[u8],
-    features: &[Feature],
-    profiles: &[Profile],
-    out: &mut [u8],
-) -> Result<usize, Refusal> {
+pub fn load_columns(sheet: &[u8], medium: Medium, out: &mut [u8]) -> Result<usize, Refusal> {
     let columns = columns::accept(sheet)?;
     let numbers = || columns.numbers.chunks_exact(2).map(first16);
-    let room = accept(columns.parts, numbers(), features, profiles, out)?;
+    let room = accept(columns.parts, numbers(), medium, out)?;
     let at = SHEET_HEADER_BYTES + columns.numbers.len();
-    set(room[at..at + columns.flags.len()].iter_mut(), numbers(), features);
+    set(room[at..at + columns.flags.len()].iter_mut(), numbers(), medium.features);
     Ok(sheet.len())
 }
 
@@ -43,10 +34,10 @@ pub fn load_columns(
 fn accept<'a>(
     parts: Parts,
     numbers: impl Iterator<Item = u16>,
-    features: &[Feature],
-    profiles: &[Profile],
+    medium: Medium,
     out: &'a mut [u8],
 ) -> Result<&'a mut [u8], Refusal> {
+    let Medium { features, profiles } = medium;
     if !ascends(features) || !ascends(profiles) {
         return Err(LIST_ORDER.into());
     }

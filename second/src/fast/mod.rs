@@ -19,4 +19,5 @@ pub mod reading;
 pub mod rom;
 pub mod sheet;
 pub mod sweep;
+mod wanted;
 mod wire;

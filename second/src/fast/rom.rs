@@ -1,8 +1,8 @@
 //! The box that holds an image: one walk to the first wanted descriptor, and what stands together copied in one go.
 
 use super::import::accept;
-use super::wire::{first16, first32, Header};
-use crate::command::{most_bytes, RT_ALL, RT_CURRENT, RT_RESERVED};
+use super::wire::{first32, Header};
+use crate::command::{most_bytes, Request, RT_ALL, RT_CURRENT};
 use crate::numbers::*;
 use crate::refusal::Refusal;
 
@@ -20,26 +20,17 @@ pub fn respond(image: &[u8], command: &[u8], out: &mut [u8]) -> Result<usize, Re
 
 /// Answers the command from an image accepted before; gives the count of bytes sent.
 pub fn respond_checked(image: &[u8], command: &[u8], out: &mut [u8]) -> Result<usize, u8> {
-    if !matches!(command.len(), COMMAND_BYTES | PACKET_BYTES) {
-        return Err(COMMAND_LENGTH);
-    }
-    if command[0] != OPCODE {
-        return Err(COMMAND_OPCODE);
-    }
-    let rt = command[1] & 3;
-    if rt == RT_RESERVED {
-        return Err(COMMAND_RT);
-    }
+    let Request { rt, sfn, allocation } = Request::parse(command)?;
     let (head, behind) = match image.get(..HEADER_BYTES) {
-        Some(head) => (head, from(&image[HEADER_BYTES..], first16(&command[2..]))),
+        Some(head) => (head, from(&image[HEADER_BYTES..], sfn.0)),
         None => return Err(RECEIVED_LENGTH),
     };
     let size = match rt {
         RT_ALL => behind.len(),
         RT_CURRENT => size_of_currents(behind),
-        _ => size_of_one(behind, first16(&command[2..])),
+        _ => size_of_one(behind, sfn.0),
     };
-    let count = most_bytes(first16(&command[7..])).min(HEADER_BYTES + size);
+    let count = most_bytes(allocation).min(HEADER_BYTES + size);
     let out = out.get_mut(..count).ok_or(BUFFER_SHORT)?;
     let passed = image.len() - HEADER_BYTES - size;
     let mut header = [0; HEADER_BYTES];

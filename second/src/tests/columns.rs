@@ -1,7 +1,7 @@
 //! A sheet in columns: the worked example, both conversions, and the same refusals.
 
-use super::cross::make_sheet;
-use super::{told, Numbers, E, E_COLUMNS, E_FULL, FILL};
+use super::cross::each_sheet;
+use super::{told, E, E_COLUMNS, E_FULL, FILL};
 use crate::command::respond;
 use crate::convert::{convert, rearranged};
 use crate::numbers::*;
@@ -62,16 +62,13 @@ fn refusals_and_places() {
 
 #[test]
 fn made_up_sheets_come_back() {
-    let mut numbers = Numbers(7);
-    for _ in 0..500 {
-        let rows = make_sheet(&mut numbers, 40);
-        let meaning = Sheet::accept(Rows, &rows).unwrap().meaning();
+    each_sheet(7, 500, 40, |_, rows, meaning| {
         let mut columns = vec![FILL; rows.len()];
-        assert_eq!(convert(Columns, Rows, &rows, &mut columns), Ok(rows.len()));
+        assert_eq!(convert(Columns, Rows, rows, &mut columns), Ok(rows.len()));
         assert_eq!(build_in(Columns, &meaning.profiles, &meaning.descriptors).unwrap(), columns);
         assert_eq!(Sheet::accept(Columns, &columns).unwrap().meaning(), meaning);
         let mut back = vec![FILL; rows.len()];
         assert_eq!(convert(Rows, Columns, &columns, &mut back), Ok(rows.len()));
         assert_eq!(back, rows);
-    }
+    });
 }

@@ -1,7 +1,7 @@
 //! The fast ways against slow ones, over many made-up inputs.
 
 use super::{ask, told, Numbers, E_FULL, FILL};
-use crate::bench::{bench, Outcome};
+use crate::bench::{bench, Buffers, Outcome};
 use crate::checks::{check_descriptors, check_profile};
 use crate::find::find;
 use crate::lister::list;
@@ -65,21 +65,32 @@ pub(super) fn make_sheet(numbers: &mut Numbers, most: u64) -> Vec<u8> {
     build(&profiles, &descriptors).unwrap()
 }
 
+/// Sees so many made-up legal sheets, each with what it says.
+pub(super) fn each_sheet(
+    seed: u64,
+    count: usize,
+    most: u64,
+    mut see: impl FnMut(&mut Numbers, &[u8], Meaning),
+) {
+    let mut numbers = Numbers(seed);
+    for _ in 0..count {
+        let sheet = make_sheet(&mut numbers, most);
+        see(&mut numbers, &sheet, Sheet::accept(Rows, &sheet).unwrap().meaning());
+    }
+}
+
 #[test]
 fn responses() {
-    let mut numbers = Numbers(0x1234_5678_9ABC_DEF1);
-    for _ in 0..300 {
-        let sheet = make_sheet(&mut numbers, 24);
-        let meaning = Sheet::accept(Rows, &sheet).unwrap().meaning();
+    each_sheet(0x1234_5678_9ABC_DEF1, 300, 24, |numbers, sheet, meaning| {
         assert_eq!(build(&meaning.profiles, &meaning.descriptors).unwrap(), sheet);
         for rt in 0..3 {
             for _ in 0..10 {
                 let sfn = numbers.below(70) as u16;
                 let allocation = numbers.below(300) as u16;
                 let slow = slow_cut(&meaning, rt, sfn, allocation);
-                assert_eq!(ask(&sheet, rt, sfn, allocation), (ACCEPTED, slow));
+                assert_eq!(ask(sheet, rt, sfn, allocation), (ACCEPTED, slow));
             }
-            let whole = ask(&sheet, rt, 0, 65_535).1;
+            let whole = ask(sheet, rt, 0, 65_535).1;
             assert_eq!(whole, slow_response(&meaning, rt, 0));
             for length in 8..=whole.len() {
                 let reading = read(rt, Feature(0), &whole[..length], Some(length));
@@ -88,7 +99,7 @@ fn responses() {
                 assert_eq!(reading.data_length as usize + 4, whole.len());
             }
         }
-    }
+    });
 }
 
 /// The bench sweep, done the slow way with one whole response a round.
@@ -112,22 +123,20 @@ fn slow_bench(meaning: &Meaning, rt: u8, allocation: u16) -> (u8, Vec<u16>, Vec<
 
 #[test]
 fn bench_sweeps() {
-    let mut numbers = Numbers(0x0F0F_1234_0000_0001);
     let mut accepted = 0;
-    for _ in 0..400 {
-        let sheet = make_sheet(&mut numbers, 40);
-        let meaning = Sheet::accept(Rows, &sheet).unwrap().meaning();
+    each_sheet(0x0F0F_1234_0000_0001, 400, 40, |numbers, sheet, meaning| {
         let rt = numbers.below(2) as u8;
         let allocation = 8 + numbers.below(400) as u16;
         let mut response = vec![FILL; usize::from(allocation) + 5];
         let mut collected = vec![FILL; 65_536];
         let mut starts = vec![0xA5A5; 99];
-        let outcome = bench(Rows, &sheet, rt, allocation, &mut response, &mut collected, &mut starts);
+        let outcome =
+            bench(Rows, sheet, rt, allocation, Buffers::new(&mut response, &mut collected, &mut starts));
         let (number, slow_starts, slow_collected, slow_last) = slow_bench(&meaning, rt, allocation);
         let (commands, bytes) = (slow_starts.len(), slow_collected.len());
         if number != ACCEPTED {
             assert_eq!(outcome, Err(number.into()));
-            continue;
+            return;
         }
         assert_eq!(outcome, Ok(Outcome { commands, collected: bytes }));
         accepted += 1;
@@ -138,7 +147,7 @@ fn bench_sweeps() {
         assert!(collected[bytes..].iter().all(|&byte| byte == FILL));
         assert_eq!(response[..slow_last.len()], slow_last);
         assert!(response[slow_last.len()..].iter().all(|&byte| byte == 0));
-    }
+    });
     assert!(accepted > 100);
 }
 
@@ -151,11 +160,11 @@ fn a_sweep_of_every_feature_number() {
     let mut collected = vec![0; 4 * 65_536];
     let mut starts = vec![0; 65_536];
     for rt in 0..2 {
-        let outcome = bench(Rows, &sheet, rt, 12, &mut response, &mut collected, &mut starts);
+        let outcome = bench(Rows, &sheet, rt, 12, Buffers::new(&mut response, &mut collected, &mut starts));
         assert_eq!(outcome, Ok(Outcome { commands: 65_536, collected: 262_144 }));
         assert!(starts.iter().enumerate().all(|(index, &start)| index == usize::from(start)));
         assert_eq!(
-            bench(Rows, &sheet, rt, 12, &mut response, &mut collected, &mut starts[..65_535]),
+            bench(Rows, &sheet, rt, 12, Buffers::new(&mut response, &mut collected, &mut starts[..65_535])),
             Err(STARTS_FULL.into())
         );
     }

@@ -4,14 +4,14 @@ use std::collections::BTreeSet;
 
 use super::cross::make_sheet;
 use super::{ask, command, response, told, Numbers, E, E_FULL, FILL};
+use crate::bench::{bench, Buffers, Outcome};
 use crate::convert::rearranged;
+use crate::refusal::Refusal;
 use crate::sheet::Layout::{Columns, Rows};
 use crate::sheet::{build, ListedProfile, Sheet};
 use crate::sweep::Record;
 use crate::wire::{Descriptor, Feature, Profile};
-use crate::{
-    bench, checks, command as plain_command, convert, fast, find, import, lister, reading, rom, sheet,
-};
+use crate::{checks, command as plain_command, convert, fast, find, import, lister, reading, rom, sheet};
 
 /// The numbers that a function answered with; a test sees that none is left out.
 #[derive(Default)]
@@ -71,20 +71,18 @@ type Rooms = [usize; 3];
 /// Both bench sweeps.
 fn same_sweep(seen: &mut Seen, bytes: &[u8], rt: u8, allocation: u16, rooms: Rooms) {
     let [response, collected, starts] = rooms;
-    let mut plain = (vec![FILL; response], vec![FILL; collected], vec![0xA5A5; starts]);
-    let mut fast = plain.clone();
-    let outcome = bench::bench(Rows, bytes, rt, allocation, &mut plain.0, &mut plain.1, &mut plain.2);
-    let other = fast::bench::bench(bytes, rt, allocation, &mut fast.0, &mut fast.1, &mut fast.2);
-    seen.same(told(outcome).0, outcome, other);
-    assert!(plain == fast);
+    // What a sweep gives, and what it leaves in its buffers.
+    let left = |sweep: &dyn Fn(Buffers) -> Result<Outcome, Refusal>| {
+        let mut lent = (vec![FILL; response], vec![FILL; collected], vec![0xA5A5; starts]);
+        (sweep(Buffers::new(&mut lent.0, &mut lent.1, &mut lent.2)), lent)
+    };
     let columns = rearranged(Columns, Rows, bytes);
-    let mut lent = (vec![FILL; response], vec![FILL; collected], vec![0xA5A5; starts]);
-    let mut fast = lent.clone();
-    let other = bench::bench(Columns, &columns, rt, allocation, &mut lent.0, &mut lent.1, &mut lent.2);
-    assert_eq!(other, outcome);
-    let other = fast::columns::bench(&columns, rt, allocation, &mut fast.0, &mut fast.1, &mut fast.2);
-    assert_eq!(other, outcome);
-    assert!(plain == lent && plain == fast);
+    let plain = left(&|buffers| bench(Rows, bytes, rt, allocation, buffers));
+    let fast = left(&|buffers| fast::bench::bench(bytes, rt, allocation, buffers));
+    seen.same(told(plain.0).0, plain.0, fast.0);
+    assert!(plain == fast);
+    assert!(plain == left(&|buffers| bench(Columns, &columns, rt, allocation, buffers)));
+    assert!(plain == left(&|buffers| fast::columns::bench(&columns, rt, allocation, buffers)));
 }
 
 /// Both readings.
@@ -268,11 +266,18 @@ fn each_ruled(see: &mut dyn FnMut(&[u8])) {
     }
 }
 
-/// Has some commands in a packet, with any pads.
-fn pad(numbers: &mut Numbers, command: &mut Vec<u8>) {
+/// A made-up command, some of them in a packet, with any pads, and some damaged; and the room for its response.
+fn made_up_command(numbers: &mut Numbers) -> (Vec<u8>, usize) {
+    let (rt, sfn) = (numbers.below(3) as u8, numbers.below(70) as u16);
+    let allocation = [numbers.below(300) as u16, 65_535][numbers.below(2) as usize];
+    let mut command = command(rt, [0, sfn][numbers.below(2) as usize], allocation).to_vec();
     if numbers.below(2) == 0 {
         command.extend([numbers.below(256) as u8, numbers.below(256) as u8]);
     }
+    if numbers.below(4) == 0 {
+        damage(numbers, &mut command);
+    }
+    (command, [numbers.below(300) as usize, 8_000][numbers.below(2) as usize])
 }
 
 #[test]
@@ -289,14 +294,7 @@ fn sheets_and_commands() {
         let room = (bytes.len() + numbers.below(9) as usize).saturating_sub(numbers.below(3) as usize);
         same_conversion(&mut converted, &bytes, room);
         for _ in 0..4 {
-            let (rt, sfn) = (numbers.below(3) as u8, numbers.below(70) as u16);
-            let allocation = [numbers.below(300) as u16, 65_535][numbers.below(2) as usize];
-            let mut command = command(rt, [0, sfn][numbers.below(2) as usize], allocation).to_vec();
-            pad(&mut numbers, &mut command);
-            if numbers.below(4) == 0 {
-                damage(&mut numbers, &mut command);
-            }
-            let room = [numbers.below(300) as usize, 8_000][numbers.below(2) as usize];
+            let (command, room) = made_up_command(&mut numbers);
             same_answer(&mut answered, &bytes, &command, room);
         }
     }
@@ -336,14 +334,7 @@ fn images() {
             damage(&mut numbers, &mut image);
         }
         for _ in 0..4 {
-            let (rt, sfn) = (numbers.below(3) as u8, numbers.below(70) as u16);
-            let allocation = [numbers.below(300) as u16, 65_535][numbers.below(2) as usize];
-            let mut command = command(rt, [0, sfn][numbers.below(2) as usize], allocation).to_vec();
-            pad(&mut numbers, &mut command);
-            if numbers.below(4) == 0 {
-                damage(&mut numbers, &mut command);
-            }
-            let room = [numbers.below(300) as usize, 8_000][numbers.below(2) as usize];
+            let (command, room) = made_up_command(&mut numbers);
             same_image(&mut seen, &image, &command, room);
         }
     }
@@ -436,15 +427,7 @@ fn searches_listings_and_takings() {
         same_take(&mut taken, record, &received, room);
     }
     // The last feature there is, and something cut behind it.
-    let last = Record {
-        rt: 0,
-        allocation: 12,
-        next: Feature(0),
-        commands: 0,
-        collected: 0,
-        ended: false,
-        profile: Profile(0),
-    };
+    let last = Record { allocation: 12, ended: false, ..Record::refused() };
     same_take(&mut taken, last, &[0, 0, 0, 12, 0, 0, 0, 0, 0xFF, 0xFF, 1, 0], 4);
     found.are([0, 1]);
     listed.are([0, 1]);

@@ -1,7 +1,7 @@
 //! The bench sweep's command count against every list of starts.
 
 use super::{told, E};
-use crate::bench::bench;
+use crate::bench::{bench, Buffers};
 use crate::fewest::fewest;
 use crate::numbers::NOTHING_WHOLE;
 use crate::sheet::Layout::Rows;
@@ -12,7 +12,8 @@ use crate::wire::{Descriptor, Feature, Profile};
 fn swept(sheet: &[u8], rt: u8, allocation: u16) -> (u8, usize, Vec<u16>) {
     let mut response = vec![0; 65_534];
     let (mut collected, mut starts) = (vec![0; 4_096], vec![0; 64]);
-    let outcome = bench(Rows, sheet, rt, allocation, &mut response, &mut collected, &mut starts);
+    let outcome =
+        bench(Rows, sheet, rt, allocation, Buffers::new(&mut response, &mut collected, &mut starts));
     let commands = outcome.map_or(0, |done| done.commands);
     starts.truncate(commands);
     (told(outcome).0, commands, starts)

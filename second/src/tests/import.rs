@@ -1,11 +1,12 @@
 //! Captured responses that become sheets, and the ones that are refused.
 
 use super::cross::make_sheet;
-use super::{ask, response, Numbers, E, E_FULL, FILL};
+use super::{ask, changed, response, Change, Numbers, E, E_FULL, FILL, UNREADABLE};
 use crate::import::import;
 use crate::numbers::*;
+use crate::refusal::Refusal;
 use crate::sheet::Layout::Rows;
-use crate::sheet::{build, check, ListedProfile};
+use crate::sheet::{build, check, ListedProfile, Meaning};
 use crate::wire::{Descriptor, Feature, Profile};
 
 /// The sheet that a capture gives, with just enough room and with more; sees that the rest of the room is unchanged.
@@ -30,12 +31,8 @@ fn refused(capture: &[u8], room: usize) -> (u8, usize) {
 }
 
 /// The number and the place with which E's response is refused after some bytes are changed.
-fn with(changes: &[(usize, u8)]) -> (u8, usize) {
-    let mut capture = E_FULL;
-    for &(at, value) in changes {
-        capture[at] = value;
-    }
-    refused(&capture, 52)
+fn with(changes: &[Change]) -> (u8, usize) {
+    refused(&changed(&E_FULL, changes), 52)
 }
 
 #[test]
@@ -58,16 +55,12 @@ fn readings() {
     let mut long = E_FULL.to_vec();
     long.resize(65_535, 0);
     assert_eq!(refused(&long, 52), (RECEIVED_LENGTH, 0));
-    assert_eq!(with(&[(3, 0)]), (DATA_LENGTH, 0));
-    assert_eq!(with(&[(3, 0x29)]), (DATA_LENGTH, 0));
-    assert_eq!(with(&[(3, 0x24)]), (RECEIVED_TOO_MUCH, 0));
-    assert_eq!(with(&[(11, 9)]), (ADDITIONAL_LENGTH, 0));
-    assert_eq!(with(&[(29, 1)]), (RESPONSE_ORDER, 0));
-    assert_eq!(with(&[(43, 4)]), (BEYOND_DATA, 0));
+    for (number, change) in UNREADABLE {
+        assert_eq!(with(&[change]), (number, 0));
+    }
     for cut in 8..44 {
         assert_eq!(refused(&E_FULL[..cut], 52), (CHECK_CUT, 0));
     }
-    assert_eq!(with(&[(3, 0x2C)]), (CHECK_CUT, 0));
 }
 
 #[test]
@@ -85,12 +78,9 @@ fn what_no_sheet_sends() {
     assert_eq!(with(&[(7, 0x10), (18, 1)]), (CAPTURE_BAD, 0));
     assert_eq!(with(&[(7, 0)]), (CAPTURE_BAD, 0));
     assert_eq!(with(&[(14, 0)]), (CAPTURE_BAD, 0));
-    let mut second = E_FULL;
-    (second[7], second[14], second[18]) = (0x10, 0, 1);
-    assert_eq!(check(Rows, &imported(&second)), Ok(()));
-    let mut none = E_FULL;
-    (none[7], none[14]) = (0, 0);
-    assert_eq!(check(Rows, &imported(&none)), Ok(()));
+    for changes in [&[(7, 0x10), (14, 0), (18, 1)][..], &[(7, 0), (14, 0)]] {
+        assert_eq!(check(Rows, &imported(&changed(&E_FULL, changes))), Ok(()));
+    }
     // CurrentP is one bit of its byte; the others are the sheet's trouble.
     assert_eq!(with(&[(14, 2)]), (CAPTURE_BAD, 0));
     assert_eq!(with(&[(14, 2), (7, 0)]), (PROFILE_BAD, 1));
@@ -122,7 +112,7 @@ fn profiles_and_flags_of_the_sheet() {
 
 #[test]
 fn the_earlier_fault_decides() {
-    let faults: [((u8, usize), &[(usize, u8)]); 15] = [
+    let faults: [((u8, usize), &[Change]); 15] = [
         ((DATA_LENGTH, 0), &[(0, 1), (3, 1)]),
         ((RECEIVED_TOO_MUCH, 0), &[(0, 0), (3, 4)]),
         ((ADDITIONAL_LENGTH, 0), &[(23, 5)]),
@@ -141,10 +131,7 @@ fn the_earlier_fault_decides() {
     ];
     for (at, (wanted, earlier)) in faults.iter().enumerate() {
         for (_, later) in &faults[at..] {
-            let mut capture = E_FULL;
-            for &(at, value) in later.iter().chain(*earlier) {
-                capture[at] = value;
-            }
+            let capture = changed(&changed(&E_FULL, later), earlier);
             assert_eq!(refused(&capture, 52), *wanted);
             assert_eq!(refused(&capture, 51), *wanted);
             assert_eq!(refused(&capture, 0), *wanted);
@@ -172,29 +159,38 @@ fn versions_are_kept() {
     }
 }
 
+/// Sees two sheets, with what they say, whose responses are as long as one that is whole can be: 60 profiles and 255 features of 252 bytes, and 16,380 features
+/// without a body.
+pub(super) fn each_longest(mut see: impl FnMut(Meaning, &[u8], &[u8])) {
+    let profile = |number| ListedProfile { number: Profile(number), current: number > 58 };
+    let descriptor = |number: u16, step: u16, body| {
+        let flags = [3, 1, 0, 0, 1][usize::from(number) % 5];
+        Descriptor { feature: Feature(number * step), flags, body }
+    };
+    let long = (1..=255).map(|number| descriptor(number, 256, &[0x5A; 252][..]));
+    let empty = (1..=16_380).map(|number| descriptor(number, 4, &[]));
+    for meaning in [
+        Meaning { profiles: (1..=60).map(profile).collect(), descriptors: long.collect() },
+        Meaning { profiles: Vec::new(), descriptors: empty.collect() },
+    ] {
+        let sheet = build(&meaning.profiles, &meaning.descriptors).unwrap();
+        let response = ask(&sheet, 0, 0, 65_535).1;
+        assert_eq!(response.len(), 65_532);
+        see(meaning, &sheet, &response);
+    }
+}
+
 #[test]
 fn the_longest_captures() {
-    // 60 profiles and 255 features of 252 bytes fill 65,532 bytes; so do 16,380 features without a body.
-    let profiles: Vec<ListedProfile> =
-        (1..=60).map(|number| ListedProfile { number: Profile(number), current: number > 58 }).collect();
-    let body = [0x5A; 252];
-    let long: Vec<Descriptor> = (1..=255)
-        .map(|number| Descriptor { feature: Feature(number * 256), flags: 3, body: &body })
-        .collect();
-    let empty: Vec<Descriptor> =
-        (1..=16_380).map(|number| Descriptor { feature: Feature(number * 4), flags: 0, body: &[] }).collect();
-    for (profiles, descriptors) in [(&profiles[..], &long), (&[], &empty)] {
-        let sheet = build(profiles, descriptors).unwrap();
-        let capture = ask(&sheet, 0, 0, 65_535).1;
-        assert_eq!(capture.len(), 65_532);
-        assert_eq!(imported(&capture), sheet);
+    each_longest(|meaning, sheet, capture| {
+        assert_eq!(imported(capture), sheet);
         assert_eq!(refused(&capture[..65_531], sheet.len()), (CHECK_CUT, 0));
         // With one feature more the response is cut at 65,534 bytes.
-        let mut more = descriptors.clone();
+        let Meaning { profiles, descriptors: mut more } = meaning;
         more.push(Descriptor { feature: Feature(65_535), flags: 0, body: &[] });
-        let cut = ask(&build(profiles, &more).unwrap(), 0, 0, 65_535).1;
+        let cut = ask(&build(&profiles, &more).unwrap(), 0, 0, 65_535).1;
         assert_eq!((cut.len(), refused(&cut, 200_000)), (65_534, (CHECK_CUT, 0)));
-    }
+    });
 }
 
 #[test]
@@ -206,30 +202,40 @@ fn made_up_sheets_come_back() {
     }
 }
 
-#[test]
-fn damaged_captures_are_refused_or_come_back() {
-    let mut numbers = Numbers(0xFEDC_BA98_0000_0003);
+/// Sees so many responses of made-up sheets with up to three bytes changed, each with what import gives and leaves in its buffer.
+pub(super) fn each_damaged(
+    seed: u64,
+    count: usize,
+    mut see: impl FnMut(&mut Numbers, &[u8], Result<usize, Refusal>, &[u8]),
+) {
+    let mut numbers = Numbers(seed);
     let mut accepted = 0;
-    for _ in 0..30_000 {
+    for _ in 0..count {
         let mut capture = ask(&make_sheet(&mut numbers, 4), 0, 0, 2_000).1;
         for _ in 0..1 + numbers.below(3) {
             let at = numbers.below(capture.len() as u64) as usize;
             capture[at] = [0, 1, numbers.next() as u8][numbers.below(3) as usize];
         }
         let mut sheet = vec![FILL; 4 * capture.len()];
-        match import(&capture, &mut sheet) {
-            Err(refusal) => {
-                let of_sheet = [3, 5, 44].contains(&refusal.number);
-                assert!(of_sheet || [15, 16, 17, 18, 20, 29, 41].contains(&refusal.number));
-                assert_eq!(of_sheet, refusal.place > 0);
-                assert!(sheet.iter().all(|&byte| byte == FILL));
-            }
-            Ok(length) => {
-                accepted += 1;
-                assert_eq!(check(Rows, &sheet[..length]), Ok(()));
-                assert_eq!(ask(&sheet[..length], 0, 0, 2_000), (ACCEPTED, capture));
-            }
-        }
+        let made = import(&capture, &mut sheet);
+        accepted += usize::from(made.is_ok());
+        see(&mut numbers, &capture, made, &sheet);
     }
     assert!(accepted > 1_000);
+}
+
+#[test]
+fn damaged_captures_are_refused_or_come_back() {
+    each_damaged(0xFEDC_BA98_0000_0003, 30_000, |_, capture, made, sheet| match made {
+        Err(refusal) => {
+            let of_sheet = [3, 5, 44].contains(&refusal.number);
+            assert!(of_sheet || [15, 16, 17, 18, 20, 29, 41].contains(&refusal.number));
+            assert_eq!(of_sheet, refusal.place > 0);
+            assert!(sheet.iter().all(|&byte| byte == FILL));
+        }
+        Ok(length) => {
+            assert_eq!(check(Rows, &sheet[..length]), Ok(()));
+            assert_eq!(ask(&sheet[..length], 0, 0, 2_000), (ACCEPTED, capture.to_vec()));
+        }
+    });
 }

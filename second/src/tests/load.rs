@@ -1,30 +1,31 @@
 //! A medium loaded: the worked example, the refusals in their order, and what a medium before makes no difference to.
 
-use super::cross::make_sheet;
+use super::cross::each_sheet;
 use super::{ask, told, Numbers, E, E_COLUMNS, FILL};
 use crate::convert::rearranged;
 use crate::fast;
-use crate::load::load;
+use crate::load::{load, Medium};
 use crate::numbers::*;
 use crate::sheet::Layout::{Columns, Rows};
 use crate::sheet::{check, Layout, Sheet};
 use crate::wire::{Feature, Profile};
 
-/// A medium: its features and its profiles.
-type Medium = (Vec<Feature>, Vec<Profile>);
+/// The lists of a medium: its features and its profiles.
+type Lists = (Vec<Feature>, Vec<Profile>);
 
-fn medium(features: &[u16], profiles: &[u16]) -> Medium {
+fn medium(features: &[u16], profiles: &[u16]) -> Lists {
     let features = features.iter().map(|&number| Feature(number)).collect();
     (features, profiles.iter().map(|&number| Profile(number)).collect())
 }
 
 /// What loading gives: the number and the place, and the buffer. The fast one has to give the same.
-fn loaded(layout: Layout, sheet: &[u8], medium: &Medium, room: usize) -> ((u8, usize), Vec<u8>) {
+fn loaded(layout: Layout, sheet: &[u8], medium: &Lists, room: usize) -> ((u8, usize), Vec<u8>) {
     let (mut out, mut other) = (vec![FILL; room], vec![FILL; room]);
-    let made = load(layout, sheet, &medium.0, &medium.1, &mut out);
+    let medium = Medium { features: &medium.0, profiles: &medium.1 };
+    let made = load(layout, sheet, medium, &mut out);
     let fast = match layout {
-        Rows => fast::load::load(sheet, &medium.0, &medium.1, &mut other),
-        Columns => fast::load::load_columns(sheet, &medium.0, &medium.1, &mut other),
+        Rows => fast::load::load(sheet, medium, &mut other),
+        Columns => fast::load::load_columns(sheet, medium, &mut other),
     };
     assert_eq!(made, fast);
     assert!(out == other);
@@ -103,23 +104,20 @@ fn some(numbers: &mut Numbers, own: impl Iterator<Item = u16>) -> Vec<u16> {
 
 #[test]
 fn made_up_media() {
-    let mut numbers = Numbers(13);
-    for _ in 0..300 {
-        let rows = make_sheet(&mut numbers, 40);
-        let meaning = Sheet::accept(Rows, &rows).unwrap().meaning();
+    each_sheet(13, 300, 40, |numbers, rows, meaning| {
         let mut media = (0..2).map(|_| {
-            let features = some(&mut numbers, meaning.descriptors.iter().map(|own| own.feature.0));
-            medium(&features, &some(&mut numbers, meaning.profiles.iter().map(|own| own.number.0)))
+            let features = some(numbers, meaning.descriptors.iter().map(|own| own.feature.0));
+            medium(&features, &some(numbers, meaning.profiles.iter().map(|own| own.number.0)))
         });
         let (first, second) = (media.next().unwrap(), media.next().unwrap());
         for layout in [Rows, Columns] {
-            let sheet = rearranged(layout, Rows, &rows);
+            let sheet = rearranged(layout, Rows, rows);
             let (number, one) = loaded(layout, &sheet, &first, rows.len());
             assert_eq!((number, check(layout, &one)), ((0, 0), Ok(())));
             // What was in before makes no difference, and both layouts load to both layouts of one sheet.
             let alone = loaded(layout, &sheet, &second, rows.len());
             assert_eq!(loaded(layout, &one, &second, rows.len()), alone);
-            assert_eq!(rearranged(Rows, layout, &alone.1), loaded(Rows, &rows, &second, rows.len()).1);
+            assert_eq!(rearranged(Rows, layout, &alone.1), loaded(Rows, rows, &second, rows.len()).1);
             let then = Sheet::accept(layout, &one).unwrap().meaning();
             for (before, after) in meaning.descriptors.iter().zip(&then.descriptors) {
                 let current = before.flags & PERSISTENT != 0 || first.0.contains(&before.feature);
@@ -130,5 +128,5 @@ fn made_up_media() {
                 assert_eq!((after.number, after.current), (before.number, first.1.contains(&before.number)));
             }
         }
-    }
+    });
 }

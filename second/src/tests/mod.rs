@@ -16,7 +16,7 @@ mod sheets;
 mod worked;
 
 use crate::command::{respond, Request};
-use crate::numbers::ACCEPTED;
+use crate::numbers::*;
 use crate::refusal::Refusal;
 use crate::sheet::Layout::Rows;
 use crate::wire::Feature;
@@ -68,8 +68,13 @@ pub fn command(rt: u8, sfn: u16, allocation: u16) -> [u8; 10] {
 
 /// Asks for a response; gives the number and the bytes sent, and sees that no other byte changed.
 pub fn ask(sheet: &[u8], rt: u8, sfn: u16, allocation: u16) -> (u8, Vec<u8>) {
-    let mut out = vec![FILL; usize::from(allocation) + 16];
-    let sent = respond(Rows, sheet, &command(rt, sfn, allocation), &mut out);
+    asked(usize::from(allocation) + 16, |out| respond(Rows, sheet, &command(rt, sfn, allocation), out))
+}
+
+/// The number and the bytes that an answer into so much room gives; sees that no other byte changed.
+pub fn asked(room: usize, answer: impl Fn(&mut [u8]) -> Result<usize, Refusal>) -> (u8, Vec<u8>) {
+    let mut out = vec![FILL; room];
+    let sent = answer(&mut out);
     let count = sent.unwrap_or(0);
     assert!(out[count..].iter().all(|&byte| byte == FILL));
     out.truncate(count);
@@ -83,6 +88,29 @@ pub fn told<T>(given: Result<T, Refusal>) -> (u8, usize) {
         Err(refusal) => (refusal.number, refusal.place),
     }
 }
+
+/// A byte of a copy, and what it is set to.
+pub type Change = (usize, u8);
+
+/// A copy with some bytes changed.
+pub fn changed<const LENGTH: usize>(bytes: &[u8; LENGTH], changes: &[Change]) -> [u8; LENGTH] {
+    let mut copy = *bytes;
+    for &(at, value) in changes {
+        copy[at] = value;
+    }
+    copy
+}
+
+/// What the reading of E's full response is refused with for a change.
+pub const UNREADABLE: [(u8, Change); 7] = [
+    (DATA_LENGTH, (3, 0)),
+    (DATA_LENGTH, (3, 0x29)),
+    (RECEIVED_TOO_MUCH, (3, 0x24)),
+    (ADDITIONAL_LENGTH, (11, 9)),
+    (RESPONSE_ORDER, (29, 1)),
+    (BEYOND_DATA, (43, 4)),
+    (CHECK_CUT, (3, 0x2C)),
+];
 
 /// A complete response with the given descriptors' bytes.
 pub fn response(profile: u16, descriptors: &[u8]) -> Vec<u8> {

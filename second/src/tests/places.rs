@@ -1,7 +1,7 @@
 //! The place that a refusal tells, of whoever gives one of the sheet's numbers.
 
 use super::{command, response, told, FILL};
-use crate::bench::bench;
+use crate::bench::{bench, Buffers};
 use crate::command::respond;
 use crate::import::import;
 use crate::numbers::*;
@@ -35,7 +35,10 @@ fn given(sheet: &[u8]) -> (u8, usize) {
     for rt in [0, 2] {
         let (mut collected, mut starts) = ([FILL; 9], [0xA5A5; 9]);
         let mut response = [FILL; 64];
-        assert_eq!(told(bench(Rows, sheet, rt, 64, &mut response, &mut collected, &mut starts)), checked);
+        assert_eq!(
+            told(bench(Rows, sheet, rt, 64, Buffers::new(&mut response, &mut collected, &mut starts))),
+            checked
+        );
         assert_eq!((response, collected, starts), ([0; 64], [0; 9], [0; 9]));
     }
     checked

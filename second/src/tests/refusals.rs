@@ -1,7 +1,7 @@
 //! Each refusal and finding from 9 on, at least once, and what it leaves unchanged.
 
 use super::{command, response, told, E, E_FULL, FILL};
-use crate::bench::{bench, Outcome};
+use crate::bench::{bench, Buffers, Outcome};
 use crate::checks::{check_descriptors, check_profile, ProfileAnswer, Wrong};
 use crate::command::{respond, Request};
 use crate::find::find;
@@ -238,7 +238,7 @@ fn refused_bench(sheet: &[u8], rt: u8, allocation: u16, rooms: (usize, usize, us
     let mut collected = vec![FILL; rooms.1];
     let mut starts = vec![0xA5A5; rooms.2];
     let (number, place) =
-        told(bench(Rows, sheet, rt, allocation, &mut response, &mut collected, &mut starts));
+        told(bench(Rows, sheet, rt, allocation, Buffers::new(&mut response, &mut collected, &mut starts)));
     assert_ne!(number, ACCEPTED);
     assert_eq!(place, 0);
     assert!(response.iter().chain(&collected).all(|&byte| byte == 0));
@@ -265,13 +265,13 @@ fn a_bench_sweep_leaves_the_last_response() {
     let mut response = [FILL; 30];
     let mut collected = [FILL; 36];
     let mut starts = [0; 4];
-    let outcome = bench(Rows, &E, 0, 20, &mut response, &mut collected, &mut starts);
+    let outcome = bench(Rows, &E, 0, 20, Buffers::new(&mut response, &mut collected, &mut starts));
     assert_eq!(outcome, Ok(Outcome { commands: 4, collected: 36 }));
     assert_eq!(response[..12], [0, 0, 0, 8, 0, 0, 0, 0x12, 1, 5, 3, 0]);
     assert_eq!(response[12..], [0; 18]);
     // At A 65,535 a buffer of 65,534 is enough.
     let mut response = vec![FILL; 65_534];
-    let outcome = bench(Rows, &E, 1, 65_535, &mut response, &mut collected, &mut starts);
+    let outcome = bench(Rows, &E, 1, 65_535, Buffers::new(&mut response, &mut collected, &mut starts));
     assert_eq!(outcome, Ok(Outcome { commands: 1, collected: 36 }));
     assert_eq!(response[..44], E_FULL);
     assert!(response[44..].iter().all(|&byte| byte == 0));

@@ -1,23 +1,18 @@
 //! The box that holds an image: what it sends is what the box of the imported sheet sends.
 
 use super::cross::make_sheet;
-use super::{ask, command, response, told, Numbers, E, E_FULL, FILL};
+use super::import::{each_damaged, each_longest};
+use super::{ask, asked, changed, command, response, Change, Numbers, E, E_FULL, FILL, UNREADABLE};
 use crate::command::{most_bytes, respond};
 use crate::import::import;
 use crate::numbers::*;
 use crate::rom;
 use crate::sheet::Layout::Rows;
-use crate::sheet::{build, ListedProfile};
-use crate::wire::{be32, Descriptor, Feature, Profile};
+use crate::wire::be32;
 
 /// Asks an image for a response; gives the number and the bytes sent, and sees that no other byte changed.
 fn ask_image(image: &[u8], rt: u8, sfn: u16, allocation: u16) -> (u8, Vec<u8>) {
-    let mut out = vec![FILL; usize::from(allocation) + 16];
-    let sent = rom::respond(image, &command(rt, sfn, allocation), &mut out);
-    let count = sent.unwrap_or(0);
-    assert!(out[count..].iter().all(|&byte| byte == FILL));
-    out.truncate(count);
-    (told(sent).0, out)
+    asked(usize::from(allocation) + 16, |out| rom::respond(image, &command(rt, sfn, allocation), out))
 }
 
 /// Sees that image and imported sheet give the same number and the same bytes, also with no room to spare and with a
@@ -121,28 +116,15 @@ fn made_up_sheets() {
 
 #[test]
 fn the_longest_images() {
-    let profiles: Vec<ListedProfile> =
-        (1..=60).map(|number| ListedProfile { number: Profile(number), current: number > 58 }).collect();
-    let body = [0x5A; 252];
-    let flags = |number: u16| [3, 1, 0, 0, 1][usize::from(number) % 5];
-    let long: Vec<Descriptor> = (1..=255)
-        .map(|number| Descriptor { feature: Feature(number * 256), flags: flags(number), body: &body })
-        .collect();
-    let empty: Vec<Descriptor> = (1..=16_380)
-        .map(|number| Descriptor { feature: Feature(number * 4), flags: flags(number), body: &[] })
-        .collect();
-    for (profiles, descriptors) in [(&profiles[..], &long), (&[], &empty)] {
-        let sheet = build(profiles, descriptors).unwrap();
-        let image = ask(&sheet, 0, 0, 65_535).1;
-        assert_eq!(image.len(), 65_532);
+    each_longest(|_, sheet, image| {
         for rt in 0..3 {
             for sfn in [0, 1, 4, 0x0100, 0x8000, 0xFEFF, 0xFF00, 0xFFF0, 0xFFFF] {
                 for allocation in [0, 9, 300, 65_531, 65_532, 65_533, 65_534, 65_535] {
-                    same(&image, &sheet, rt, sfn, allocation);
+                    same(image, sheet, rt, sfn, allocation);
                 }
             }
         }
-    }
+    });
 }
 
 /// The number and the place with which an image is refused, whatever the command; sees that the buffer is unchanged.
@@ -158,13 +140,9 @@ fn refused(image: &[u8]) -> (u8, usize) {
     (refusal.number, refusal.place)
 }
 
-/// The number and the place with which E's response is refused after some bytes are changed.
-fn with(changes: &[(usize, u8)]) -> (u8, usize) {
-    let mut image = E_FULL;
-    for &(at, value) in changes {
-        image[at] = value;
-    }
-    refused(&image)
+/// The number and the place with which E's response is refused after a byte is changed.
+fn with(change: Change) -> (u8, usize) {
+    refused(&changed(&E_FULL, &[change]))
 }
 
 #[test]
@@ -174,49 +152,38 @@ fn refusals() {
     let mut long = E_FULL.to_vec();
     long.resize(65_535, 0);
     assert_eq!(refused(&long), (RECEIVED_LENGTH, 0));
-    assert_eq!(with(&[(3, 0x29)]), (DATA_LENGTH, 0));
-    assert_eq!(with(&[(3, 0x24)]), (RECEIVED_TOO_MUCH, 0));
-    assert_eq!(with(&[(11, 9)]), (ADDITIONAL_LENGTH, 0));
-    assert_eq!(with(&[(29, 1)]), (RESPONSE_ORDER, 0));
-    assert_eq!(with(&[(43, 4)]), (BEYOND_DATA, 0));
-    assert_eq!(with(&[(3, 0x2C)]), (CHECK_CUT, 0));
+    for (number, change) in UNREADABLE {
+        assert_eq!(with(change), (number, 0));
+    }
     for cut in 8..44 {
         assert_eq!(refused(&E_FULL[..cut]), (CHECK_CUT, 0));
     }
-    assert_eq!(with(&[(10, 1)]), (CAPTURE_BAD, 0));
-    assert_eq!(with(&[(5, 1)]), (CAPTURE_BAD, 0));
-    assert_eq!(with(&[(7, 0x10)]), (CAPTURE_BAD, 0));
-    assert_eq!(with(&[(19, 0x80)]), (PROFILE_BAD, 2));
-    assert_eq!(with(&[(30, 0x83)]), (FLAGS_RESERVED, 2));
-    assert_eq!(with(&[(42, 2)]), (PERSISTENT_UNCURRENT, 4));
+    for (wanted, change) in [
+        ((CAPTURE_BAD, 0), (10, 1)),
+        ((CAPTURE_BAD, 0), (5, 1)),
+        ((CAPTURE_BAD, 0), (7, 0x10)),
+        ((PROFILE_BAD, 2), (19, 0x80)),
+        ((FLAGS_RESERVED, 2), (30, 0x83)),
+        ((PERSISTENT_UNCURRENT, 4), (42, 2)),
+    ] {
+        assert_eq!(with(change), wanted);
+    }
     assert_eq!(refused(&response(0, &[])), (CAPTURE_BAD, 0));
 }
 
 #[test]
 fn refused_as_import_refuses() {
-    let mut numbers = Numbers(0xA0B0_C0D0_0000_0002);
-    let mut accepted = 0;
-    for _ in 0..20_000 {
-        let mut image = ask(&make_sheet(&mut numbers, 4), 0, 0, 2_000).1;
-        for _ in 0..1 + numbers.below(3) {
-            let at = numbers.below(image.len() as u64) as usize;
-            image[at] = [0, 1, numbers.next() as u8][numbers.below(3) as usize];
-        }
-        let mut sheet = vec![FILL; 4 * image.len()];
-        match import(&image, &mut sheet) {
-            Err(refusal) => assert_eq!(refused(&image), (refusal.number, refusal.place)),
-            Ok(length) => {
-                accepted += 1;
-                for rt in 0..3 {
-                    for sfn in [0, numbers.below(70) as u16] {
-                        let allocation = [1_000, numbers.below(90) as u16][numbers.below(2) as usize];
-                        same(&image, &sheet[..length], rt, sfn, allocation);
-                    }
+    each_damaged(0xA0B0_C0D0_0000_0002, 20_000, |numbers, image, made, sheet| match made {
+        Err(refusal) => assert_eq!(refused(image), (refusal.number, refusal.place)),
+        Ok(length) => {
+            for rt in 0..3 {
+                for sfn in [0, numbers.below(70) as u16] {
+                    let allocation = [1_000, numbers.below(90) as u16][numbers.below(2) as usize];
+                    same(image, &sheet[..length], rt, sfn, allocation);
                 }
             }
         }
-    }
-    assert!(accepted > 1_000);
+    });
 }
 
 #[test]
@@ -234,11 +201,8 @@ fn commands_of_an_accepted_image() {
 
 /// What an image gives that was not checked, with room enough.
 fn unchecked(image: &[u8], rt: u8, sfn: u16, allocation: u16) -> Vec<u8> {
-    let mut out = vec![FILL; most_bytes(allocation)];
-    let count = rom::respond_checked(image, &command(rt, sfn, allocation), &mut out).unwrap();
-    assert!(out[count..].iter().all(|&byte| byte == FILL));
-    out.truncate(count);
-    out
+    let command = command(rt, sfn, allocation);
+    asked(most_bytes(allocation), |out| Ok(rom::respond_checked(image, &command, out).unwrap())).1
 }
 
 #[test]

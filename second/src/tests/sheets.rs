@@ -1,6 +1,6 @@
 //! Damaged copies of sheet E, and sheets from their meaning.
 
-use super::{told, E};
+use super::{changed, told, E};
 use crate::numbers::*;
 use crate::sheet::Layout::Rows;
 use crate::sheet::{build, check, ListedProfile, Sheet};
@@ -13,9 +13,14 @@ fn given(sheet: &[u8]) -> (u8, usize) {
 
 /// The number and the place for a copy of E with one byte changed.
 fn with(at: usize, value: u8) -> (u8, usize) {
-    let mut sheet = E;
-    sheet[at] = value;
-    given(&sheet)
+    given(&changed(&E, &[(at, value)]))
+}
+
+/// Sees that a copy of E gets a number for each of these: the place that it tells, and the byte that is changed, to what.
+fn all_refused(number: u8, changes: &[(usize, usize, u8)]) {
+    for &(place, at, value) in changes {
+        assert_eq!(with(at, value), (number, place));
+    }
 }
 
 #[test]
@@ -41,36 +46,25 @@ fn too_many_profiles() {
 
 #[test]
 fn bad_profiles() {
-    assert_eq!(with(37, 0x00), (PROFILE_BAD, 1));
-    assert_eq!(with(41, 0x12), (PROFILE_BAD, 2));
-    assert_eq!(with(38, 0x02), (PROFILE_BAD, 1));
-    assert_eq!(with(43, 0x01), (PROFILE_BAD, 2));
+    all_refused(PROFILE_BAD, &[(1, 37, 0x00), (2, 41, 0x12), (1, 38, 0x02), (2, 43, 0x01)]);
     // The profiles come before the entries.
-    let mut sheet = E;
-    sheet[5] = 0;
-    sheet[43] = 1;
-    assert_eq!(given(&sheet), (PROFILE_BAD, 2));
+    assert_eq!(given(&changed(&E, &[(5, 0), (43, 1)])), (PROFILE_BAD, 2));
 }
 
 #[test]
 fn bad_entries() {
-    assert_eq!(with(5, 0x00), (FEATURE_ORDER, 1));
-    assert_eq!(with(13, 0x01), (FEATURE_ORDER, 2));
-    assert_eq!(with(6, 0x43), (FLAGS_RESERVED, 1));
+    all_refused(FEATURE_ORDER, &[(1, 5, 0x00), (2, 13, 0x01)]);
+    all_refused(FLAGS_RESERVED, &[(1, 6, 0x43)]);
+    all_refused(PERSISTENT_UNCURRENT, &[(1, 6, 0x02)]);
+    all_refused(BODY_LENGTH, &[(1, 7, 0x05)]);
+    // In the last a longer first body moves the place where the second should start.
+    all_refused(BODY_OFFSET, &[(1, 11, 0x2D), (2, 19, 0x2C), (4, 35, 0x30), (1, 8, 0x01), (2, 7, 0x08)]);
     // Every Version is accepted, and hides nothing.
     for version in 0..16 {
         assert_eq!(with(6, 0x03 | version << 2), (ACCEPTED, 0));
         assert_eq!(with(6, 0x02 | version << 2), (PERSISTENT_UNCURRENT, 1));
         assert_eq!(with(6, 0x43 | version << 2), (FLAGS_RESERVED, 1));
     }
-    assert_eq!(with(6, 0x02), (PERSISTENT_UNCURRENT, 1));
-    assert_eq!(with(7, 0x05), (BODY_LENGTH, 1));
-    assert_eq!(with(11, 0x2D), (BODY_OFFSET, 1));
-    assert_eq!(with(19, 0x2C), (BODY_OFFSET, 2));
-    assert_eq!(with(35, 0x30), (BODY_OFFSET, 4));
-    assert_eq!(with(8, 0x01), (BODY_OFFSET, 1));
-    // A longer first body moves the place where the second should start.
-    assert_eq!(with(7, 0x08), (BODY_OFFSET, 2));
 }
 
 #[test]

@@ -1,7 +1,7 @@
 //! Every worked line of the paper.
 
 use super::{ask, command, E, E_FULL};
-use crate::bench::{bench, Outcome};
+use crate::bench::{bench, Buffers, Outcome};
 use crate::checks::{check_profile, ProfileAnswer, Wrong};
 use crate::command::respond;
 use crate::lister::list;
@@ -66,7 +66,7 @@ fn sweep_e(allocation: u16) -> (Result<Outcome, Refusal>, Vec<u16>, Vec<u8>) {
     let mut response = [0xA5; 64];
     let mut collected = [0xA5; 64];
     let mut starts = [0xA5A5; 8];
-    let outcome = bench(Rows, &E, 0, allocation, &mut response, &mut collected, &mut starts);
+    let outcome = bench(Rows, &E, 0, allocation, Buffers::new(&mut response, &mut collected, &mut starts));
     (outcome, starts.to_vec(), collected.to_vec())
 }
 

@@ -54,21 +54,15 @@ returns c = let k = c .before .before .before .before .before .before .before .b
 
 sub-left : tie.Need-sub-left Inv-loop μ-loop
 sub-left c =
-    let early = c .before .before .before .before .before .before .before .before .before in
-    let origin = early .before .before .before .before .before .before .before .before .before in
-    let k = early .before .before .before in
-    let o = origin .before .before .before .before .before .before .before .before .before in
-    let bytes : Bytes (o .args .s .now) = (λ i. omega (arith, origin .before .before .before .before .before .before .before .before .shared-slice-known .given i)) in
-    along-gains (k .before .before .before .before .before .before .loop .inv .0) (k .before .before .before .before .if1 .taken) (k .one-round .ensures) (c .before .before .before .if2 .left) (meaning-fine (stored (o .args .lay) (o .args .s .now)) bytes (o .pre .0) .sound) (o .pre .1) (k .before .before .before .before .before .before .loop .inv .1)
+    let k = c .before .before .before .before .before .before .before .before .before .before .before .before in
+    let m = k .before .before .before .before .before .before .before .before .before .before .before .before in let o = m .before .before .before in
+    along-gains (k .before .before .before .before .before .before .loop .inv .0) (k .before .before .before .before .if1 .taken) (k .one-round .ensures) (c .before .before .before .if2 .left) (meaning-fine (stored (o .args .lay) (o .args .s .now)) (λ i. m .before .before .shared-slice-known .given i .fits) (o .pre .0) .sound) (o .pre .1) (k .before .before .before .before .before .before .loop .inv .1)
 
 sub-left-2 : tie.Need-sub-left-2 Inv-loop μ-loop
 sub-left-2 c =
-    let early = c .before .before .before .before .before .before .before .before .before in
-    let origin = early .before .before .before .before .before .before .before .before .before in
-    let k = early .before .before .before in
-    let o = origin .before .before .before .before .before .before .before .before .before in
-    let bytes : Bytes (o .args .s .now) = (λ i. omega (arith, origin .before .before .before .before .before .before .before .before .shared-slice-known .given i)) in
-    along-within (k .before .before .before .before .before .before .loop .inv .0) (k .before .before .before .before .if1 .taken) (k .one-round .ensures) (c .before .before .before .if2 .left) (meaning-fine (stored (o .args .lay) (o .args .s .now)) bytes (o .pre .0) .sound) (o .pre .1) (k .before .before .before .before .before .before .loop .inv .1)
+    let k = c .before .before .before .before .before .before .before .before .before .before .before .before in
+    let m = k .before .before .before .before .before .before .before .before .before .before .before .before in let o = m .before .before .before in
+    along-within (k .before .before .before .before .before .before .loop .inv .0) (k .before .before .before .before .if1 .taken) (k .one-round .ensures) (c .before .before .before .if2 .left) (meaning-fine (stored (o .args .lay) (o .args .s .now)) (λ i. m .before .before .shared-slice-known .given i .fits) (o .pre .0) .sound) (o .pre .1) (k .before .before .before .before .before .before .loop .inv .1)
 
 loop-less : tie.Need-loop-less Inv-loop μ-loop
 loop-less c =

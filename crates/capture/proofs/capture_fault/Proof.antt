@@ -11,14 +11,5 @@ sheet-fault-requires c κs = (
   own-odd (c .before .before .before .before .before .before .before .args .s .now) (c .before .before .before .before .before .before .before .args .read) (c .before .before .before .before .before .before .before .pre .0) (c .before .before .before .if1 .left) _ (c .before .before .own-fault .ensures) _ (c .before .before .before .before .before .before .before .pre .1),
 )
 
-returns : tie.Need-returns
-returns c = search capture-refused
-
-returns-2 : tie.Need-returns-2
-returns-2 c = search capture-own
-
-returns-3 : tie.Need-returns-3
-returns-3 c = search capture-sheet
-
 pub capture-fault-spec : {M : Type 1} → statement M
-capture-fault-spec = tie.close (tie.spec returns (λ c κs. search needs) returns-2 sheet-fault-requires returns-3)
+capture-fault-spec {M} = let met = tie.spec {M = M} (λ c. search capture-refused) (λ c κs. search needs) (λ c. search capture-own) sheet-fault-requires (λ c. search capture-sheet) in tie.close met

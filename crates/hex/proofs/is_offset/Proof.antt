@@ -14,17 +14,6 @@ returns-4 : tie.Need-returns-4
 unfolding isOffset
 returns-4 c = N _ _ _ (lt-leb _ _ (c .before .before .before .before .if1 .left)) (N _ _ _ (lt-leb _ _ (c .before .before .before .if2 .left)) (N _ _ _ (lt-leb _ _ (c .before .before .if3 .left)) (ap (λ (v : ℕ). ltb v 16) (c .value .ensures ∙ ap value (c .before .at .ensures)))))
 
-returns : tie.Need-returns
-unfolding isOffset
-returns c = search tests
-
-returns-2 : tie.Need-returns-2
-unfolding isOffset
-returns-2 c = search tests
-
-returns-3 : tie.Need-returns-3
-unfolding isOffset
-returns-3 c = search tests
-
 pub is-offset-spec : {M : Type 1} → statement M
-is-offset-spec = tie.close (tie.spec returns returns-2 (λ c. search needs) returns-3 (λ c κs. search needs) (λ c κs. search needs) returns-4)
+unfolding isOffset
+is-offset-spec {M} = let met = tie.spec {M = M} (λ c. search tests) (λ c. search tests) (λ c. search needs) (λ c. search tests) (λ c κs. search needs) (λ c κs. search needs) returns-4 in tie.close met

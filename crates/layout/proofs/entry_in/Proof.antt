@@ -2,22 +2,22 @@
 use native.Mathlib.Omega.{arith}
 use Rattle.layout.specs.Layout.{number, flags, bodyLength, offset}
 use Rattle.layout.specs.Contents.{entryOf}
-use Rattle.layout.proofs.Laws.{number-inside, flags-inside, length-inside, offset-inside}
+use Rattle.layout.proofs.Laws.{fields-inside}
 use borrow.Author.Needs.{needs}
 use Rattle.layout.proofs.entry_in.Statement.{statement}
 use Rattle.layout.proofs.entry_in.Tie as tie
 
 inside2-requires : tie.Need-inside2-requires
-inside2-requires c κs = let a = c .before .before .args in omega (arith, number-inside (a .lay) (a .n) (a .i) (c .before .before .pre .1), c .before .before .pre .0 .1)
+inside2-requires c κs = let a = c .before .before .args in omega (arith, fields-inside (a .nth .lay) (a .nth .n) (a .nth .i) (c .before .before .pre .1) .number, c .before .before .pre .0 .1)
 
 inside-requires : tie.Need-inside-requires
-inside-requires c κs = let a = c .before .before .before .before .args in let p = c .before .before .before .before .pre in omega (arith, flags-inside (a .lay) (a .n) (a .i) (p .1), p .0 .1)
+inside-requires c κs = let a = c .before .before .before .before .args in let p = c .before .before .before .before .pre in omega (arith, fields-inside (a .nth .lay) (a .nth .n) (a .nth .i) (p .1) .flags, p .0 .1)
 
 inside-requires-2 : tie.Need-inside-requires-2
-inside-requires-2 c κs = let a = c .before .before .before .before .before .before .args in let p = c .before .before .before .before .before .before .pre in omega (arith, length-inside (a .lay) (a .n) (a .i) (p .1), p .0 .1)
+inside-requires-2 c κs = let a = c .before .before .before .before .before .before .args in let p = c .before .before .before .before .before .before .pre in omega (arith, fields-inside (a .nth .lay) (a .nth .n) (a .nth .i) (p .1) .length, p .0 .1)
 
 inside4-requires : tie.Need-inside4-requires
-inside4-requires c κs = let a = c .before .before .before .before .before .before .before .before .args in let p = c .before .before .before .before .before .before .before .before .pre in omega (arith, offset-inside (a .lay) (a .n) (a .i) (p .1), p .0 .1)
+inside4-requires c κs = let a = c .before .before .before .before .before .before .before .before .args in let p = c .before .before .before .before .before .before .before .before .pre in omega (arith, fields-inside (a .nth .lay) (a .nth .n) (a .nth .i) (p .1) .offset, p .0 .1)
 
 returns : tie.Need-returns
 unfolding entryOf number flags bodyLength offset

@@ -6,4 +6,4 @@ use Rattle.layout.proofs.feature_at.Tie as tie
 
 pub feature-at-spec : {M : Type 1} → statement M
 unfolding number
-feature-at-spec = tie.close (tie.spec (λ c κs. search needs) (λ c κs. search needs) (λ c κs. search needs) (λ c. cc))
+feature-at-spec = tie.close (tie.spec (λ c κs. search needs) (λ c κs. search needs) (λ c κs. search needs) (λ c. cc (c .before .before .nth-of .ensures .0, c .before .before .nth-of .ensures .1, c .before .before .nth-of .ensures .2)))

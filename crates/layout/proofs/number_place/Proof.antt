@@ -7,4 +7,4 @@ use Rattle.layout.proofs.number_place.Tie as tie
 
 pub number-place-spec : {M : Type 1} → statement M
 unfolding numberPlace
-number-place-spec = tie.close (tie.spec (λ c. search needs) (λ c. search needs) (λ c. search needs) (λ c. search needs) (λ c. search needs) (λ c. search needs) (λ c. rw (c .enum-told .given .1, numberPlace) (omega arith)) (λ c. rw (c .enum-told2 .given .1, numberPlace) (omega arith)))
+number-place-spec = tie.close (tie.spec (λ c. search needs) (λ c. search needs) (λ c. search needs) (λ c. search needs) (λ c. search needs) (λ c. search needs) (λ c. search needs) (λ c. search needs) (λ c. rw (c .before .enum-told .given .1, numberPlace) (omega arith)) (λ c. rw (c .before .enum-told2 .given .1, numberPlace) (omega arith)))

@@ -7,4 +7,4 @@ use Rattle.layout.proofs.offset_place.Tie as tie
 
 pub offset-place-spec : {M : Type 1} → statement M
 unfolding offsetPlace
-offset-place-spec = tie.close (tie.spec (λ c. search needs) (λ c. search needs) (λ c. search needs) (λ c. search needs) (λ c. search needs) (λ c. search needs) (λ c. search needs) (λ c. search needs) (λ c. search needs) (λ c. rw (c .enum-told .given .1, offsetPlace) (omega arith)) (λ c. rw (c .enum-told2 .given .1, offsetPlace) (omega arith)))
+offset-place-spec = tie.close (tie.spec (λ c. search needs) (λ c. search needs) (λ c. search needs) (λ c. search needs) (λ c. search needs) (λ c. search needs) (λ c. search needs) (λ c. search needs) (λ c. search needs) (λ c. search needs) (λ c. search needs) (λ c. search needs) (λ c. rw (c .before .enum-told .given .1, offsetPlace) (omega arith)) (λ c. rw (c .before .before .enum-told2 .given .1, offsetPlace) (omega arith)))

@@ -1,6 +1,6 @@
 -- `layout::set_flags` meets its contract: the flags stand inside the contents.
 use native.Mathlib.Omega.{arith}
-use Rattle.layout.proofs.Laws.{flags-inside}
+use Rattle.layout.proofs.Laws.{fields-inside}
 use borrow.Author.Needs.{needs}
 use Rattle.layout.proofs.set_flags.Statement.{statement}
 use Rattle.layout.proofs.set_flags.Tie as tie
@@ -8,7 +8,7 @@ use Rattle.layout.proofs.set_flags.Tie as tie
 slice-write-out : tie.Need-slice-write-out
 slice-write-out c =
     let a = c .before .before .args in
-    omega (arith, flags-inside (a .lay) (a .n) (a .i) (c .before .before .pre .0), c .before .before .pre .1, c .flags-place .ensures)
+    omega (arith, fields-inside (a .nth .lay) (a .nth .n) (a .nth .i) (c .before .before .pre .0) .flags, c .before .before .pre .1, c .flags-place .ensures)
 
 returns : tie.Need-returns
 returns c = rw (c .flags-place .ensures)

@@ -1,9 +1,8 @@
 -- `mend::fix_at` meets its contract: the flags put over those that stand there, and the body, if there is something to mend in it.
 use borrow.Author.Needs.{needs}
-use mathlib.Core.Path.{_∙_}
 use native.Mathlib.Omega.{arith}
 use Rattle.mend.proofs.Fixing.{fixes-length}
-use Rattle.mend.proofs.Made.{barred-is, place-length}
+use Rattle.mend.proofs.Made.{seen-by, place-length}
 use Rattle.mend.proofs.Walking.{fixed-clean, fixed-dirty}
 use Rattle.mend.proofs.fix_at.Statement.{statement}
 use Rattle.mend.proofs.fix_at.Tie as tie
@@ -32,28 +31,14 @@ returns : tie.Need-returns
 returns c =
     let early = c .before .before .before .before .before .before .before .before .before in
     let y = early .before .before .before .before .before in
-    fixed-dirty (record {
-      number = y .before .before .before .before .before .before .before .before .number-in .ensures;
-      flags = y .before .before .before .before .before .before .before .flags-in .ensures;
-      body = y .before .before .before .before .before .before .body-at .ensures .holds;
-      row-is = y .before .before .before .before .before .row-of .ensures;
-      mends = y .before .flags-mended .ensures ∙ barred-is _ _ _ _ (y .before .before .is-barred .ensures);
-    })
-    (λ i. omega (arith, y .before .before .before .before .before .before .before .before .before .shared-slice-known .given i)) (y .before .before .before .before .before .before .before .before .before .before .before .before .pre)
-    (y .fix .ensures) _ (early .is-dirty .ensures) (c .before .before .before .before .before .before .before .before .if1 .taken) _ (c .before .before .before .before .before .plan-of .ensures) (c .before .before .before .before .fix-body .ensures)
+    let z = y .before .before .before .before .before in
+    fixed-dirty (seen-by (z .before .before .before .number-in .ensures) (z .before .before .flags-in .ensures) (z .before .body-at .ensures .holds) (z .row-of .ensures) (y .before .before .is-barred .ensures) (y .before .flags-mended .ensures)) (λ i. omega (arith, z .before .before .before .before .shared-slice-known .given i)) (z .before .before .before .before .before .before .before .pre) (y .fix .ensures) _ (early .is-dirty .ensures) (c .before .before .before .before .before .before .before .before .if1 .taken) _ (c .before .before .before .before .before .plan-of .ensures) (c .before .before .before .before .fix-body .ensures)
 
 returns-2 : tie.Need-returns-2
 returns-2 c =
     let y = c .before .before .before .before .before .before in
-    fixed-clean (record {
-      number = y .before .before .before .before .before .before .before .before .number-in .ensures;
-      flags = y .before .before .before .before .before .before .before .flags-in .ensures;
-      body = y .before .before .before .before .before .before .body-at .ensures .holds;
-      row-is = y .before .before .before .before .before .row-of .ensures;
-      mends = y .before .flags-mended .ensures ∙ barred-is _ _ _ _ (y .before .before .is-barred .ensures);
-    })
-    (λ i. omega (arith, y .before .before .before .before .before .before .before .before .before .shared-slice-known .given i)) (y .before .before .before .before .before .before .before .before .before .before .before .before .pre)
-    (y .fix .ensures) _ (c .before .is-dirty .ensures) (c .if1 .left)
+    let z = y .before .before .before .before .before in
+    fixed-clean (seen-by (z .before .before .before .number-in .ensures) (z .before .before .flags-in .ensures) (z .before .body-at .ensures .holds) (z .row-of .ensures) (y .before .before .is-barred .ensures) (y .before .flags-mended .ensures)) (λ i. omega (arith, z .before .before .before .before .shared-slice-known .given i)) (z .before .before .before .before .before .before .before .pre) (y .fix .ensures) _ (c .before .is-dirty .ensures) (c .if1 .left)
 
 pub fix-at-spec : {M : Type 1} → statement M
 fix-at-spec =

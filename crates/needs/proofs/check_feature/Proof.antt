@@ -1,23 +1,14 @@
--- `needs::check_feature` meets its contract: each early return is a case of the definition.
+-- `needs::check_feature` meets its contract: the refusal, or what is wrong with the feature by the profile's column.
 use borrow.Author.Needs.{needs}
-use Rattle.reading.proofs.Completed.{complete-fault, complete-none}
-use Rattle.needs.proofs.Alone.{one-input, one-table, one-judged}
+use Rattle.needs.specs.Alone.{judgedOf}
+use Rattle.needs.proofs.Judgements.{fault-complete, judge-refused}
+use Rattle.needs.proofs.Alone.{one-judged}
 use Rattle.needs.proofs.check_feature.Statement.{statement}
 use Rattle.needs.proofs.check_feature.Tie as tie
 
 returns : tie.Need-returns
-returns c = search (one-input, complete-fault)
-
-returns-2 : tie.Need-returns-2
-returns-2 c = search (one-table, complete-fault)
-
-judged-one-requires : tie.Need-judged-one-requires
-judged-one-requires c κs = search complete-none
-
-returns-3 : tie.Need-returns-3
-returns-3 c = search (one-judged, complete-fault)
+unfolding judgedOf
+returns c = judge-refused _ _ _ _ _ (c .before .before .before .column-of .ensures) (c .before .before .judge-fault .ensures) (c .if1 .taken)
 
 pub check-feature-spec : {M : Type 1} → statement M
-check-feature-spec =
-    tie.close
-    (tie.spec (λ c κs. search needs) returns (λ c κs. search needs) returns-2 judged-one-requires returns-3)
+check-feature-spec {M} = let met = tie.spec {M = M} (λ c κs. search needs) (λ c κs. search needs) returns (λ c κs. search fault-complete) (λ c. search one-judged) in tie.close met

@@ -1,21 +1,19 @@
--- `needs::check_profile` meets its contract: each early return is a case of the definition.
+-- `needs::check_profile` meets its contract: the refusal, or the lowest that breaks the profile's column.
 use borrow.Author.Needs.{needs}
-use Rattle.reading.proofs.Completed.{complete-fault, complete-none}
-use Rattle.needs.proofs.Judgements.{column-ascends, judge-input, judge-table, judge-lowest}
+use Rattle.needs.specs.Judge.{judged}
+use Rattle.needs.proofs.Judgements.{column-ascends, fault-complete, judge-refused, judge-lowest}
 use Rattle.needs.proofs.check_profile.Statement.{statement}
 use Rattle.needs.proofs.check_profile.Tie as tie
 
 returns : tie.Need-returns
-returns c = search (judge-input, complete-fault)
-
-returns-2 : tie.Need-returns-2
-returns-2 c = search (judge-table, complete-fault)
+unfolding judged
+returns c = judge-refused _ _ _ _ _ (c .before .before .before .column-of .ensures) (c .before .before .judge-fault .ensures) (c .if1 .taken)
 
 lowest-broken-requires : tie.Need-lowest-broken-requires
-lowest-broken-requires c κs = (search complete-none, rw (c .before .before .column-of .ensures) (column-ascends _))
+lowest-broken-requires c κs = (search fault-complete, rw (c .before .before .before .column-of .ensures) (column-ascends _))
 
-returns-3 : tie.Need-returns-3
-returns-3 c = search (judge-lowest, complete-fault)
+returns-2 : tie.Need-returns-2
+returns-2 c = search judge-lowest
 
 pub check-profile-spec : {M : Type 1} → statement M
-check-profile-spec = tie.close (tie.spec (λ c κs. search needs) returns (λ c κs. search needs) returns-2 lowest-broken-requires returns-3)
+check-profile-spec = tie.close (tie.spec (λ c κs. search needs) (λ c κs. search needs) returns lowest-broken-requires returns-2)

@@ -6,4 +6,4 @@ use Rattle.profiles.proofs.rule.Tie as tie
 
 pub rule-spec : {M : Type 1} → statement M
 unfolding recordRule
-rule-spec = tie.close (tie.spec (λ c. search tests) (λ c. search (tests, c .if2 .taken)) (λ c. search (tests, c .before .if2 .left)) (λ c. search (tests, c .before .before .if2 .left)) (λ c. search (tests, c .before .before .if2 .left)))
+rule-spec = tie.close (tie.spec (λ c. search tests) (λ c. search (tests, c .if2 .taken)) (λ c. search (tests, c .if2 .left)))

@@ -4,14 +4,5 @@ use borrow.Author.Needs.{needs}
 use Rattle.reading.proofs.complete.Statement.{statement}
 use Rattle.reading.proofs.complete.Tie as tie
 
-returns : tie.Need-returns
-returns c = search complete-refused
-
-returns-2 : tie.Need-returns-2
-returns-2 c = search complete-cut
-
-returns-3 : tie.Need-returns-3
-returns-3 c = search complete-whole
-
 pub complete-spec : {M : Type 1} → statement M
-complete-spec = tie.close (tie.spec (λ c κs. search needs) returns (λ c κs. search needs) returns-2 returns-3)
+complete-spec {M} = let met = tie.spec {M = M} (λ c κs. search needs) (λ c. search complete-refused) (λ c κs. search needs) (λ c. search complete-cut) (λ c. search complete-whole) in tie.close met

@@ -1,36 +1,11 @@
--- `reading::held_in` meets its contract: the loop carries what is left of the search.
+-- `reading::held_in` meets its contract: the part at the place that was found.
+use Rattle.reading.proofs.Rest.{part-held}
 use borrow.Author.Needs.{needs}
-use Prim.Native.Nat.{_-_, _≤_}
-use lib.ListN.{length}
-use Rattle.reading.specs.inner.Between.{between}
-use Rattle.reading.proofs.Places.{left-less}
-use Rattle.reading.proofs.Rest.{Rest, rest-start, rest-within, rest-here, rest-above, rest-next, rest-end}
 use Rattle.reading.proofs.held_in.Statement.{statement}
 use Rattle.reading.proofs.held_in.Tie as tie
 
-abbrev Inv-loop : tie.InvT-loop
-Inv-loop feature s end at₀ at = (end ≤ length s) × Rest (feature .0) s at (between s at end)
-
-abbrev μ-loop : tie.MeasureT-loop
-μ-loop feature s end at₀ at = end - at
-
-loop-holds : tie.Need-loop-holds Inv-loop μ-loop
-loop-holds c = (search rest-within, rest-start _ _ _ (c .read .ensures) (λ i. c .before .shared-slice-known .given i .fits))
-
-returns : tie.Need-returns Inv-loop μ-loop
-returns c = search rest-here
-
-returns-2 : tie.Need-returns-2 Inv-loop μ-loop
-returns-2 c = search rest-above
-
-loop-less : tie.Need-loop-less Inv-loop μ-loop
-loop-less c = search left-less
-
-loop-again : tie.Need-loop-again Inv-loop μ-loop
-loop-again c = (search needs, search rest-next)
-
-returns-3 : tie.Need-returns-3 Inv-loop μ-loop
-returns-3 c = search rest-end
+returns : tie.Need-returns
+returns c = part-held _ _ _ _ (λ i. c .before .before .shared-slice-known .given i .fits) (c .before .spot-of .ensures) (c .part .ensures)
 
 pub held-in-spec : {M : Type 1} → statement M
-held-in-spec = tie.close (tie.spec Inv-loop μ-loop (λ c κs. search needs) loop-holds (λ c κs. search needs) (λ c κs. search needs) (λ c. search needs) (λ c. search needs) (λ c κs. search needs) returns (λ c κs. search needs) returns-2 (λ c κs. search needs) loop-less loop-again (λ c κs. search needs) returns-3)
+held-in-spec = tie.close (tie.spec (λ c κs. search needs) (λ c κs. search needs) returns)

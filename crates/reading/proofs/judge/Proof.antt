@@ -4,14 +4,5 @@ use borrow.Author.Needs.{needs}
 use Rattle.reading.proofs.judge.Statement.{statement}
 use Rattle.reading.proofs.judge.Tie as tie
 
-returns : tie.Need-returns
-returns c = search judge-refused
-
-returns-2 : tie.Need-returns-2
-returns-2 c = search judge-cut
-
-returns-3 : tie.Need-returns-3
-returns-3 c = search judge-whole
-
 pub judge-spec : {M : Type 1} → statement M
-judge-spec = tie.close (tie.spec (λ c κs. search needs) returns (λ c κs. search needs) returns-2 returns-3)
+judge-spec {M} = let met = tie.spec {M = M} (λ c κs. search needs) (λ c. search judge-refused) (λ c κs. search needs) (λ c. search judge-cut) (λ c. search judge-whole) in tie.close met

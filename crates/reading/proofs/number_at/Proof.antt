@@ -5,13 +5,6 @@ use borrow.Author.Needs.{needs}
 use Rattle.reading.proofs.number_at.Statement.{statement}
 use Rattle.reading.proofs.number_at.Tie as tie
 
-returns : tie.Need-returns
-unfolding numberAt
-returns c = search needs
-
-returns-2 : tie.Need-returns-2
-unfolding numberAt
-returns-2 c = search needs
-
 pub number-at-spec : {M : Type 1} → statement M
-number-at-spec = tie.close (tie.spec (λ c κs. search needs) (λ c κs. search all-stand) returns (λ c κs. search needs) returns-2)
+unfolding numberAt
+number-at-spec {M} = let met = tie.spec {M = M} (λ c κs. search needs) (λ c κs. search all-stand) (λ c. search needs) (λ c κs. search needs) (λ c. search needs) in tie.close met

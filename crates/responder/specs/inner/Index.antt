@@ -34,12 +34,9 @@ descBytes s i = descOf (number s i) (flags s i) (bodyLength s i) (take (bodyLeng
 unfoldable pub piece : (rt : ℕ) (s : Sheet) (i : ℕ) → List ℕ
 piece rt s i = elim (skips rt (flags s i)) [ true ↦ [] | false ↦ descBytes s i ]
 
--- the same with a body that stands there and is so long, whatever the entry says of it; and with these flags
+-- the same with a body that stands there and is so long, whatever the entry says of it
 unfoldable pub wholeBytes : (s : Sheet) (i body len : ℕ) → List ℕ
 wholeBytes s i body len = headBytes (entryOf s i) ++ take len (drop body (s .bytes))
-
-unfoldable pub foundBytes : (rt : ℕ) (s : Sheet) (i f body len : ℕ) → List ℕ
-foundBytes rt s i f body len = elim (skips rt f) [ true ↦ [] | false ↦ wholeBytes s i body len ]
 
 -- what is written of it, where the walk stops before it and where it goes on
 unfoldable pub going : (stops : Bool) → List ℕ → List ℕ

@@ -16,4 +16,7 @@ loop-again : tie.Need-loop-again Inv-loop μ-loop
 loop-again c = turning-more (c .before .before .loop .inv) (c .before .loop-test .taken) (c .halved .ensures)
 
 pub closed-spec : {M : Type 1} → statement M
-closed-spec = tie.close (tie.spec Inv-loop μ-loop (λ c. search turning-start) (λ c κs. search needs) (λ c. rw (c .halved .ensures) (half-smaller _ _ _ _ (c .before .loop-test .taken))) loop-again (λ c. turning-end (c .before .loop .inv) (c .loop-test .left)))
+closed-spec =
+    tie.close
+    (tie.spec Inv-loop μ-loop (λ c. turning-start (search needs) (search needs)) (λ c κs. (search needs, c .before .loop .inv .most)) (λ c. rw (c .halved .ensures) (half-smaller _ _ _ _ (c .before .loop-test .taken))) loop-again
+    (λ c. search (needs, c .before .loop .inv .least)) (λ c. turning-end (c .before .loop .inv) (c .loop-test .left)))

@@ -15,4 +15,4 @@ returns-2 c = let a = c .before .before .before .before .before .args in sym (ha
 
 pub halved-spec : {M : Type 1} → statement M
 halved-spec =
-    tie.close (tie.spec (λ c. search needs) (λ c. search needs) (λ c κs. search needs) (λ c. search needs) returns returns-2)
+    tie.close (tie.spec (λ c. search needs) (λ c. search needs) (λ c. search needs) (λ c κs. search needs) (λ c. search needs) returns returns-2)

@@ -10,6 +10,7 @@ use against::made::Part;
 use against::run::told;
 use against::timing::{head, line, Case, Effort};
 use gcf::raw;
+use second::bench::{Buffers, Outcome};
 use second::command::Request;
 use second::convert::rearranged;
 use second::fast::bench::bench;
@@ -26,6 +27,7 @@ use second::fast::reading::read;
 use second::fast::rom;
 use second::fast::sheet::check;
 use second::fast::sweep::take;
+use second::load::Medium;
 use second::refusal::Refusal;
 use second::sense;
 use second::sheet::Layout;
@@ -39,7 +41,7 @@ const USAGE: &str = "usage: benchmarks [--rounds N] [--milliseconds N] [--only W
 
 type Plain = fn(&[u8], &[u8], &mut [u8]) -> Result<usize, u8>;
 
-type PlainLoad = fn(&[u8], &[Feature], &[Profile], &mut [u8]) -> Result<usize, Refusal>;
+type PlainLoad = fn(&[u8], Medium, &mut [u8]) -> Result<usize, Refusal>;
 
 type PlainConversion = fn(&[u8], &mut [u8]) -> Result<usize, Refusal>;
 
@@ -150,37 +152,44 @@ fn told_by<T: Default>(call: impl FnOnce(&mut T) -> u8, result: impl FnOnce(&T) 
     usize::from(call(&mut told)) + result(&told) as usize
 }
 
+/// Times a command to a sheet or to an image.
+fn time_command<R>(
+    run: &Run,
+    name: String,
+    asked: &[u8],
+    command: [u8; 10],
+    pieces: Option<usize>,
+    proved: impl Fn(&[u8], &[u8], &mut [u8], &mut raw::Made) -> u8,
+    plain: impl Fn(&[u8], &[u8], &mut [u8]) -> Result<usize, R>,
+) {
+    let bytes = plain(asked, &command, &mut vec![0; MOST]).unwrap_or(0);
+    let case = Case::new(
+        name,
+        asked,
+        MOST,
+        move |asked, out| {
+            told_by(|sent: &mut raw::Made| proved(asked, &command, out, sent), |sent| sent.bytes)
+        },
+        move |asked, out| plain(asked, &command, out).unwrap_or(0),
+    );
+    run.time(Case { bytes, pieces, ..case });
+}
+
 /// Times a command to a sheet that is checked.
 fn time_checked(run: &Run, name: &str, sheet: &[u8], command: [u8; 10], pieces: Option<usize>) {
-    run.time(Case {
-        name: format!("{name}, sheet checked"),
-        input: sheet,
-        room: MOST,
-        bytes: respond(sheet, &command, &mut vec![0; MOST]).unwrap_or(0),
-        pieces,
-        proved: Box::new(|sheet, out| {
-            told_by(|sent: &mut raw::Made| raw::respond(false, sheet, &command, out, sent), |sent| sent.bytes)
-        }),
-        plain: Box::new(|sheet, out| respond(sheet, &command, out).unwrap_or(0)),
-    });
+    let name = format!("{name}, sheet checked");
+    let proved =
+        |sheet: &_, command: &_, out: &mut _, sent: &mut _| raw::respond(false, sheet, command, out, sent);
+    time_command(run, name, sheet, command, pieces, proved, respond);
 }
 
 /// Times a command to a sheet that was accepted before.
 fn time_accepted(run: &Run, name: &str, sheet: &[u8], command: [u8; 10], pieces: Option<usize>) {
-    run.time(Case {
-        name: format!("{name}, sheet accepted before"),
-        input: sheet,
-        room: MOST,
-        bytes: respond(sheet, &command, &mut vec![0; MOST]).unwrap_or(0),
-        pieces,
-        proved: Box::new(|sheet, out| {
-            told_by(
-                |sent: &mut raw::Made| raw::respond_accepted(false, sheet, &command, out, sent),
-                |sent| sent.bytes,
-            )
-        }),
-        plain: Box::new(|sheet, out| respond_checked(sheet, &command, out).unwrap_or(0)),
-    });
+    let name = format!("{name}, sheet accepted before");
+    let proved = |sheet: &_, command: &_, out: &mut _, sent: &mut _| {
+        raw::respond_accepted(false, sheet, command, out, sent)
+    };
+    time_command(run, name, sheet, command, pieces, proved, respond_checked);
 }
 
 /// Commands from the last feature on, to many features and to few.
@@ -218,62 +227,26 @@ fn images(run: &Run) {
             let (name, command) = (format!("{name}, {asked}"), command(rt, sfn, 65_535));
             let pieces = pieces.filter(|_| rt < 2);
             time_accepted(run, &format!("command to {name}"), sheet, command, pieces);
-            time_image(run, &format!("command to the image of {name}"), &image, command, pieces);
+            let name = format!("command to the image of {name}, image accepted before");
+            let (proved, plain) = (raw::respond_image_accepted, rom::respond_checked);
+            time_command(run, name, &image, command, pieces, proved, plain);
         }
-        time_checked_image(
-            run,
-            &format!("command to the image of {name}, RT 0"),
+        let whole = format!("command to the image of {name}, RT 0, image checked");
+        time_command(run, whole, &image, command(0, 0, 65_535), None, raw::respond_image, rom::respond);
+        run.time(Case::new(
+            format!("check of the image of {name}"),
             &image,
-            command(0, 0, 65_535),
-        );
-        run.time(Case {
-            name: format!("check of the image of {name}"),
-            input: &image,
-            room: 0,
-            bytes: image.len(),
-            pieces: None,
-            proved: Box::new(|image, _| {
-                told_by(|check: &mut raw::Check| raw::check_image(image, check), |check| check.place)
-            }),
-            plain: Box::new(|image, _| {
-                let (number, place) = told(&rom::check(image));
-                usize::from(number) + place
-            }),
-        });
+            0,
+            |image, _| told_by(|check: &mut raw::Check| raw::check_image(image, check), |check| check.place),
+            |image, _| refused(rom::check(image)),
+        ));
     }
 }
 
-/// Times a command to an image that was accepted before.
-fn time_image(run: &Run, name: &str, image: &[u8], command: [u8; 10], pieces: Option<usize>) {
-    run.time(Case {
-        name: format!("{name}, image accepted before"),
-        input: image,
-        room: MOST,
-        bytes: rom::respond(image, &command, &mut vec![0; MOST]).unwrap_or(0),
-        pieces,
-        proved: Box::new(|image, out| {
-            told_by(
-                |sent: &mut raw::Made| raw::respond_image_accepted(image, &command, out, sent),
-                |sent| sent.bytes,
-            )
-        }),
-        plain: Box::new(|image, out| rom::respond_checked(image, &command, out).unwrap_or(0)),
-    });
-}
-
-/// Times a command to an image that is checked.
-fn time_checked_image(run: &Run, name: &str, image: &[u8], command: [u8; 10]) {
-    run.time(Case {
-        name: format!("{name}, image checked"),
-        input: image,
-        room: MOST,
-        bytes: rom::respond(image, &command, &mut vec![0; MOST]).unwrap_or(0),
-        pieces: None,
-        proved: Box::new(|image, out| {
-            told_by(|sent: &mut raw::Made| raw::respond_image(image, &command, out, sent), |sent| sent.bytes)
-        }),
-        plain: Box::new(|image, out| rom::respond(image, &command, out).unwrap_or(0)),
-    });
+/// The number and the place of a refusal, added up; 0 where there is none.
+fn refused(checked: Result<(), Refusal>) -> usize {
+    let (number, place) = told(&checked);
+    usize::from(number) + place
 }
 
 /// Checks of sheets, which read the contents and the profiles.
@@ -286,21 +259,30 @@ fn checks_of_sheets(run: &Run) {
         ("17,039,356 bytes", longest()),
     ];
     for (name, sheet) in &sheets {
-        run.time(Case {
-            name: format!("check of a sheet, {name}"),
-            input: sheet,
-            room: 0,
-            bytes: 4 + 8 * usize::from(u16::from_be_bytes([sheet[0], sheet[1]])) + 4 * usize::from(sheet[3]),
-            pieces: None,
-            proved: Box::new(|sheet, _| {
-                told_by(|check: &mut raw::Check| raw::check_sheet(false, sheet, check), |check| check.place)
-            }),
-            plain: Box::new(|sheet, _| {
-                let (number, place) = told(&check(sheet));
-                usize::from(number) + place
-            }),
-        });
+        time_check(run, format!("check of a sheet, {name}"), Layout::Rows, sheet, check);
     }
+}
+
+/// Times the check of a sheet that is given in rows, in a layout.
+fn time_check(
+    run: &Run,
+    name: String,
+    layout: Layout,
+    rows: &[u8],
+    plain: impl Fn(&[u8]) -> Result<(), Refusal>,
+) {
+    let (sheet, laid) = (rearranged(layout, Layout::Rows, rows), layout == Layout::Columns);
+    let case = Case::new(
+        name,
+        &sheet,
+        0,
+        |sheet, _| {
+            told_by(|check: &mut raw::Check| raw::check_sheet(laid, sheet, check), |check| check.place)
+        },
+        |sheet, _| refused(plain(sheet)),
+    );
+    let bytes = 4 + 8 * usize::from(u16::from_be_bytes([rows[0], rows[1]])) + 4 * usize::from(rows[3]);
+    run.time(Case { bytes, ..case });
 }
 
 /// Readings of 65,534 bytes with long bodies, with small ones and with none.
@@ -309,74 +291,89 @@ fn readings(run: &Run) {
         [("bodies of 252 bytes", 257, 252), ("bodies of 4 bytes", 8_192, 4), ("no bodies", 16_384, 0)]
     {
         let parts: Vec<Part> = (0..count).map(|number| (number, 3, body(length))).collect();
-        run.time(Case {
-            name: format!("reading of 65,534 bytes, {name}"),
-            input: &response_of(0x0012, &parts)[..MOST],
-            room: 0,
-            bytes: MOST,
-            pieces: None,
-            proved: Box::new(|response, _| {
+        run.time(Case::new(
+            format!("reading of 65,534 bytes, {name}"),
+            &response_of(0x0012, &parts)[..MOST],
+            0,
+            |response, _| {
                 told_by(
                     |reading: &mut raw::Reading| raw::read(0, gcf::Feature(0), response, reading),
                     |reading| reading.count,
                 )
-            }),
-            plain: Box::new(|response, _| read(0, Feature(0), response, None).count),
-        });
+            },
+            |response, _| read(0, Feature(0), response, None).count,
+        ));
     }
 }
 
 /// Bench sweeps of 65,535 features without bodies, with long responses and with short ones, with a response buffer
 /// that is as long as the longest response and longer than these, and with a command for each feature.
 fn sweeps(run: &Run) {
-    let sheet = every_feature();
+    let rows = &every_feature();
     for rt in 0..2 {
         for allocation in [65_535, 1_000, 20] {
             let name = format!("bench sweep of 65,535 features, RT {rt}, allocation length {allocation}");
-            time_sweep(run, &name, &sheet, rt, allocation, MOST.min(usize::from(allocation)));
+            let room = MOST.min(usize::from(allocation));
+            time_sweep(run, name, Swept { rows, rt, allocation, room }, Layout::Rows, bench);
         }
     }
     for allocation in [1_000, 20] {
         let name =
             format!("bench sweep of 65,535 features, RT 0, allocation length {allocation}, long buffer");
-        time_sweep(run, &name, &sheet, 0, allocation, MOST);
+        time_sweep(run, name, Swept { rows, rt: 0, allocation, room: MOST }, Layout::Rows, bench);
     }
     // A descriptor to a response: as many commands as there can be.
     let parts: Vec<Part> = (1..=65_535).map(|number| (number, 1, Vec::new())).collect();
-    let current = sheet_of(&profiles(0, 0), &parts);
+    let rows = &sheet_of(&profiles(0, 0), &parts);
     for rt in 0..2 {
         let name = format!("bench sweep of 65,535 current features, RT {rt}, allocation length 12");
-        time_sweep(run, &name, &current, rt, 12, 12);
+        time_sweep(run, name, Swept { rows, rt, allocation: 12, room: 12 }, Layout::Rows, bench);
     }
-    let name = "bench sweep of 4,000 features of 4 bytes, RT 0, allocation length 1000";
-    time_sweep(run, name, &small_bodies(), 0, 1_000, 1_000);
+    let name = "bench sweep of 4,000 features of 4 bytes, RT 0, allocation length 1000".to_string();
+    let small = Swept { rows: &small_bodies(), rt: 0, allocation: 1_000, room: 1_000 };
+    time_sweep(run, name, small, Layout::Rows, bench);
 }
 
-/// Times a bench sweep with a response buffer of a length; what is collected is written behind it.
-fn time_sweep(run: &Run, name: &str, sheet: &[u8], rt: u8, allocation: u16, room: usize) {
+/// What is swept: a sheet in rows, with a response buffer of a length.
+struct Swept<'a> {
+    rows: &'a [u8],
+    rt: u8,
+    allocation: u16,
+    room: usize,
+}
+
+/// Times a bench sweep in a layout; what is collected is written behind the response.
+fn time_sweep(
+    run: &Run,
+    name: String,
+    swept: Swept,
+    layout: Layout,
+    plain: impl Fn(&[u8], u8, u16, Buffers) -> Result<Outcome, Refusal>,
+) {
+    let Swept { rows, rt, allocation, room } = swept;
+    let (sheet, laid) = (rearranged(layout, Layout::Rows, rows), layout == Layout::Columns);
     let (mut starts, mut other_starts) = (vec![0; 65_536], vec![0; 65_536]);
-    let bytes = sent_in_full(sheet, rt);
-    run.time(Case {
-        name: name.to_string(),
-        input: sheet,
-        room: room + bytes,
-        bytes,
-        pieces: None,
-        proved: Box::new(move |sheet, out| {
+    let bytes = sent_in_full(rows, rt);
+    let case = Case::new(
+        name,
+        &sheet,
+        room + bytes,
+        move |sheet, out| {
             let (response, collected) = out.split_at_mut(room);
             told_by(
                 |swept: &mut raw::Swept| {
-                    raw::bench(false, sheet, rt, allocation, response, collected, &mut starts, swept)
+                    raw::bench(laid, sheet, rt, allocation, response, collected, &mut starts, swept)
                 },
                 |swept| swept.commands,
             )
-        }),
-        plain: Box::new(move |sheet, out| {
+        },
+        move |sheet, out| {
             let (response, collected) = out.split_at_mut(room);
-            let outcome = bench(sheet, rt, allocation, response, collected, &mut other_starts);
+            let outcome = plain(sheet, rt, allocation, Buffers::new(response, collected, &mut other_starts));
             outcome.map_or(0, |outcome| outcome.commands)
-        }),
-    });
+        },
+    );
+    run.time(Case { bytes, ..case });
 }
 
 /// Sheets in columns that are timed in rows too: a command from the last feature, the check, a bench sweep.
@@ -386,56 +383,36 @@ fn sheets_in_columns(run: &Run) {
     let sheet = rearranged(Layout::Columns, Layout::Rows, &rows);
     for rt in 0..2 {
         let name = format!("command from the last of 65535 features, RT {rt}");
-        time_accepted_in_columns(run, &name, &rows, &sheet, command(rt, 65_535, 65_535));
+        time_accepted_in_columns(run, &name, &sheet, command(rt, 65_535, 65_535));
     }
     for (name, rows) in [("4,000 features of 4 bytes", small_bodies()), ("65,535 features", every_feature())]
     {
         let sheet = rearranged(Layout::Columns, Layout::Rows, &rows);
         for (rt, allocation) in [(0, 65_535), (1, 65_535), (1, 20)] {
             let name = format!("command to {name}, RT {rt}, allocation length {allocation}");
-            time_accepted_in_columns(run, &name, &rows, &sheet, command(rt, 0, allocation));
+            time_accepted_in_columns(run, &name, &sheet, command(rt, 0, allocation));
         }
     }
     for (name, rows) in [("4,000 features of 4 bytes", small_bodies()), ("17,039,356 bytes", longest())] {
-        run.time(Case {
-            name: format!("check of a sheet, {name}, in columns"),
-            input: &rearranged(Layout::Columns, Layout::Rows, &rows),
-            room: 0,
-            bytes: 4 + 8 * usize::from(u16::from_be_bytes([rows[0], rows[1]])) + 4 * usize::from(rows[3]),
-            pieces: None,
-            proved: Box::new(|sheet, _| {
-                told_by(|check: &mut raw::Check| raw::check_sheet(true, sheet, check), |check| check.place)
-            }),
-            plain: Box::new(|sheet, _| {
-                let (number, place) = told(&columns::check(sheet));
-                usize::from(number) + place
-            }),
-        });
+        let name = format!("check of a sheet, {name}, in columns");
+        time_check(run, name, Layout::Columns, &rows, columns::check);
     }
     searches(run);
-    let rows = every_feature();
-    let sheet = rearranged(Layout::Columns, Layout::Rows, &rows);
+    let rows = &every_feature();
     for rt in 0..2 {
-        time_sweep_in_columns(run, &sheet, rt, 1_000, sent_in_full(&rows, rt));
+        let name = format!("bench sweep of 65,535 features, RT {rt}, allocation length 1000, in columns");
+        let swept = Swept { rows, rt, allocation: 1_000, room: 1_000 };
+        time_sweep(run, name, swept, Layout::Columns, columns::bench);
     }
 }
 
 /// Times a command to a sheet in columns that was accepted before.
-fn time_accepted_in_columns(run: &Run, name: &str, rows: &[u8], sheet: &[u8], command: [u8; 10]) {
-    run.time(Case {
-        name: format!("{name}, sheet accepted before, in columns"),
-        input: sheet,
-        room: MOST,
-        bytes: respond(rows, &command, &mut vec![0; MOST]).unwrap_or(0),
-        pieces: None,
-        proved: Box::new(move |sheet, out| {
-            told_by(
-                |sent: &mut raw::Made| raw::respond_accepted(true, sheet, &command, out, sent),
-                |sent| sent.bytes,
-            )
-        }),
-        plain: Box::new(move |sheet, out| columns::respond_checked(sheet, &command, out).unwrap_or(0)),
-    });
+fn time_accepted_in_columns(run: &Run, name: &str, sheet: &[u8], command: [u8; 10]) {
+    let name = format!("{name}, sheet accepted before, in columns");
+    let proved = |sheet: &_, command: &_, out: &mut _, sent: &mut _| {
+        raw::respond_accepted(true, sheet, command, out, sent)
+    };
+    time_command(run, name, sheet, command, None, proved, columns::respond_checked);
 }
 
 /// The search for one feature that is not there, another one each time, in rows and in columns; there is little else to these commands.
@@ -446,21 +423,21 @@ fn searches(run: &Run) {
         [("", Layout::Rows, respond_checked), (", in columns", Layout::Columns, columns::respond_checked)];
     for (where_it_stands, layout, plain) in sides {
         let (mut turn, mut other_turn) = (0, 0);
-        run.time(Case {
-            name: format!("search among 32,767 features, RT 2{where_it_stands}"),
-            input: &rearranged(layout, Layout::Rows, &rows),
-            room: MOST,
-            bytes: 8,
-            pieces: None,
-            proved: Box::new(move |sheet, out| {
+        let sheet = rearranged(layout, Layout::Rows, &rows);
+        let case = Case::new(
+            format!("search among 32,767 features, RT 2{where_it_stands}"),
+            &sheet,
+            MOST,
+            |sheet, out| {
                 let (laid, command) = (layout == Layout::Columns, odd_one(&mut turn));
                 told_by(
                     |sent: &mut raw::Made| raw::respond_accepted(laid, sheet, &command, out, sent),
                     |sent| sent.bytes,
                 )
-            }),
-            plain: Box::new(move |sheet, out| plain(sheet, &odd_one(&mut other_turn), out).unwrap_or(0)),
-        });
+            },
+            |sheet, out| plain(sheet, &odd_one(&mut other_turn), out).unwrap_or(0),
+        );
+        run.time(Case { bytes: 8, ..case });
     }
 }
 
@@ -468,33 +445,6 @@ fn searches(run: &Run) {
 fn odd_one(turn: &mut u16) -> [u8; 10] {
     *turn = turn.wrapping_add(40_502);
     command(2, *turn | 1, 65_535)
-}
-
-/// Times a bench sweep of 65,535 features in columns that collects so many bytes.
-fn time_sweep_in_columns(run: &Run, sheet: &[u8], rt: u8, allocation: u16, bytes: usize) {
-    let (mut starts, mut other_starts) = (vec![0; 65_536], vec![0; 65_536]);
-    let room = usize::from(allocation);
-    run.time(Case {
-        name: format!("bench sweep of 65,535 features, RT {rt}, allocation length {allocation}, in columns"),
-        input: sheet,
-        room: room + bytes,
-        bytes,
-        pieces: None,
-        proved: Box::new(move |sheet, out| {
-            let (response, collected) = out.split_at_mut(room);
-            told_by(
-                |swept: &mut raw::Swept| {
-                    raw::bench(true, sheet, rt, allocation, response, collected, &mut starts, swept)
-                },
-                |swept| swept.commands,
-            )
-        }),
-        plain: Box::new(move |sheet, out| {
-            let (response, collected) = out.split_at_mut(room);
-            let outcome = columns::bench(sheet, rt, allocation, response, collected, &mut other_starts);
-            outcome.map_or(0, |outcome| outcome.commands)
-        }),
-    });
 }
 
 /// Media loaded: into sheet E, into 63 profiles, and into 65,535 features, of which all, each second and none are listed.
@@ -521,24 +471,33 @@ fn time_load(run: &Run, name: &str, rows: &[u8], features: &[u16], profiles: &[u
         features.iter().map(|&number| Feature(number)).collect(),
         profiles.iter().map(|&number| Profile(number)).collect(),
     );
+    let medium = Medium { features: &plain_features, profiles: &plain_profiles };
     for (where_it_stands, layout, plain) in sides {
-        run.time(Case {
-            name: format!("{name}{where_it_stands}"),
-            input: &rearranged(layout, Layout::Rows, rows),
-            room: rows.len(),
-            bytes: rows.len(),
-            pieces: None,
-            proved: Box::new(|sheet, out| {
-                let (laid, features, profiles) =
-                    (layout == Layout::Columns, &proved_features, &proved_profiles);
-                told_by(
-                    |made: &mut raw::Made| raw::load(laid, sheet, features, profiles, out, made),
-                    |made| made.bytes,
-                )
-            }),
-            plain: Box::new(|sheet, out| plain(sheet, &plain_features, &plain_profiles, out).unwrap_or(0)),
-        });
+        let name = format!("{name}{where_it_stands}");
+        let proved = |laid: bool, sheet: &[u8], out: &mut [u8], made: &mut raw::Made| {
+            raw::load(laid, sheet, &proved_features, &proved_profiles, out, made)
+        };
+        time_making(run, name, layout, rows, proved, |sheet, out| plain(sheet, medium, out));
     }
+}
+
+/// Times the making of a sheet out of another one, which is given in rows, in a layout.
+fn time_making(
+    run: &Run,
+    name: String,
+    layout: Layout,
+    rows: &[u8],
+    proved: impl Fn(bool, &[u8], &mut [u8], &mut raw::Made) -> u8,
+    plain: impl Fn(&[u8], &mut [u8]) -> Result<usize, Refusal>,
+) {
+    let (sheet, laid) = (rearranged(layout, Layout::Rows, rows), layout == Layout::Columns);
+    run.time(Case::new(
+        name,
+        &sheet,
+        rows.len(),
+        |sheet, out| told_by(|made: &mut raw::Made| proved(laid, sheet, out, made), |made| made.bytes),
+        |sheet, out| plain(sheet, out).unwrap_or(0),
+    ));
 }
 
 /// Responses mended: clean ones, and ones with a stray bit in each descriptor's flags and in each body that has a rule.
@@ -559,27 +518,25 @@ fn mendings(run: &Run) {
     ];
     for (name, response) in &responses {
         let (mut list, mut other) = (vec![0; response.len()], vec![0; response.len()]);
-        run.time(Case {
-            name: format!("mending, {name}"),
-            input: response,
-            room: response.len(),
-            bytes: response.len(),
-            pieces: None,
-            proved: Box::new(move |response, out| {
+        run.time(Case::new(
+            format!("mending, {name}"),
+            response,
+            response.len(),
+            move |response, out| {
                 told_by(
                     |mended: &mut raw::Mended| raw::mend(response, out, &mut list, mended),
                     |mended| mended.changes,
                 )
-            }),
-            plain: Box::new(move |response, out| mend(response, out, &mut other).map_or(0, |made| made.1)),
-        });
+            },
+            move |response, out| mend(response, out, &mut other).map_or(0, |made| made.1),
+        ));
     }
 }
 
 /// How many bytes a sweep collects from a sheet.
 fn sent_in_full(sheet: &[u8], rt: u8) -> usize {
     let room = &mut vec![0; 1 << 20];
-    let outcome = bench(sheet, rt, 65_535, &mut vec![0; MOST], room, &mut vec![0; 65_536]);
+    let outcome = bench(sheet, rt, 65_535, Buffers::new(&mut vec![0; MOST], room, &mut vec![0; 65_536]));
     outcome.map_or(0, |outcome| outcome.collected)
 }
 
@@ -592,41 +549,37 @@ fn checks_of_responses(run: &Run) {
         ("65,532 bytes without bodies", long_faultless()),
     ];
     for (name, response) in &responses {
-        run.time(Case {
-            name: format!("check of the descriptors, {name}"),
-            input: response,
-            room: 0,
-            bytes: response.len(),
-            pieces: None,
-            proved: Box::new(|response, _| {
+        run.time(Case::new(
+            format!("check of the descriptors, {name}"),
+            response,
+            0,
+            |response, _| {
                 told_by(
                     |finding: &mut raw::Finding| raw::check_descriptors(response, finding),
                     |finding| finding.feature,
                 )
-            }),
-            plain: Box::new(|response, _| {
+            },
+            |response, _| {
                 let (number, feature) = check_descriptors(response);
                 usize::from(number) + usize::from(feature.0)
-            }),
-        });
+            },
+        ));
         for (profile, said) in [(0x0012, "profile 0012h"), (0x0000, "the archive subset")] {
-            run.time(Case {
-                name: format!("check of {said}, {name}"),
-                input: response,
-                room: 0,
-                bytes: response.len(),
-                pieces: None,
-                proved: Box::new(move |response, _| {
+            run.time(Case::new(
+                format!("check of {said}, {name}"),
+                response,
+                0,
+                move |response, _| {
                     told_by(
                         |said: &mut raw::Judgement| raw::check_profile(gcf::Profile(profile), response, said),
                         |said| said.feature,
                     )
-                }),
-                plain: Box::new(move |response, _| {
+                },
+                move |response, _| {
                     let (number, _, feature) = check_profile(Profile(profile), response).fields();
                     usize::from(number) + usize::from(feature.0)
-                }),
-            });
+                },
+            ));
         }
     }
 }
@@ -647,17 +600,16 @@ fn imports(run: &Run) {
         ("65,532 bytes, no bodies", sent(&no_bodies(), 0, 0, 65_535), None),
     ];
     for (name, capture, pieces) in &captures {
-        run.time(Case {
-            name: format!("import of {name}"),
-            input: capture,
-            room: 2 * MOST,
-            bytes: capture.len(),
-            pieces: *pieces,
-            proved: Box::new(|capture, sheet| {
+        let case = Case::new(
+            format!("import of {name}"),
+            capture,
+            2 * MOST,
+            |capture, sheet| {
                 told_by(|made: &mut raw::Made| raw::import(capture, sheet, made), |made| made.bytes)
-            }),
-            plain: Box::new(|capture, sheet| import(capture, sheet).unwrap_or(0)),
-        });
+            },
+            |capture, sheet| import(capture, sheet).unwrap_or(0),
+        );
+        run.time(Case { pieces: *pieces, ..case });
     }
 }
 
@@ -672,21 +624,10 @@ fn conversions(run: &Run) {
     ];
     for (name, rows) in &sheets {
         for (to, from, plain) in sides {
-            run.time(Case {
-                name: format!("{name} to {to}"),
-                input: &rearranged(from, Layout::Rows, rows),
-                room: rows.len(),
-                bytes: rows.len(),
-                pieces: None,
-                proved: Box::new(move |sheet, out| {
-                    let (laid, to_columns) = (from == Layout::Columns, from == Layout::Rows);
-                    told_by(
-                        |made: &mut raw::Made| raw::convert(laid, sheet, to_columns, out, made),
-                        |made| made.bytes,
-                    )
-                }),
-                plain: Box::new(move |sheet, out| plain(sheet, out).unwrap_or(0)),
-            });
+            let proved = |laid: bool, sheet: &[u8], out: &mut [u8], made: &mut raw::Made| {
+                raw::convert(laid, sheet, !laid, out, made)
+            };
+            time_making(run, format!("{name} to {to}"), from, rows, proved, plain);
         }
     }
 }
@@ -704,21 +645,17 @@ fn read_responses() -> [(&'static str, Vec<u8>); 3] {
 fn searches_in_responses(run: &Run) {
     for (name, response) in &read_responses() {
         for (where_it_is, feature) in [("there", 3), ("nowhere", 65_535)] {
-            run.time(Case {
-                name: format!("a descriptor held, {where_it_is}, {name}"),
-                input: response,
-                room: 256,
-                bytes: response.len(),
-                pieces: None,
-                proved: Box::new(move |response, out| {
-                    raw::held(gcf::Feature(feature), response, response, out)
-                }),
-                plain: Box::new(move |response, out| {
+            run.time(Case::new(
+                format!("a descriptor held, {where_it_is}, {name}"),
+                response,
+                256,
+                move |response, out| raw::held(gcf::Feature(feature), response, response, out),
+                move |response, out| {
                     let found = find(Feature(feature), response, response);
                     out[..found.len()].copy_from_slice(found);
                     found.len()
-                }),
-            });
+                },
+            ));
         }
     }
 }
@@ -726,15 +663,7 @@ fn searches_in_responses(run: &Run) {
 /// Listings of responses.
 fn listings(run: &Run) {
     for (name, response) in &read_responses() {
-        run.time(Case {
-            name: format!("listing of {name}"),
-            input: response,
-            room: 250_000,
-            bytes: response.len(),
-            pieces: None,
-            proved: Box::new(|response, out| raw::list(response, out)),
-            plain: Box::new(|response, out| list(response, out)),
-        });
+        run.time(Case::new(format!("listing of {name}"), response, 250_000, raw::list, list));
     }
 }
 
@@ -744,21 +673,19 @@ fn takings(run: &Run) {
         let allocation = 65_535;
         let begun = raw::sweep_start(0, allocation).sweep;
         let record = Record { allocation, ended: false, ..Record::refused() };
-        run.time(Case {
-            name: format!("sweep takes {name}"),
-            input: response,
-            room: response.len(),
-            bytes: response.len(),
-            pieces: None,
-            proved: Box::new(move |response, out| {
+        run.time(Case::new(
+            format!("sweep takes {name}"),
+            response,
+            response.len(),
+            move |response, out| {
                 let step = raw::sweep_take(begun, response, out);
                 usize::from(step.refusal.number) + step.sweep.collected as usize
-            }),
-            plain: Box::new(move |response, out| {
+            },
+            move |response, out| {
                 let (number, after) = take(record, response, out);
                 usize::from(number) + after.collected
-            }),
-        });
+            },
+        ));
     }
 }
 
@@ -766,52 +693,43 @@ fn takings(run: &Run) {
 fn commands_and_sense(run: &Run) {
     for length in [10, 12] {
         let (rt, sfn, allocation) = (1, 0x0105, 65_534);
-        run.time(Case {
-            name: format!("a command of {length} bytes built"),
-            input: &[],
-            room: length,
-            bytes: length,
-            pieces: None,
-            proved: Box::new(move |_, out| {
+        let case = Case::new(
+            format!("a command of {length} bytes built"),
+            &[],
+            length,
+            move |_, out| {
                 told_by(
                     |made: &mut raw::Made| {
                         raw::build_command(length, rt, gcf::Feature(sfn), allocation, out, made)
                     },
                     |made| made.bytes,
                 )
-            }),
-            plain: Box::new(move |_, out| {
-                Request { rt, sfn: Feature(sfn), allocation }.build(length, out).unwrap_or(0)
-            }),
-        });
+            },
+            move |_, out| Request { rt, sfn: Feature(sfn), allocation }.build(length, out).unwrap_or(0),
+        );
+        run.time(Case { bytes: length, ..case });
     }
     for (name, number) in [("the opcode", 10), ("the sheet", 7)] {
-        let mut made = [0; 18];
+        let (asked, mut made) = ([number], [0; 18]);
         let _ = sense::make(number, &mut made);
-        run.time(Case {
-            name: format!("sense data made for {name}"),
-            input: &[number],
-            room: 18,
-            bytes: 18,
-            pieces: None,
-            proved: Box::new(|number, out| {
+        let case = Case::new(
+            format!("sense data made for {name}"),
+            &asked,
+            18,
+            |number, out| {
                 told_by(|made: &mut raw::Made| raw::make_sense(number[0], out, made), |made| made.bytes)
-            }),
-            plain: Box::new(|number, out| sense::make(number[0], out).unwrap_or(0)),
-        });
-        run.time(Case {
-            name: format!("sense data read for {name}"),
-            input: &made,
-            room: 0,
-            bytes: 18,
-            pieces: None,
-            proved: Box::new(|sense, _| {
-                told_by(
-                    |meaning: &mut raw::Meaning| raw::read_sense(sense, meaning),
-                    |meaning| meaning.kind,
-                )
-            }),
-            plain: Box::new(|sense, _| sense::read(sense).map_or(0, |kind| kind as usize + 1)),
-        });
+            },
+            |number, out| sense::make(number[0], out).unwrap_or(0),
+        );
+        run.time(Case { bytes: 18, ..case });
+        run.time(Case::new(
+            format!("sense data read for {name}"),
+            &made,
+            0,
+            |sense, _| {
+                told_by(|meaning: &mut raw::Meaning| raw::read_sense(sense, meaning), |meaning| meaning.kind)
+            },
+            |sense, _| sense::read(sense).map_or(0, |kind| kind as usize + 1),
+        ));
     }
 }

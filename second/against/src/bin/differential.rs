@@ -75,7 +75,7 @@ fn part(value: &str) -> Option<(usize, usize)> {
 fn try_fixed(kinds: &[&Kind], runs: &mut [Run]) {
     for (kind, run) in kinds.iter().zip(runs) {
         let begun = Instant::now();
-        (kind.fixed)(run);
+        kind.cases.try_fixed(run);
         println!("{}: {} fixed cases in {:.1} s", kind.name, run.cases, begun.elapsed().as_secs_f64());
         say_failure(run);
     }
@@ -90,7 +90,8 @@ fn try_random(kinds: &[&Kind], runs: &mut [Run], options: &Options) {
             break;
         }
         for (index, kind) in kinds.iter().enumerate() {
-            (kind.random)(&mut runs[index], &mut Random::new(options.seed, round, index as u64));
+            let random = &mut Random::new(options.seed, round, index as u64);
+            kind.cases.try_random(&mut runs[index], random);
             say_failure(&runs[index]);
         }
         round += 1;

@@ -7,7 +7,9 @@ use crate::kinds::{
 };
 use crate::run::told;
 use gcf::raw::{self, Told};
+use second::bench::Buffers;
 use second::command::Request;
+use second::load::Medium;
 use second::refusal::Refusal;
 use second::sheet::{Layout, Sheet};
 use second::sweep::Record;
@@ -226,7 +228,8 @@ fn plain(case: &Case, out: &mut [u8]) -> Option<Numbers> {
             let (features, profiles) = lists(second, given[1]);
             let features: Vec<_> = features.into_iter().map(Feature).collect();
             let profiles: Vec<_> = profiles.into_iter().map(Profile).collect();
-            counted(second::load::load(laid, first, &features, &profiles, out))
+            let medium = Medium { features: &features, profiles: &profiles };
+            counted(second::load::load(laid, first, medium, out))
         }
         "build" => {
             let (rt, sfn, allocation) = (given[1] as u8, Feature(given[2] as u16), given[3] as u16);
@@ -287,7 +290,8 @@ fn plain(case: &Case, out: &mut [u8]) -> Option<Numbers> {
             return benched(out, |response, collected, starts| {
                 let laid = layout(given[2]);
                 let (rt, allocation) = (given[0] as u8, given[1] as u16);
-                let end = second::bench::bench(laid, first, rt, allocation, response, collected, starts);
+                let buffers = Buffers::new(response, collected, starts);
+                let end = second::bench::bench(laid, first, rt, allocation, buffers);
                 let (number, place) = told(&end);
                 let (commands, count) = end.map_or((0, 0), |done| (done.commands, done.collected));
                 with(number, &[commands as u64, count as u64, place as u64])

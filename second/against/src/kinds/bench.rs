@@ -1,6 +1,6 @@
 //! gcf_bench.
 
-use super::{columns, laid_as, LAYOUTS, SHEET};
+use super::{columns, laid_as, SHEET};
 use crate::lent::{Given, Memory};
 use crate::made::damage::damage;
 use crate::made::faults::{
@@ -9,16 +9,12 @@ use crate::made::faults::{
 use crate::made::responses::length_to_send;
 use crate::made::sheets::{body, every_feature, longest, profiles, random_sheet, sheet_of, short_sheets, E};
 use crate::random::Random;
-use crate::run::{told, Input, Kind, Run, Told};
+use crate::run::{told, Cases, Input, Kind, Run, Told};
 use gcf::raw;
+use second::bench::Buffers;
 use second::sheet::Layout;
 
-pub const KIND: Kind = Kind {
-    name: "gcf_bench",
-    answers,
-    fixed: |run| LAYOUTS.into_iter().for_each(|layout| fixed(run, layout)),
-    random: |run, made| LAYOUTS.into_iter().for_each(|layout| random(run, layout, made)),
-};
+pub const KIND: Kind = Kind { name: "gcf_bench", answers, cases: Cases::InEachLayout(fixed, random) };
 
 /// The sheet's, the start's, and of a round's those that an accepted sheet's own responses can cause.
 fn answers() -> Vec<u64> {
@@ -66,15 +62,9 @@ fn compare_count(
             told.by(|swept| raw::bench(columns, sheet, rt, allocation, response, collected, starts, swept))
         },
         |memory| {
-            let outcome = second::bench::bench(
-                layout,
-                sheet.plain(),
-                rt,
-                allocation,
-                memory.first.part(),
-                memory.second.part(),
-                memory.starts.part(),
-            );
+            let Memory { first, second, starts, .. } = memory;
+            let buffers = Buffers::new(first.part(), second.part(), starts.part());
+            let outcome = second::bench::bench(layout, sheet.plain(), rt, allocation, buffers);
             let told = told(&outcome);
             let (commands, collected) = outcome.map_or((0, 0), |done| (done.commands, done.collected));
             memory.told.give(&[count(commands) as u64, collected as u64, told.1 as u64]);

@@ -1,17 +1,18 @@
 //! gcf_build_command.
 
-use super::{columns, laid, LAYOUTS};
+use super::{columns, laid};
 use crate::lent::{Given, Memory};
 use crate::made::captures::example;
 use crate::made::sheets::{starts_for, E};
 use crate::random::Random;
-use crate::run::{Input, Kind, Run};
+use crate::run::{Cases, Input, Kind, Run, LAYOUTS};
 use gcf::raw;
 use second::command::Request;
 use second::sheet::Layout;
 use second::wire::Feature;
 
-pub const KIND: Kind = Kind { name: "gcf_build_command", answers: || vec![0, 9, 11, 12], fixed, random };
+pub const KIND: Kind =
+    Kind { name: "gcf_build_command", answers: || vec![0, 9, 11, 12], cases: Cases::Of(fixed, random) };
 
 /// Compares one making.
 fn compare(run: &mut Run, length: usize, request: Request, room: usize) -> u64 {

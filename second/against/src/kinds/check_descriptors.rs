@@ -1,18 +1,17 @@
 //! gcf_check_descriptors.
 
 use super::READING;
-use crate::lent::{Given, Memory};
 use crate::made::damage::damage;
-use crate::made::faults::{each_faulty_response, each_pair, fault, Fault};
+use crate::made::faults::{each_faulty_response, each_pair, fault, Fault, RESPONSE_FAULTS};
 use crate::made::responses::{
-    each_short, long_responses, random_response, random_ruled, response_of, ruled_parts,
+    each_ruled_bit, each_short, long_responses, random_response, random_ruled, response_of, ruled_parts,
 };
-use crate::made::{put32, Part};
+use crate::made::Part;
 use crate::random::Random;
-use crate::run::{Input, Kind, Run};
+use crate::run::{Cases, Kind, Run};
 use gcf::raw;
 
-pub const KIND: Kind = Kind { name: "gcf_check_descriptors", answers, fixed, random };
+pub const KIND: Kind = Kind { name: "gcf_check_descriptors", answers, cases: Cases::Of(fixed, random) };
 
 /// A reading's, 29, and the findings; 38 is not given.
 fn answers() -> Vec<u64> {
@@ -21,17 +20,10 @@ fn answers() -> Vec<u64> {
 
 /// Compares one check.
 fn compare(run: &mut Run, response: &[u8]) -> u64 {
-    let response = Given::new(response);
-    run.compare(
-        &[Input::Bytes("response", &response)],
-        Memory::none(),
-        |memory| u64::from(memory.told.by(|finding| raw::check_descriptors(response.proved(), finding))),
-        |memory| {
-            let (number, feature) = second::checks::check_descriptors(response.plain());
-            memory.told.give(&[u64::from(feature.0)]);
-            u64::from(number)
-        },
-    )
+    run.compare_said("response", response, raw::check_descriptors, |response| {
+        let (number, feature) = second::checks::check_descriptors(response);
+        (number, u64::from(feature.0))
+    })
 }
 
 fn fixed(run: &mut Run) {
@@ -42,7 +34,7 @@ fn fixed(run: &mut Run) {
     each_faulty_response(&mut see);
     each_short(&mut see);
     long_responses().iter().for_each(|response| see(response));
-    each_bit(run);
+    each_ruled_bit(&mut see);
     each_length(run);
     each_version(run);
     each_count_of_link_sizes(run);
@@ -64,11 +56,6 @@ impl Checked {
     }
 }
 
-/// A fault of the response's bytes.
-fn of_bytes(number: u8, damage: fn(&mut Vec<u8>)) -> Fault<Checked> {
-    fault(number, move |checked: &mut Checked| checked.damage.push(damage))
-}
-
 /// A fault of the descriptor of a feature.
 fn of_part(number: u8, feature: u16, bend: impl Fn(&mut Part) + 'static) -> Fault<Checked> {
     fault(number, move |checked: &mut Checked| {
@@ -81,26 +68,13 @@ fn each_two_faults(run: &mut Run) {
     let good = Checked { parts: ruled_parts(), damage: vec![] };
     let answer = compare(run, &good.response());
     run.expect(answer, 0);
-    let mut faults = vec![
-        of_bytes(14, |bytes| bytes.truncate(7)),
-        of_bytes(15, |bytes| bytes[3] |= 1),
-        of_bytes(16, |bytes| put32(bytes, 0, 4)),
-        of_bytes(17, |bytes| bytes[11] |= 1),
-        of_bytes(18, |bytes| {
-            let second = 12 + usize::from(bytes[11]);
-            bytes[second..second + 2].fill(0);
-        }),
-        of_bytes(20, |bytes| {
-            let last = bytes.len() - 5;
-            bytes[last] = 252;
-        }),
-        of_bytes(29, |bytes| {
-            let longer = bytes.len() as u32;
-            put32(bytes, 0, longer);
-        }),
-        fault(30, |checked: &mut Checked| checked.parts.retain(|part| part.0 != 0)),
-        fault(30, |checked: &mut Checked| checked.parts.retain(|part| part.0 != 1)),
-    ];
+    let mut faults: Vec<Fault<Checked>> = Vec::new();
+    for (number, damage) in RESPONSE_FAULTS {
+        faults.push(fault(number, move |checked: &mut Checked| checked.damage.push(damage)));
+    }
+    for feature in 0..2 {
+        faults.push(fault(30, move |checked: &mut Checked| checked.parts.retain(|part| part.0 != feature)));
+    }
     for (feature, _, _) in ruled_parts() {
         part_faults(feature, &mut faults);
     }
@@ -154,22 +128,6 @@ fn part_faults(feature: u16, faults: &mut Vec<Fault<Checked>>) {
     }
     if feature == 0 {
         faults.push(of_part(39, feature, |part| part.2[4..6].fill(0)));
-    }
-}
-
-/// A response of all features that have rules, with each bit flipped; and with each two of some bits.
-fn each_bit(run: &mut Run) {
-    let mut bytes = response_of(0x0012, &ruled_parts());
-    for bit in 0..8 * bytes.len() {
-        bytes[bit / 8] ^= 1 << (bit % 8);
-        compare(run, &bytes);
-        // Persistent is also wrong where 0003h is reported.
-        for other in (0..8 * bytes.len()).step_by(97) {
-            bytes[other / 8] ^= 1 << (other % 8);
-            compare(run, &bytes);
-            bytes[other / 8] ^= 1 << (other % 8);
-        }
-        bytes[bit / 8] ^= 1 << (bit % 8);
     }
 }
 

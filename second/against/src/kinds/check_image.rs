@@ -3,16 +3,17 @@
 use super::IMAGE;
 use crate::lent::{Given, Memory};
 use crate::made::captures::{
-    example, full_sheets, good_import, import_faults, random_capture, short_captures, spoil,
+    example, full_sheets, good_import, import_faults, random_capture, short_captures, spoilt,
 };
-use crate::made::damage::damage;
+use crate::made::damage::each_flip;
 use crate::made::faults::{each_faulty_response, each_pair};
 use crate::made::responses::{each_short, long_responses, random_response, sent};
 use crate::random::Random;
-use crate::run::{told, Input, Kind, Run, Told};
+use crate::run::{told, Cases, Input, Kind, Run, Told};
 use gcf::raw;
 
-pub const KIND: Kind = Kind { name: "gcf_check_image", answers: || IMAGE.to_vec(), fixed, random };
+pub const KIND: Kind =
+    Kind { name: "gcf_check_image", answers: || IMAGE.to_vec(), cases: Cases::Of(fixed, random) };
 
 /// Compares one check, and sees that the proved import refuses alike, with room enough.
 fn compare(run: &mut Run, image: &[u8]) -> Told {
@@ -55,19 +56,9 @@ fn fixed(run: &mut Run) {
         for cut in 0..=image.len() {
             see(&image[..cut]);
         }
-        each_bit(&image, &mut see);
+        each_flip(&mut image.clone(), 1, |image| see(image));
     }
     each_two_bits(&mut see);
-}
-
-/// An image with each bit flipped.
-fn each_bit(image: &[u8], see: &mut dyn FnMut(&[u8])) {
-    let mut bytes = image.to_vec();
-    for bit in 0..8 * bytes.len() {
-        bytes[bit / 8] ^= 1 << (bit % 8);
-        see(&bytes);
-        bytes[bit / 8] ^= 1 << (bit % 8);
-    }
 }
 
 /// E's image with each two bits flipped.
@@ -90,15 +81,7 @@ fn random(run: &mut Run, random: &mut Random) {
     let told = compare(run, &image);
     run.expect_told(told, (0, 0));
     for _ in 0..6 {
-        let mut bytes = image.clone();
-        if random.once_in(3) {
-            damage(random, &mut bytes);
-        } else {
-            for _ in 0..=random.below(3) {
-                spoil(random, &mut bytes);
-            }
-        }
-        compare(run, &bytes);
+        compare(run, &spoilt(random, &image));
     }
     compare(run, &random_response(random, 0).bytes);
 }

@@ -10,11 +10,11 @@ use crate::made::responses::{
 use crate::made::sheets::E;
 use crate::made::Part;
 use crate::random::Random;
-use crate::run::{Input, Kind, Run};
+use crate::run::{Cases, Input, Kind, Run};
 use gcf::raw;
 use second::wire::Profile;
 
-pub const KIND: Kind = Kind { name: "gcf_check_profile", answers, fixed, random };
+pub const KIND: Kind = Kind { name: "gcf_check_profile", answers, cases: Cases::Of(fixed, random) };
 
 /// A reading's, 29 and 40.
 fn answers() -> Vec<u64> {

@@ -1,23 +1,19 @@
 //! gcf_check_sheet.
 
-use super::{columns, laid, LAYOUTS, SHEET};
+use super::{columns, laid, SHEET};
 use crate::lent::{Given, Memory};
 use crate::made::damage::damage;
 use crate::made::faults::{each_last_fault, each_pair, good_sheet, sheet_faults, FLAG_FAULTS};
 use crate::made::put16;
 use crate::made::sheets::{longest, profiles, random_sheet, sheet_of, short_sheets, E, LONGEST};
 use crate::random::Random;
-use crate::run::{told, Input, Kind, Run, Told};
+use crate::run::{told, Cases, Input, Kind, Run, Told};
 use gcf::raw;
 use second::sheet::Layout;
 use second::wire::be16;
 
-pub const KIND: Kind = Kind {
-    name: "gcf_check_sheet",
-    answers: || SHEET.to_vec(),
-    fixed: |run| LAYOUTS.into_iter().for_each(|layout| fixed(run, layout)),
-    random: |run, made| LAYOUTS.into_iter().for_each(|layout| random(run, layout, made)),
-};
+pub const KIND: Kind =
+    Kind { name: "gcf_check_sheet", answers: || SHEET.to_vec(), cases: Cases::InEachLayout(fixed, random) };
 
 /// Compares one check of a sheet in rows, as it stands in a layout.
 fn compare(run: &mut Run, layout: Layout, sheet: &[u8]) -> Told {

@@ -11,12 +11,26 @@ use crate::made::sheets::{
 };
 use crate::made::Part;
 use crate::random::Random;
-use crate::run::{Run, Told};
+use crate::run::{Input, Run, Told};
 use second::command::Request;
+use second::sheet::Layout;
 use second::wire::Feature;
 
 /// Compares one command: sheet or image, command, room for the response.
-pub type Compare = fn(&mut Run, &Given, &[u8], usize) -> Told;
+pub type Compare<'a> = &'a dyn Fn(&mut Run, &Given, &[u8], usize) -> Told;
+
+/// Compares one command to a sheet, which is given in rows, in a layout.
+pub fn in_layout(
+    layout: Layout,
+    compare: fn(&mut Run, Layout, &Given, &[u8], usize) -> Told,
+) -> impl Fn(&mut Run, &Given, &[u8], usize) -> Told {
+    move |run, sheet, command, room| compare(run, layout, sheet, command, room)
+}
+
+/// The inputs of a command to a sheet or an image.
+pub fn inputs<'a>(asked: &'static str, bytes: &'a Given, command: &'a Given, room: usize) -> [Input<'a>; 3] {
+    [Input::Bytes(asked, bytes), Input::Bytes("command", command), Input::Number("room", room as u64)]
+}
 
 /// A command's bytes.
 pub fn command(rt: u8, sfn: u16, allocation: u16) -> [u8; 10] {
@@ -25,28 +39,29 @@ pub fn command(rt: u8, sfn: u16, allocation: u16) -> [u8; 10] {
 
 /// Every command, with all that is the same in every run.
 pub fn fixed(run: &mut Run, compare: Compare) {
-    each_allocation(run, compare);
-    each_two_faults(run, compare);
+    each_allocation(run, compare, short_sheets(), |sheet| starts_for(sheet, 4), length_to_send);
+    each_two_faults(run, compare, good_sheet(), |sheet| sheet, some_sheet_faults(), 100);
     commands_that_are_none(run, compare, &Given::new(&E));
     around_the_return_limit(run, compare);
     at_the_limit(run, compare);
 }
 
-/// Each allocation length up to 9 above the full length, with each RT and several SFNs.
-fn each_allocation(run: &mut Run, compare: Compare) {
-    for sheet in short_sheets() {
-        let given = Given::new(&sheet);
+/// Each allocation length up to 9 above the full length, with each RT and several SFNs, for short sheets or images.
+pub fn each_allocation(
+    run: &mut Run,
+    compare: Compare,
+    short: Vec<Vec<u8>>,
+    starts: fn(&[u8]) -> Vec<u16>,
+    full: fn(&[u8], u8, u16) -> usize,
+) {
+    for asked in short {
+        let given = Given::new(&asked);
         for rt in 0..3 {
-            for sfn in starts_for(&sheet, 4) {
-                let full = length_to_send(&sheet, rt, sfn);
+            for sfn in starts(&asked) {
+                let full = full(&asked, rt, sfn);
                 for allocation in 0..=full + 9 {
-                    each_room(
-                        run,
-                        compare,
-                        &given,
-                        &command(rt, sfn, allocation as u16),
-                        allocation.min(full),
-                    );
+                    let command = command(rt, sfn, allocation as u16);
+                    each_room(run, compare, &given, &command, allocation.min(full));
                 }
             }
         }
@@ -62,32 +77,40 @@ pub fn each_room(run: &mut Run, compare: Compare, asked: &Given, command: &[u8],
     }
 }
 
-/// A sheet, a command and the room for its response.
+/// A sheet or an image, a command to it and the room for its response.
 #[derive(Clone)]
-struct Asked {
-    sheet: Vec<u8>,
+struct Asked<T> {
+    of: T,
     command: Vec<u8>,
     room: usize,
 }
 
-/// Each two faults of sheet, command and buffer.
-fn each_two_faults(run: &mut Run, compare: Compare) {
-    let mut faults: Vec<Fault<Asked>> = Vec::new();
-    for of_sheet in some_sheet_faults() {
-        faults.push(fault_at(of_sheet.told, move |asked: &mut Asked| of_sheet.make(&mut asked.sheet)));
+/// Each two faults of the sheet or the image, of the command and of the buffer, for a good one that sends more than so many bytes.
+pub fn each_two_faults<T: Clone + 'static>(
+    run: &mut Run,
+    compare: Compare,
+    good: T,
+    bytes: fn(&T) -> &[u8],
+    faults: Vec<Fault<T>>,
+    sent: u16,
+) {
+    let mut all: Vec<Fault<Asked<T>>> = Vec::new();
+    for first in faults {
+        all.push(fault_at(first.told, move |asked: &mut Asked<T>| first.make(&mut asked.of)));
     }
-    faults.push(fault(9, |asked: &mut Asked| asked.command.truncate(0)));
-    faults.push(fault(9, |asked: &mut Asked| asked.command.truncate(9)));
-    faults.push(fault(9, |asked: &mut Asked| asked.command.push(0)));
-    faults.push(fault(9, |asked: &mut Asked| asked.command.resize(13, 0)));
-    faults.push(fault(10, |asked: &mut Asked| asked.command[0] = 0x47));
-    faults.push(fault(10, |asked: &mut Asked| asked.command[0] = 0));
-    faults.push(fault(11, |asked: &mut Asked| asked.command[1] |= 3));
-    faults.push(fault(12, |asked: &mut Asked| asked.room = 0));
-    faults.push(fault(12, |asked: &mut Asked| asked.room = 99));
-    let good = Asked { sheet: good_sheet(), command: command(0, 0, 100).to_vec(), room: 100 };
-    each_pair(&good, &faults, &mut |asked, wanted| {
-        let told = compare(run, &Given::new(&asked.sheet), &asked.command, asked.room);
+    let room = usize::from(sent);
+    all.push(fault(9, |asked: &mut Asked<T>| asked.command.truncate(0)));
+    all.push(fault(9, |asked: &mut Asked<T>| asked.command.truncate(9)));
+    all.push(fault(9, |asked: &mut Asked<T>| asked.command.push(0)));
+    all.push(fault(9, |asked: &mut Asked<T>| asked.command.resize(13, 0)));
+    all.push(fault(10, |asked: &mut Asked<T>| asked.command[0] = 0x47));
+    all.push(fault(10, |asked: &mut Asked<T>| asked.command[0] = 0));
+    all.push(fault(11, |asked: &mut Asked<T>| asked.command[1] |= 3));
+    all.push(fault(12, |asked: &mut Asked<T>| asked.room = 0));
+    all.push(fault(12, move |asked: &mut Asked<T>| asked.room = room - 1));
+    let good = Asked { of: good, command: command(0, 0, sent).to_vec(), room };
+    each_pair(&good, &all, &mut |asked, wanted| {
+        let told = compare(run, &Given::new(bytes(&asked.of)), &asked.command, asked.room);
         run.expect_told(told, wanted);
     });
 }

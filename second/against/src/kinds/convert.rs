@@ -1,21 +1,16 @@
 //! gcf_convert.
 
-use super::{columns, laid, LAYOUTS, SHEET};
+use super::{columns, laid, SHEET};
 use crate::lent::{Given, Memory};
 use crate::made::damage::damage;
 use crate::made::faults::{each_last_fault, each_pair, fault, fault_at, good_sheet, sheet_faults, Fault};
 use crate::made::sheets::{every_feature, longest, random_sheet, short_sheets};
 use crate::random::Random;
-use crate::run::{told, Input, Kind, Run, Told};
+use crate::run::{tell_made, Cases, Input, Kind, Run, Told};
 use gcf::raw;
 use second::sheet::Layout;
 
-pub const KIND: Kind = Kind {
-    name: "gcf_convert",
-    answers,
-    fixed: |run| LAYOUTS.into_iter().for_each(|layout| fixed(run, layout)),
-    random: |run, made| LAYOUTS.into_iter().for_each(|layout| random(run, layout, made)),
-};
+pub const KIND: Kind = Kind { name: "gcf_convert", answers, cases: Cases::InEachLayout(fixed, random) };
 
 /// The sheet's, and 42.
 fn answers() -> Vec<u64> {
@@ -47,9 +42,7 @@ fn compare_to(run: &mut Run, layout: Layout, to: Layout, rows: &[u8], room: usiz
         },
         |memory| {
             let made = second::convert::convert(to, layout, sheet.plain(), memory.first.part());
-            let told = told(&made);
-            memory.told.give(&[made.unwrap_or(0) as u64, told.1 as u64]);
-            told
+            tell_made(memory, made)
         },
     )
 }

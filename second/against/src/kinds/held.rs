@@ -7,12 +7,13 @@ use crate::made::responses::{each_short, long_responses, random_response, respon
 use crate::made::sheets::{body, E};
 use crate::made::Part;
 use crate::random::Random;
-use crate::run::{Input, Kind, Run};
+use crate::run::{Cases, Input, Kind, Run};
 use gcf::raw;
 use second::wire::Feature;
 
 /// It answers how many bytes it wrote.
-pub const KIND: Kind = Kind { name: "gcf_held", answers: || (0..=256).collect(), fixed, random };
+pub const KIND: Kind =
+    Kind { name: "gcf_held", answers: || (0..=256).collect(), cases: Cases::Of(fixed, random) };
 
 /// Compares one search.
 fn compare(run: &mut Run, feature: u16, fresh: &Given, kept: &Given, room: usize) -> u64 {

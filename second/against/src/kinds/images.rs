@@ -1,14 +1,14 @@
 //! Commands to an image, for the two functions that answer one, and the same commands to image and imported sheet.
 
 use super::columns;
-use super::commands::{command, commands_that_are_none, each_room, made_up_commands, Compare};
+use super::commands::{
+    command, commands_that_are_none, each_allocation, each_room, each_two_faults, made_up_commands, Compare,
+};
 use crate::lent::Given;
 use crate::made::captures::{
     example, full_sheets, good_import, import_faults, random_capture, short_captures, spoil, starts_of,
-    Import,
 };
 use crate::made::damage::damage;
-use crate::made::faults::{each_pair, fault, fault_at, Fault};
 use crate::made::responses::{sent, MOST};
 use crate::random::Random;
 use crate::run::{Input, Run};
@@ -22,60 +22,15 @@ fn length_to_send(image: &[u8], rt: u8, sfn: u16) -> usize {
 
 /// Every command, with all that is the same in every run.
 pub fn fixed(run: &mut Run, compare: Compare) {
-    each_allocation(run, compare);
-    each_two_faults(run, compare);
+    each_allocation(run, compare, short_captures(), |image| starts_of(image, 4), length_to_send);
+    // An image needs no room for a sheet, so that there is no 42.
+    let mut faults = import_faults();
+    faults.retain(|fault| fault.told.0 != 42);
+    each_two_faults(run, compare, good_import(), |import| &import.capture, faults, 40);
     commands_that_are_none(run, compare, &Given::new(&example()));
     the_longest(run, compare);
     each_spoilt(run, compare);
     short_ones(run, compare);
-}
-
-/// Each allocation length up to 9 above the full length, with each RT and several SFNs.
-fn each_allocation(run: &mut Run, compare: Compare) {
-    for image in short_captures() {
-        let given = Given::new(&image);
-        for rt in 0..3 {
-            for sfn in starts_of(&image, 4) {
-                let full = length_to_send(&image, rt, sfn);
-                for allocation in 0..=full + 9 {
-                    let command = command(rt, sfn, allocation as u16);
-                    each_room(run, compare, &given, &command, allocation.min(full));
-                }
-            }
-        }
-    }
-}
-
-/// An image, a command and the room for its response.
-#[derive(Clone)]
-struct Asked {
-    import: Import,
-    command: Vec<u8>,
-    room: usize,
-}
-
-/// Each two faults of image, command and buffer; an image needs no room for a sheet, so that there is no 42.
-fn each_two_faults(run: &mut Run, compare: Compare) {
-    let mut faults: Vec<Fault<Asked>> = Vec::new();
-    for of_image in import_faults() {
-        let told = of_image.told;
-        if told.0 != 42 {
-            faults.push(fault_at(told, move |asked: &mut Asked| of_image.make(&mut asked.import)));
-        }
-    }
-    faults.push(fault(9, |asked: &mut Asked| asked.command.truncate(0)));
-    faults.push(fault(9, |asked: &mut Asked| asked.command.truncate(9)));
-    faults.push(fault(9, |asked: &mut Asked| asked.command.push(0)));
-    faults.push(fault(10, |asked: &mut Asked| asked.command[0] = 0x47));
-    faults.push(fault(11, |asked: &mut Asked| asked.command[1] |= 3));
-    faults.push(fault(12, |asked: &mut Asked| asked.room = 0));
-    faults.push(fault(12, |asked: &mut Asked| asked.room = 39));
-    let good = Asked { import: good_import(), command: command(0, 0, 40).to_vec(), room: 40 };
-    each_pair(&good, &faults, &mut |asked, wanted| {
-        let image = Given::new(&asked.import.capture);
-        let told = compare(run, &image, &asked.command, asked.room);
-        run.expect_told(told, wanted);
-    });
 }
 
 /// Images of 65,532 bytes, and longer ones that are none, asked from both ends with short and long allocation lengths.

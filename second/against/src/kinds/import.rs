@@ -4,21 +4,20 @@ use super::{columns, images, READING};
 use crate::lent::{Given, Memory};
 use crate::made::captures::{
     capture_of, example, full_sheets, good_import, import_faults, put_current, random_capture,
-    short_captures, spoil,
+    short_captures, spoilt,
 };
-use crate::made::damage::damage;
 use crate::made::faults::{each_faulty_response, each_pair, FLAG_FAULTS};
 use crate::made::responses::{each_short, length_to_send, long_responses, random_response, sent};
 use crate::made::sheets::{at_edges, body, in_a_row, profiles, random_sheet, sheet_of, short_sheets};
 use crate::made::{put16, Part};
 use crate::random::Random;
-use crate::run::{told, Input, Kind, Run, Told};
+use crate::run::{tell_made, Cases, Input, Kind, Run, Told};
 use gcf::raw;
 use second::command::Request;
 use second::sheet::Layout;
 use second::wire::Feature;
 
-pub const KIND: Kind = Kind { name: "gcf_import", answers, fixed, random };
+pub const KIND: Kind = Kind { name: "gcf_import", answers, cases: Cases::Of(fixed, random) };
 
 /// The longest response that can be complete.
 const LONGEST: usize = 65_532;
@@ -39,9 +38,7 @@ fn compare(run: &mut Run, response: &Given, room: usize) -> Told {
         },
         |memory| {
             let made = second::import::import(response.plain(), memory.first.part());
-            let told = told(&made);
-            memory.told.give(&[made.unwrap_or(0) as u64, told.1 as u64]);
-            told
+            tell_made(memory, made)
         },
     )
 }
@@ -310,14 +307,7 @@ fn random(run: &mut Run, random: &mut Random) {
 
 /// Compares a capture that is spoilt in some fields or damaged anywhere.
 fn damaged(run: &mut Run, random: &mut Random, capture: &[u8]) {
-    let mut bytes = capture.to_vec();
-    if random.once_in(3) {
-        damage(random, &mut bytes);
-    } else {
-        for _ in 0..=random.below(3) {
-            spoil(random, &mut bytes);
-        }
-    }
+    let bytes = spoilt(random, capture);
     let told = compare_and_back(run, &bytes, random.below(4));
     // With too little room all but an accepted one get the same number.
     let room = random.below(bytes.len() + 1);

@@ -1,7 +1,7 @@
 //! gcf_judge.
 
 use super::commands::command;
-use super::{columns, laid, LAYOUTS, SHEET};
+use super::{columns, laid, SHEET};
 use crate::lent::{Given, Memory};
 use crate::made::damage::damage;
 use crate::made::faults::{each_pair, fault, fault_at, good_sheet, some_sheet_faults, Fault};
@@ -9,7 +9,7 @@ use crate::made::responses::length_to_send;
 use crate::made::sheets::{body, longest, profiles, random_sheet, sheet_of, short_sheets, starts_for};
 use crate::made::Part;
 use crate::random::Random;
-use crate::run::{told, Input, Kind, Run};
+use crate::run::{told, Cases, Input, Kind, Run, LAYOUTS};
 use gcf::raw;
 use second::command::{most_bytes, Request};
 use second::judge::{judge, sent, Mistake, Verdict, MISTAKES};
@@ -17,7 +17,7 @@ use second::refusal::Refusal;
 use second::sheet::{Layout, Sheet};
 use second::wire::Feature;
 
-pub const KIND: Kind = Kind { name: "gcf_judge", answers, fixed, random };
+pub const KIND: Kind = Kind { name: "gcf_judge", answers, cases: Cases::Of(fixed, random) };
 
 /// A refusal; else a hundred for each verdict, with the mistake that explains it, or with the number that the command is to be refused with.
 fn answers() -> Vec<u64> {
@@ -65,7 +65,7 @@ fn compare_in(run: &mut Run, layout: Layout, asked: &Recorded) -> u64 {
     let (sheet, command) = (Given::new(&laid(layout, &asked.sheet)), Given::new(&asked.command));
     let response = Given::new(&asked.response);
     let mut answer = 0;
-    run.compare_uncounted(
+    run.uncounted(
         &[
             Input::Number("columns", u64::from(columns(layout))),
             Input::Bytes("sheet", &sheet),

@@ -8,7 +8,7 @@ use crate::made::responses::{each_short, long_responses, random_response, respon
 use crate::made::sheets::E;
 use crate::made::Part;
 use crate::random::Random;
-use crate::run::{Input, Kind, Run};
+use crate::run::{Cases, Input, Kind, Run};
 use gcf::raw;
 use second::wire::Feature;
 
@@ -16,13 +16,14 @@ use second::wire::Feature;
 const LISTING_MOST: usize = 245_736;
 
 /// It answers how many bytes it wrote; what is counted is the reading's number.
-pub const KIND: Kind = Kind { name: "gcf_list", answers: || READING.to_vec(), fixed, random };
+pub const KIND: Kind =
+    Kind { name: "gcf_list", answers: || READING.to_vec(), cases: Cases::Of(fixed, random) };
 
 /// Compares one listing.
 fn compare(run: &mut Run, response: &Given, room: usize) -> u64 {
     let number = second::reading::read(0, Feature(0), response.plain(), None).number;
     run.saw(u64::from(number));
-    run.compare_uncounted(
+    run.uncounted(
         &[Input::Bytes("response", response), Input::Number("room", room as u64)],
         Memory::none().with_buffer(room),
         |memory| raw::list(response.proved(), memory.first.part()) as u64,

@@ -1,6 +1,6 @@
 //! gcf_load.
 
-use super::{columns, laid, LAYOUTS, SHEET};
+use super::{columns, laid, SHEET};
 use crate::lent::{Given, Memory};
 use crate::made::damage::damage;
 use crate::made::faults::{each_last_fault, each_pair, fault, fault_at, good_sheet, sheet_faults, Fault};
@@ -8,17 +8,12 @@ use crate::made::sheets::{
     every_feature, in_a_row, longest, numbers_in, profiles, random_sheet, sheet_of, short_sheets,
 };
 use crate::random::Random;
-use crate::run::{told, Input, Kind, Run, Told};
+use crate::run::{tell_made, Cases, Input, Kind, Run, Told};
 use gcf::raw;
 use second::sheet::{Layout, Sheet};
 use second::wire::{Feature, Profile};
 
-pub const KIND: Kind = Kind {
-    name: "gcf_load",
-    answers,
-    fixed: |run| LAYOUTS.into_iter().for_each(|layout| fixed(run, layout)),
-    random: |run, made| LAYOUTS.into_iter().for_each(|layout| random(run, layout, made)),
-};
+pub const KIND: Kind = Kind { name: "gcf_load", answers, cases: Cases::InEachLayout(fixed, random) };
 
 /// The sheet's, and 51 to 53.
 fn answers() -> Vec<u64> {
@@ -81,10 +76,9 @@ fn compare(run: &mut Run, layout: Layout, rows: &[u8], medium: &Medium, room: us
             memory.told.by(|made| proved(layout, sheet.proved(), medium, out, made))
         },
         |memory| {
-            let made = second::load::load(layout, sheet.plain(), &features, &profiles, memory.first.part());
-            let told = told(&made);
-            memory.told.give(&[made.unwrap_or(0) as u64, told.1 as u64]);
-            told
+            let medium = second::load::Medium { features: &features, profiles: &profiles };
+            let made = second::load::load(layout, sheet.plain(), medium, memory.first.part());
+            tell_made(memory, made)
         },
     )
 }

@@ -2,10 +2,10 @@
 
 use crate::lent::Memory;
 use crate::random::Random;
-use crate::run::{Input, Kind, Run};
+use crate::run::{Cases, Input, Kind, Run};
 use gcf::raw;
 
-pub const KIND: Kind = Kind { name: "gcf_make_sense", answers, fixed, random };
+pub const KIND: Kind = Kind { name: "gcf_make_sense", answers, cases: Cases::Of(fixed, random) };
 
 fn answers() -> Vec<u64> {
     vec![0, 54, 55]

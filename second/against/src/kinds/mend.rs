@@ -3,17 +3,17 @@
 use super::READING;
 use crate::lent::{Given, Memory};
 use crate::made::damage::damage;
-use crate::made::faults::{each_faulty_response, each_pair, fault, Fault};
+use crate::made::faults::{each_faulty_response, each_pair, fault, Fault, RESPONSE_FAULTS};
 use crate::made::responses::{
-    each_short, long_responses, random_response, random_ruled, response_of, ruled_parts,
+    each_ruled_bit, each_short, long_responses, random_response, random_ruled, response_of, ruled_parts,
 };
-use crate::made::{put32, Part};
+use crate::made::Part;
 use crate::random::Random;
-use crate::run::{Input, Kind, Run};
+use crate::run::{Cases, Input, Kind, Run};
 use gcf::raw;
 use second::mend::{changes, undo, Change};
 
-pub const KIND: Kind = Kind { name: "gcf_mend", answers, fixed, random };
+pub const KIND: Kind = Kind { name: "gcf_mend", answers, cases: Cases::Of(fixed, random) };
 
 /// A reading's, 29, 49 and 50.
 fn answers() -> Vec<u64> {
@@ -84,7 +84,8 @@ fn fixed(run: &mut Run) {
     each_faulty_response(&mut |response: &[u8]| see(run, response));
     each_short(&mut |response: &[u8]| see(run, response));
     long_responses().iter().for_each(|response| see(run, response));
-    each_bit(run);
+    each_ruled_bit(&mut |response: &[u8]| see(run, response));
+    each_byte(run);
     each_flags(run);
     each_version(run);
     each_length(run);
@@ -104,27 +105,14 @@ fn each_two_faults(run: &mut Run) {
     let mut stray = ruled_parts();
     stray.iter_mut().for_each(|part| part.1 |= 0x40);
     let bytes = response_of(0x0012, &stray);
-    let of_bytes = |number: u8, damage: fn(&mut Vec<u8>)| -> Fault<Asked> {
-        fault(number, move |asked: &mut Asked| damage(&mut asked.bytes))
-    };
-    let faults = vec![
-        of_bytes(14, |bytes| bytes.truncate(7)),
-        of_bytes(15, |bytes| bytes[3] |= 1),
-        of_bytes(16, |bytes| put32(bytes, 0, 4)),
-        of_bytes(17, |bytes| bytes[11] |= 1),
-        of_bytes(18, |bytes| {
-            let second = 12 + usize::from(bytes[11]);
-            bytes[second..second + 2].fill(0);
-        }),
-        of_bytes(29, |bytes| {
-            let longer = bytes.len() as u32;
-            put32(bytes, 0, longer);
-        }),
-        fault(49, |asked: &mut Asked| asked.copy = 0),
-        fault(49, |asked: &mut Asked| asked.copy = asked.bytes.len().saturating_sub(1)),
-        fault(50, |asked: &mut Asked| asked.list = 0),
-        fault(50, |asked: &mut Asked| asked.list -= 1),
-    ];
+    let mut faults: Vec<Fault<Asked>> = Vec::new();
+    for (number, damage) in RESPONSE_FAULTS {
+        faults.push(fault(number, move |asked: &mut Asked| damage(&mut asked.bytes)));
+    }
+    faults.push(fault(49, |asked: &mut Asked| asked.copy = 0));
+    faults.push(fault(49, |asked: &mut Asked| asked.copy = asked.bytes.len().saturating_sub(1)));
+    faults.push(fault(50, |asked: &mut Asked| asked.list = 0));
+    faults.push(fault(50, |asked: &mut Asked| asked.list -= 1));
     let good = Asked { copy: bytes.len(), list: stray.len(), bytes };
     each_pair(&good, &faults, &mut |asked, (number, _)| {
         let answer = compare(run, &asked.bytes, Rooms { copy: asked.copy, list: asked.list });
@@ -156,19 +144,9 @@ fn each_room(run: &mut Run) {
     }
 }
 
-/// A response of all features that have rules, with each bit of each byte flipped; with all bits set or cleared of each byte; and with each two of some bits.
-fn each_bit(run: &mut Run) {
-    let mut bytes = response_of(0x0012, &ruled_parts());
-    for bit in 0..8 * bytes.len() {
-        bytes[bit / 8] ^= 1 << (bit % 8);
-        see(run, &bytes);
-        for other in (0..8 * bytes.len()).step_by(97) {
-            bytes[other / 8] ^= 1 << (other % 8);
-            see(run, &bytes);
-            bytes[other / 8] ^= 1 << (other % 8);
-        }
-        bytes[bit / 8] ^= 1 << (bit % 8);
-    }
+/// A response of all features that have rules, with all bits set or cleared of each byte.
+fn each_byte(run: &mut Run) {
+    let bytes = response_of(0x0012, &ruled_parts());
     for at in 0..bytes.len() {
         for byte in [0, 0xFF] {
             let mut changed = bytes.clone();

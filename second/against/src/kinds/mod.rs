@@ -76,9 +76,6 @@ pub const KINDS: &[Kind] = &[
     read_sense::KIND,
 ];
 
-/// Both layouts.
-const LAYOUTS: [Layout; 2] = [Layout::Rows, Layout::Columns];
-
 /// A layout as the proved side takes it.
 pub(crate) fn columns(layout: Layout) -> bool {
     layout == Layout::Columns

@@ -2,11 +2,12 @@
 
 use crate::lent::Memory;
 use crate::random::Random;
-use crate::run::{Input, Kind, Run};
+use crate::run::{Cases, Input, Kind, Run};
 use gcf::raw;
 
 /// It answers a length.
-pub const KIND: Kind = Kind { name: "gcf_most", answers: || (0..=65_534).collect(), fixed, random };
+pub const KIND: Kind =
+    Kind { name: "gcf_most", answers: || (0..=65_534).collect(), cases: Cases::Of(fixed, random) };
 
 /// Compares one allocation length.
 fn compare(run: &mut Run, allocation: u16) {

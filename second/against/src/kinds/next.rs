@@ -4,12 +4,12 @@ use crate::lent::{Given, Memory};
 use crate::made::faults::each_faulty_response;
 use crate::made::responses::{each_cut_of_what_is_sent, each_short, long_responses, ten_damaged};
 use crate::random::Random;
-use crate::run::{Input, Kind, Run};
+use crate::run::{Cases, Input, Kind, Run};
 use gcf::raw;
 use second::wire::{Descriptors, Feature};
 
 /// It answers whether a descriptor stands there.
-pub const KIND: Kind = Kind { name: "gcf_next", answers: || vec![0, 1], fixed, random };
+pub const KIND: Kind = Kind { name: "gcf_next", answers: || vec![0, 1], cases: Cases::Of(fixed, random) };
 
 /// The header in front of the descriptors.
 const HEADER: usize = 8;

@@ -6,13 +6,16 @@ use crate::made::faults::each_faulty_response;
 use crate::made::responses::{each_short, long_responses, random_response, sent};
 use crate::made::sheets::E;
 use crate::random::Random;
-use crate::run::{Input, Kind, Run};
+use crate::run::{Cases, Input, Kind, Run};
 use gcf::raw;
 use second::wire::Feature;
 
 /// It answers a place; of sheet E's response each of these.
-pub const KIND: Kind =
-    Kind { name: "gcf_place", answers: || [8, 20, 28, 36, 40, 44].into_iter().collect(), fixed, random };
+pub const KIND: Kind = Kind {
+    name: "gcf_place",
+    answers: || [8, 20, 28, 36, 40, 44].into_iter().collect(),
+    cases: Cases::Of(fixed, random),
+};
 
 /// Compares one place.
 fn compare(run: &mut Run, feature: u16, response: &Given) -> u64 {

@@ -4,12 +4,15 @@ use crate::lent::{Given, Memory};
 use crate::made::faults::{each_pair, good_reading, reading_faults};
 use crate::made::responses::{each_cut_of_what_is_sent, each_short, long_responses, ten_damaged};
 use crate::random::Random;
-use crate::run::{Input, Kind, Run};
+use crate::run::{Cases, Input, Kind, Run};
 use gcf::raw;
 use second::wire::Feature;
 
-pub const KIND: Kind =
-    Kind { name: "gcf_read", answers: || [0].into_iter().chain(13..=20).collect(), fixed, random };
+pub const KIND: Kind = Kind {
+    name: "gcf_read",
+    answers: || [0].into_iter().chain(13..=20).collect(),
+    cases: Cases::Of(fixed, random),
+};
 
 /// Compares one reading.
 fn compare(run: &mut Run, rt: u8, sfn: u16, response: &Given) -> u64 {

@@ -1,13 +1,12 @@
 //! gcf_read_sense.
 
-use crate::lent::{Given, Memory};
 use crate::made::damage::damage;
 use crate::random::Random;
-use crate::run::{Input, Kind, Run};
+use crate::run::{Cases, Kind, Run};
 use gcf::raw;
 use second::sense;
 
-pub const KIND: Kind = Kind { name: "gcf_read_sense", answers, fixed, random };
+pub const KIND: Kind = Kind { name: "gcf_read_sense", answers, cases: Cases::Of(fixed, random) };
 
 fn answers() -> Vec<u64> {
     vec![0, 46, 47, 48]
@@ -25,17 +24,10 @@ fn made(number: u8) -> Vec<u8> {
 
 /// Compares one reading.
 fn compare(run: &mut Run, bytes: &[u8]) -> u64 {
-    let given = Given::new(bytes);
-    run.compare(
-        &[Input::Bytes("sense", &given)],
-        Memory::none(),
-        |memory| u64::from(memory.told.by(|meaning| raw::read_sense(given.proved(), meaning))),
-        |memory| {
-            let read = sense::read(given.plain());
-            memory.told.give(&[read.map_or(0, |kind| kind as u64 + 1)]);
-            u64::from(read.err().unwrap_or(0))
-        },
-    )
+    run.compare_said("sense", bytes, raw::read_sense, |bytes| {
+        let read = sense::read(bytes);
+        (read.err().unwrap_or(0), read.map_or(0, |kind| kind as u64 + 1))
+    })
 }
 
 fn fixed(run: &mut Run) {

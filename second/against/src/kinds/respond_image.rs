@@ -1,26 +1,22 @@
 //! gcf_respond_image.
 
+use super::commands::inputs;
 use super::{images, IMAGE};
 use crate::lent::{Given, Memory};
-use crate::run::{told, Input, Kind, Run, Told};
+use crate::run::{tell_made, Cases, Kind, Run, Told};
 use gcf::raw;
 
 pub const KIND: Kind = Kind {
     name: "gcf_respond_image",
     answers: || IMAGE.into_iter().chain(9..=12).collect(),
-    fixed: |run| images::fixed(run, compare),
-    random: |run, random| images::random(run, random, compare),
+    cases: Cases::Of(|run| images::fixed(run, &compare), |run, random| images::random(run, random, &compare)),
 };
 
 /// Compares one command.
 fn compare(run: &mut Run, image: &Given, command: &[u8], room: usize) -> Told {
     let command = Given::new(command);
     run.compare_told(
-        &[
-            Input::Bytes("image", image),
-            Input::Bytes("command", &command),
-            Input::Number("room", room as u64),
-        ],
+        &inputs("image", image, &command, room),
         Memory::none().with_buffer(room),
         |memory| {
             let response = memory.first.part();
@@ -28,9 +24,7 @@ fn compare(run: &mut Run, image: &Given, command: &[u8], room: usize) -> Told {
         },
         |memory| {
             let sent = second::rom::respond(image.plain(), command.plain(), memory.first.part());
-            let told = told(&sent);
-            memory.told.give(&[sent.unwrap_or(0) as u64, told.1 as u64]);
-            told
+            tell_made(memory, sent)
         },
     )
 }

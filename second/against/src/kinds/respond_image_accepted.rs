@@ -1,26 +1,22 @@
 //! gcf_respond_image_accepted, which has an answer for any bytes.
 
+use super::commands::inputs;
 use super::images;
 use crate::lent::{Given, Memory};
-use crate::run::{Input, Kind, Run, Told};
+use crate::run::{Cases, Kind, Run, Told};
 use gcf::raw;
 
 pub const KIND: Kind = Kind {
     name: "gcf_respond_image_accepted",
     answers: || vec![0, 9, 10, 11, 12],
-    fixed: |run| images::fixed(run, compare),
-    random: |run, random| images::random(run, random, compare),
+    cases: Cases::Of(|run| images::fixed(run, &compare), |run, random| images::random(run, random, &compare)),
 };
 
 /// Compares one command, whether the image is accepted or not; gives what the image is refused with, if it is.
 fn compare(run: &mut Run, image: &Given, command: &[u8], room: usize) -> Told {
     let command = Given::new(command);
     let told = run.compare_told(
-        &[
-            Input::Bytes("image", image),
-            Input::Bytes("command", &command),
-            Input::Number("room", room as u64),
-        ],
+        &inputs("image", image, &command, room),
         Memory::none().with_buffer(room),
         |memory| {
             let response = memory.first.part();

@@ -4,13 +4,16 @@ use crate::lent::{Given, Memory};
 use crate::made::faults::{each_pair, good_reading, reading_faults};
 use crate::made::responses::{each_cut_of_what_is_sent, each_short, long_responses, ten_damaged};
 use crate::random::Random;
-use crate::run::{Input, Kind, Run};
+use crate::run::{Cases, Input, Kind, Run};
 use gcf::raw;
 use second::wire::Feature;
 
 /// It tells a place; of a short response that is one of these.
-pub const KIND: Kind =
-    Kind { name: "gcf_stops", answers: || [0, 8, 12, 16, 20].into_iter().collect(), fixed, random };
+pub const KIND: Kind = Kind {
+    name: "gcf_stops",
+    answers: || [0, 8, 12, 16, 20].into_iter().collect(),
+    cases: Cases::Of(fixed, random),
+};
 
 /// No limit of its own.
 const MOST: usize = 65_534;

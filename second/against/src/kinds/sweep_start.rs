@@ -3,11 +3,12 @@
 use super::{fields, proved};
 use crate::lent::Memory;
 use crate::random::Random;
-use crate::run::{Input, Kind, Run};
+use crate::run::{Cases, Input, Kind, Run};
 use gcf::raw;
 use second::sweep::Record;
 
-pub const KIND: Kind = Kind { name: "gcf_sweep_start", answers: || vec![0, 21, 22], fixed, random };
+pub const KIND: Kind =
+    Kind { name: "gcf_sweep_start", answers: || vec![0, 21, 22], cases: Cases::Of(fixed, random) };
 
 /// Compares one start.
 fn compare(run: &mut Run, rt: u8, allocation: u16) -> u64 {

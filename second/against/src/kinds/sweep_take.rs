@@ -10,13 +10,13 @@ use crate::made::responses::{
 use crate::made::sheets::{body, short_sheets};
 use crate::made::{put16, put32, Part};
 use crate::random::Random;
-use crate::run::{Input, Kind, Run};
+use crate::run::{Cases, Input, Kind, Run};
 use gcf::raw;
 use second::command::most_bytes;
 use second::sweep::Record;
 use second::wire::{Feature, Profile};
 
-pub const KIND: Kind = Kind { name: "gcf_sweep_take", answers, fixed, random };
+pub const KIND: Kind = Kind { name: "gcf_sweep_take", answers, cases: Cases::Of(fixed, random) };
 
 /// All of a reading but 13, since 21 comes first; and the sweep's own.
 fn answers() -> Vec<u64> {

@@ -2,14 +2,15 @@
 
 use crate::lent::Memory;
 use crate::random::Random;
-use crate::run::{Input, Kind, Run};
+use crate::run::{Cases, Input, Kind, Run};
 use gcf::raw;
 
 /// The definition: a line for each number, with its sentence and, behind two strokes, the number.
 const DEFINITION: &str = include_str!("../../../../crates/meanings/specs/Meanings.antt");
 
 /// It answers how many bytes it wrote; what is counted is the number that was asked for.
-pub const KIND: Kind = Kind { name: "gcf_words", answers: || (0..256).collect(), fixed, random };
+pub const KIND: Kind =
+    Kind { name: "gcf_words", answers: || (0..256).collect(), cases: Cases::Of(fixed, random) };
 
 /// The sentence of a number; none has an empty one.
 pub fn sentence(number: u8) -> &'static str {
@@ -23,7 +24,7 @@ pub fn sentence(number: u8) -> &'static str {
 /// Compares one sentence.
 fn compare(run: &mut Run, number: u8, room: usize) {
     run.saw(u64::from(number));
-    run.compare_uncounted(
+    run.uncounted(
         &[Input::Number("number", u64::from(number)), Input::Number("room", room as u64)],
         Memory::none().with_buffer(room),
         |memory| raw::words(number, memory.first.part()) as u64,

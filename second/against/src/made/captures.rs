@@ -1,5 +1,6 @@
 //! Captured responses: complete ones to RT 0 from 0 that a sheet could have sent, and ones with chosen faults.
 
+use super::damage::damage;
 use super::faults::{fault, fault_at, Fault, FLAG_FAULTS};
 use super::responses::{places, response_of, sent};
 use super::sheets::{body, in_a_row, profiles, random_parts, sheet_of, short_sheets, starts_near, E};
@@ -199,6 +200,19 @@ pub fn random_capture(random: &mut Random, most: usize) -> Vec<u8> {
     let fitting = fitting.count();
     parts.truncate(fitting);
     capture_of(&list, &parts)
+}
+
+/// A copy of a capture that is spoilt in some fields, or damaged anywhere.
+pub fn spoilt(random: &mut Random, capture: &[u8]) -> Vec<u8> {
+    let mut bytes = capture.to_vec();
+    if random.once_in(3) {
+        damage(random, &mut bytes);
+        return bytes;
+    }
+    for _ in 0..=random.below(3) {
+        spoil(random, &mut bytes);
+    }
+    bytes
 }
 
 /// Spoils one field of a capture: in its header, in the list's header, in a profile or in a descriptor's header.

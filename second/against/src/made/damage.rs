@@ -2,6 +2,15 @@
 
 use crate::random::Random;
 
+/// Shows the bytes with one bit flipped: each in turn, or every so many-th.
+pub fn each_flip(bytes: &mut [u8], step: usize, mut see: impl FnMut(&mut [u8])) {
+    for bit in (0..8 * bytes.len()).step_by(step) {
+        bytes[bit / 8] ^= 1 << (bit % 8);
+        see(bytes);
+        bytes[bit / 8] ^= 1 << (bit % 8);
+    }
+}
+
 /// Damages the bytes in one to three ways.
 pub fn damage(random: &mut Random, bytes: &mut Vec<u8>) {
     for _ in 0..=random.below(3) {

@@ -229,6 +229,26 @@ pub fn reading_faults(rt: u8, sfn: u16) -> Vec<Fault<Asked>> {
     faults
 }
 
+/// Faults of a complete response to RT 0 from 0, in their order: the number of the reading, or 29, and what is done to the bytes.
+pub const RESPONSE_FAULTS: [(u8, fn(&mut Vec<u8>)); 7] = [
+    (14, |bytes| bytes.truncate(7)),
+    (15, |bytes| bytes[3] |= 1),
+    (16, |bytes| put32(bytes, 0, 4)),
+    (17, |bytes| bytes[11] |= 1),
+    (18, |bytes| {
+        let second = 12 + usize::from(bytes[11]);
+        bytes[second..second + 2].fill(0);
+    }),
+    (20, |bytes| {
+        let last = bytes.len() - 5;
+        bytes[last] = 252;
+    }),
+    (29, |bytes| {
+        let longer = bytes.len() as u32;
+        put32(bytes, 0, longer);
+    }),
+];
+
 /// Shows the faults of a reading with RT 0 from 0, alone and two together, whole and cut at each byte.
 pub fn each_faulty_response(see: &mut dyn FnMut(&[u8])) {
     // The first two spoil the RT, which is not a part of the response.

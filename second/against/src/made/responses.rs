@@ -4,7 +4,7 @@ use second::command::{full_length, most_bytes, send, Request};
 use second::sheet::{Layout, Sheet};
 use second::wire::Feature;
 
-use super::damage::damage;
+use super::damage::{damage, each_flip};
 use super::sheets::{
     at_edges, body, profiles, random_parts, random_sheet, sheet_of, short_sheets, starts_for, E,
 };
@@ -37,6 +37,14 @@ pub fn ruled_parts() -> Vec<Part> {
         (0x0107, 1, vec![5, 6, 7, 8]),
         (0xFFFF, 1, vec![1, 2, 3, 4]),
     ]
+}
+
+/// Shows a response of all these features with each bit flipped, and with each two of some bits: Persistent is also wrong where 0003h is reported.
+pub fn each_ruled_bit(see: &mut dyn FnMut(&[u8])) {
+    each_flip(&mut response_of(0x0012, &ruled_parts()), 1, |bytes| {
+        see(bytes);
+        each_flip(bytes, 97, |bytes| see(bytes));
+    });
 }
 
 /// A complete response.

@@ -16,23 +16,5 @@ Inv-loop need longest s first at₀ at = stepFrom need longest (from s first) �
 abbrev μ-loop : tie.MeasureT-loop
 μ-loop need longest s first at₀ at = length s - at
 
-loop-holds : tie.Need-loop-holds Inv-loop μ-loop
-loop-holds c = refl
-
-returns : tie.Need-returns Inv-loop μ-loop
-returns c = search place-found
-
-returns-2 : tie.Need-returns-2 Inv-loop μ-loop
-returns-2 c = search place-long
-
-loop-less : tie.Need-loop-less Inv-loop μ-loop
-loop-less c = search from-less
-
-loop-again : tie.Need-loop-again Inv-loop μ-loop
-loop-again c = search place-next
-
-returns-3 : tie.Need-returns-3 Inv-loop μ-loop
-returns-3 c = search place-end
-
 pub step-from-spec : {M : Type 1} → statement M
-step-from-spec = tie.close (tie.spec Inv-loop μ-loop loop-holds (λ c κs. search needs) (λ c κs. search needs) returns (λ c κs. search needs) returns-2 (λ c κs. search needs) loop-less loop-again returns-3)
+step-from-spec {M} = let met = tie.spec {M = M} Inv-loop μ-loop (λ c. refl) (λ c κs. search needs) (λ c κs. search needs) (λ c. search place-found) (λ c κs. search needs) (λ c. search place-long) (λ c κs. search needs) (λ c. search from-less) (λ c. search place-next) (λ c. search place-end) in tie.close met

@@ -5,13 +5,5 @@ use lib.ListN.{length}
 use Rattle.program_io.proofs.dumps.is_text.Statement.{statement}
 use Rattle.program_io.proofs.dumps.is_text.Tie as tie
 
-abbrev Inv-loop : tie.InvT-loop
-Inv-loop s i₀ i = i ≤ length s
-
-abbrev μ-loop : tie.MeasureT-loop
-μ-loop s i₀ i = length s - i
-
 pub is-text-spec : {M : Type 1} → statement M
-is-text-spec =
-    tie.close
-    (tie.spec Inv-loop μ-loop (λ c. search needs) (λ c. search needs) (λ c κs. search needs) (λ c. search needs) (λ c. search needs) (λ c. search needs) (λ c. search needs) (λ c. search needs))
+is-text-spec = tie.close (tie.spec (λ s i₀ i. i ≤ length s) (λ s i₀ i. length s - i) (λ c. search needs) (λ c. search needs) (λ c κs. search needs) (λ c. search needs) (λ c. search needs) (λ c. search needs) (λ c. search needs) (λ c. search needs))

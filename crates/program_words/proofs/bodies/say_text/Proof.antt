@@ -5,13 +5,5 @@ use lib.ListN.{length}
 use Rattle.program_words.proofs.bodies.say_text.Statement.{statement}
 use Rattle.program_words.proofs.bodies.say_text.Tie as tie
 
-abbrev Inv-loop : tie.InvT-loop
-Inv-loop text i₀ i = i ≤ length text
-
-abbrev μ-loop : tie.MeasureT-loop
-μ-loop text i₀ i = length text - i
-
 pub say-text-spec : {M : Type 1} → statement M
-say-text-spec =
-    tie.close
-    (tie.spec Inv-loop μ-loop (λ c. search needs) (λ c. search needs) (λ c κs. search needs) (λ c. search needs) (λ c κs. search needs) (λ c. search needs) (λ c. search needs) (λ c. search needs) (λ c. search needs))
+say-text-spec = tie.close (tie.spec (λ text i₀ i. i ≤ length text) (λ text i₀ i. length text - i) (λ c. search needs) (λ c. search needs) (λ c κs. search needs) (λ c. search needs) (λ c κs. search needs) (λ c. search needs) (λ c. search needs) (λ c. search needs) (λ c. search needs))

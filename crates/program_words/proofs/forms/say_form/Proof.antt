@@ -5,13 +5,5 @@ use lib.ListN.{length}
 use Rattle.program_words.proofs.forms.say_form.Statement.{statement}
 use Rattle.program_words.proofs.forms.say_form.Tie as tie
 
-abbrev Inv-loop : tie.InvT-loop
-Inv-loop form numbers at₀ k₀ at k = k ≤ at
-
-abbrev μ-loop : tie.MeasureT-loop
-μ-loop form numbers at₀ k₀ at k = length form - at
-
 pub say-form-spec : {M : Type 1} → statement M
-say-form-spec =
-    tie.close
-    (tie.spec Inv-loop μ-loop (λ c. search needs) (λ c κs. search needs) (λ c κs. search needs) (λ c. search needs) (λ c. search needs) (λ c. search needs) (λ c. search needs) (λ c. search needs) (λ c. search needs))
+say-form-spec = tie.close (tie.spec (λ form numbers at₀ k₀ at k. k ≤ at) (λ form numbers at₀ k₀ at k. length form - at) (λ c. search needs) (λ c κs. search needs) (λ c κs. search needs) (λ c. search needs) (λ c. search needs) (λ c. search needs) (λ c. search needs) (λ c. search needs) (λ c. search needs))

@@ -1,2 +1,0 @@
--- Laws that the programs' proofs cite.
-pub mod Long
