@@ -1,6 +1,7 @@
 // The exported functions, for C and Rust (include/gcf.h): one for each operation, over a sheet of either layout. Each returns the paper's number, or a count of bytes
 // where nothing can be refused. Further results go to a lent array that has a place for each: to C a struct of as many uint64_t with names. The two of a sweep take its
 // record and give a step, by value.
+#![tactic(auto)]
 ghost use Rattle.std.specs.Prelude.{◌≡◌};
 ghost use Rattle.lent.specs.Wrote.{Wrote};
 ghost use Rattle.text.specs.Reading.{reading};
@@ -354,7 +355,7 @@ pub extern "C" fn gcf_bench(
 
 // What a verdict tells: the number of a refusal, which verdict it is, the first byte that is not as it is to be, the mistake that explains it, the number that the command
 // is to be refused with, and the place of the sheet's refusal.
-#[derive(Drop)]
+#[derive(Clone, Copy)]
 struct Telling {
     number: u8,
     said: u64,

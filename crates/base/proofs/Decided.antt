@@ -34,7 +34,7 @@ pub record Call (T : Ended) (c : Contract T) : Type 2 where
 
 module _ (T : Ended) (c : Contract T) (x : Call T c) where
   abbrev at : ClausesAt x.𝓤 T x.κs
-  at = c x.M x.𝓤 x x.mem x.run x.κs x.args
+  at = c x.M x.𝓤 x.𝓛 x.mem x.run x.κs x.args
 
   -- an outcome of it: the result, and what stands at exit behind each `&mut`
   abbrev pub Outcome : Type 0
@@ -54,7 +54,7 @@ seen r = (r.ref_ptr, r.now)
 abbrev pub DecidedAs : (T : Ended) (c : Contract T) → Stated T → {S : Lfts T.signature.lifetimes → Type 0} → ((κs : Lfts T.signature.lifetimes) → Res T.signature κs → S κs) → Type 2
 DecidedAs T c s see =
     (x : Call T c) →
-    (closing x T (c x.M x.𝓤 x x.mem x.run) ≡ s x.M x.𝓤 x x.mem x.run)
+    (closing x.𝓛 T (c x.M x.𝓤 x.𝓛 x.mem x.run) ≡ s x.M x.𝓤 x.𝓛 x.mem x.run)
     × ent x.𝓤 (emp x.𝓤) (asked T c x)
     × ((o o' : Outcome T c x) → ent x.𝓤 (conj x.𝓤 (allowed T c x o) (allowed T c x o')) (fact x.𝓤 ((see x.κs o.0 ≡ see x.κs o'.0) × (o.1 ≡ o'.1))))
 

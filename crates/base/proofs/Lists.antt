@@ -192,7 +192,7 @@ flat_cut f i xs = ap (flat f) (sym (take-append-drop i xs)) ∙ flat_append f (t
 
 pub flat_take_suc : {A : Type 0} (f : A → List ℕ) (xs : List A) (z : A) (i : ℕ) → i < length xs → flat f (take (suc i) xs) ≡ flat f (take i xs) ++ f (get_or xs i z)
 unfolding flat
-flat_take_suc f xs z i l = rw (take-suc xs i z l, flat_append, flat, append-nil)
+flat_take_suc f xs z i l = rw (take-suc xs i z l, flat_append f, flat, append-nil)
 
 -- piece i stands behind those before it
 pub drop_flat : {A : Type 0} (f : A → List ℕ) (xs : List A) (z : A) (i : ℕ) → i < length xs

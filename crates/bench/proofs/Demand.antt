@@ -11,7 +11,7 @@ use lib.Seq.{sets, sets-eq}
 use borrow.Author.Tests.{le-ltb, lt-ltb, ltb-false}
 use Rattle.base.specs.Lists.{flat, keep, All, Bytes}
 use Rattle.base.proofs.Lists.{all_right}
-use Rattle.refusal.specs.First.{refuse, accept, ◌if◌else◌, pick_zero, ◌orElse◌}
+use Rattle.refusal.specs.First.{refuse, accept, ◌if◌else◌, pick_zero, ◌or_else◌}
 use Rattle.text.specs.Drive.{Desc, Drive, Sound}
 use Rattle.text.specs.Response.{bytes, feature0, wants, selected, most}
 use Rattle.text.specs.Packing.{total, groups, joined}
@@ -151,7 +151,7 @@ module _ (s : Sheet) (rt a : ℕ) (bs : Buffers) where
   first_eight e = ltb-false a 8 (if_zero 21 (ltb a 8) _ (if_zero 20 (ltb 1 rt) _ (or_else_zero _ _ (or_else_zero (verdict s) _ e).1).0).1).0
 
   pub first_room : Accepted s → rt < 2 → 8 ≤ a → first_fault s rt a (length bs.response) ≡ (refuse 12 if ltb (length bs.response) (most a) else accept)
-  unfolding first_fault start_rule ◌if◌else◌ ◌orElse◌ pick_zero
+  unfolding first_fault start_rule ◌if◌else◌ ◌or_else◌ pick_zero
   first_room accepted two eight =
       let h : rt ≤ 1 = omega arith in
       rw (accepted, pick_zero, le-ltb 1 rt h, le-ltb a 8 eight)

@@ -10,7 +10,7 @@ use borrow.Author.Tests.{lt-ltb, le-ltb}
 use Rattle.base.specs.Lists.{flat, Bytes}
 use Rattle.base.proofs.Compare.{le_or_lt}
 use Rattle.refusal.specs.declared.Refusal.{Refusal}
-use Rattle.refusal.specs.First.{refuse, accept, ◌if◌else◌, ◌orElse◌}
+use Rattle.refusal.specs.First.{refuse, accept, ◌if◌else◌, ◌or_else◌}
 use Rattle.refusal.proofs.First.{or_else_none, or_else_fault, unless_none, unless_fault, if_true, if_false}
 use Rattle.refusal.proofs.Order.{Rule, broken, kept, Given}
 use Rattle.text.specs.Drive.{Drive}

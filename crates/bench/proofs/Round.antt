@@ -11,7 +11,7 @@ use lib.ListN.{length, set}
 use lib.Seq.{sets, sets-eq}
 use borrow.Author.Tests.{le-leb, lt-leb, le-ltb, lt-ltb, eq-eqb, ne_eqb}
 use Rattle.base.specs.Lists.{flat}
-use Rattle.refusal.specs.First.{refuse, accept, ◌if◌else◌, pick_zero, ◌orElse◌}
+use Rattle.refusal.specs.First.{refuse, accept, ◌if◌else◌, pick_zero, ◌or_else◌}
 use Rattle.text.specs.Drive.{Desc, Drive, Sound}
 use Rattle.text.specs.declared.Profile.{Profile}
 use Rattle.text.specs.Response.{bytes, current_profile, selected, full, sent, most}
@@ -117,7 +117,7 @@ module _ {m : Drive} (good : Sound m) (rt a f : ℕ) (eight : 8 ≤ a) where
 
     -- neither 21, 22, 26 nor a number of the reading
     take_room : (n : ℕ) → take_fault (going m rt a f c k) (sent rt f a m) n ≡ room_rule (going m rt a f c k) (sent rt f a m) n
-    unfolding take_fault start_rule ◌if◌else◌ ◌orElse◌ pick_zero
+    unfolding take_fault start_rule ◌if◌else◌ ◌or_else◌ pick_zero
     take_room n =
         let h : rt ≤ 1 = omega arith in
         rw (le-ltb 1 rt h, le-ltb a 8 eight, le-ltb 65535 c few, read_fault_sent good rt f a eight (most a) (omega arith) (omega arith))

@@ -1,7 +1,7 @@
 -- The bench sweep: the driver's sweep run against the box of one sheet. Assumes nothing: these are definitions.
 use Rattle.std.specs.Prelude.{true, false, List, ◌++◌, ℕ, zero, suc, ltb, leb, length, set, drop, replicate}
 use Rattle.refusal.specs.declared.Refusal.{Refusal}
-use Rattle.refusal.specs.First.{refuse, accept, ◌if◌else◌, ◌orElse◌, unless}
+use Rattle.refusal.specs.First.{refuse, accept, ◌if◌else◌, ◌or_else◌, unless}
 use Rattle.text.specs.Drive.{Drive}
 use Rattle.text.specs.Response.{sent, most}
 use Rattle.layout.specs.Layout.{Sheet}

@@ -1,4 +1,5 @@
 // The bench sweep: the driver's sweep run against the box of one sheet.
+#![tactic(auto)]
 ghost use Rattle.std.specs.Prelude.{◌≡◌, ◌≤◌, length};
 ghost use Rattle.layout.specs.Layout.{stored};
 ghost use Rattle.sheet.specs.Check.{Accepted};
@@ -13,7 +14,7 @@ use refusal::Refusal;
 use sweep::{Step, Sweep};
 
 // What a bench sweep answers: the refusal or none, how many commands were sent (starts written), and how many bytes were collected.
-#[derive(Drop)]
+#[derive(Clone, Copy)]
 pub struct Benched {
     pub refusal: Refusal,
     pub commands: u32,

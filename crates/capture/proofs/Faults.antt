@@ -10,7 +10,7 @@ use lib.ListN.{length}
 use Rattle.fields.specs.Field.{field}
 use Rattle.refusal.specs.declared.Refusal.{Refusal}
 use Rattle.text.specs.declared.Reading.{Reading}
-use Rattle.refusal.specs.First.{refuse, accept, ◌if◌else◌, ◌orElse◌, placed}
+use Rattle.refusal.specs.First.{refuse, accept, ◌if◌else◌, ◌or_else◌, placed}
 use Rattle.text.specs.Drive.{Desc}
 use Rattle.text.specs.Response.{current_profile}
 use Rattle.text.specs.Reading.{stated_profile, number_at, flags_at, desc_at}

@@ -7,7 +7,7 @@ use native.Mathlib.Omega.{arith}
 use lib.ListN.{length}
 use Rattle.base.specs.Lists.{All}
 use Rattle.refusal.specs.declared.Refusal.{Refusal}
-use Rattle.refusal.specs.First.{accept, pick_zero, ◌orElse◌, first_of, placed}
+use Rattle.refusal.specs.First.{accept, pick_zero, ◌or_else◌, first_of, placed}
 use Rattle.refusal.specs.Lines.{of_entry, has_place, old}
 use Rattle.refusal.proofs.First.{if_plain, or_else_plain, placed_number}
 use Rattle.refusal.proofs.Lines.{or_else_by, Nowhere, if_nowhere, or_else_nowhere, Renumbered, or_else_old, same_old, nowhere_old}
@@ -88,7 +88,7 @@ old_flags_is k [] v = refl
 old_flags_is k (d ∷ ds) v = or_else_old _ _ (placed (flags_rule d.flags) k) _ (rw (placed_number (flags_rule d.flags) k) (flags_old d.flags v.0)) (old_flags_is (k + 1) ds v.1)
 
 old_sheet_is : (ws : List Desc) → NoVersionsAmong ws → Renumbered (records_fault (list_body ws) or_else old_flags (captured ws).features) (sheet_rule ws)
-unfolding pick_zero ◌orElse◌ first_of old records_fault sheet_rule captured list_body old_flags
+unfolding pick_zero ◌or_else◌ first_of old records_fault sheet_rule captured list_body old_flags
 old_sheet_is [] v = refl
 old_sheet_is (z ∷ ds) v =
     or_else_old (records_fault z.body) (old_flags ds) (records_fault z.body) (flags_faults 1 ds) (same_old (records_fault z.body) (records_not_entry z.body)) (old_flags_is 1 ds v)

@@ -10,7 +10,7 @@ use lib.Dec.{eqb}
 use lib.ListN.{length, take, drop}
 use Rattle.base.specs.Lists.{each}
 use Rattle.refusal.specs.declared.Refusal.{Refusal}
-use Rattle.refusal.specs.First.{refuse, accept, ◌if◌else◌, ◌orElse◌, placed}
+use Rattle.refusal.specs.First.{refuse, accept, ◌if◌else◌, ◌or_else◌, placed}
 use Rattle.refusal.proofs.First.{if_true, if_false, or_else_none, or_else_fault, placed_none, placed_fault}
 use Rattle.text.specs.Drive.{Desc}
 use Rattle.text.specs.Response.{current_profile}

@@ -2,7 +2,7 @@
 use Rattle.std.specs.Prelude.{not, List, [], ◌∷◌, ℕ, ◌+◌, eqb, length}
 use Rattle.fields.specs.Field.{field}
 use Rattle.refusal.specs.declared.Refusal.{Refusal}
-use Rattle.refusal.specs.First.{refuse, accept, ◌if◌else◌, ◌orElse◌, unless, placed}
+use Rattle.refusal.specs.First.{refuse, accept, ◌if◌else◌, ◌or_else◌, unless, placed}
 use Rattle.text.specs.Drive.{Desc, Drive}
 use Rattle.text.specs.Response.{current_profile}
 use Rattle.text.specs.Reading.{stated_profile}

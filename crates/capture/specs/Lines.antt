@@ -2,7 +2,7 @@
 use Rattle.std.specs.Prelude.{◌≡◌, List, [], ◌∷◌, ℕ, length, get_or}
 use Rattle.base.specs.Lists.{All}
 use Rattle.refusal.specs.declared.Refusal.{Refusal}
-use Rattle.refusal.specs.First.{accept, ◌orElse◌}
+use Rattle.refusal.specs.First.{accept, ◌or_else◌}
 use Rattle.text.specs.Drive.{Desc}
 use Rattle.text.specs.Flags as text
 use Rattle.profiles.specs.Profiles.{records_fault}

@@ -1,4 +1,5 @@
 // A captured response to RT 0 from 0: whether a drive sheet can describe its drive and give it back, and how many features that drive has.
+#![tactic(auto)]
 ghost use Rattle.std.specs.Prelude.{◌≡◌, ◌≤◌, ◌<◌, length};
 ghost use Rattle.text.specs.Response.{header_length, return_limit};
 ghost use Rattle.reading.specs.inner.Between.{from};
@@ -11,7 +12,7 @@ use refusal::Refusal;
 use text::{Header, Profile, Reading};
 
 // What the check answers: all 0 but the refusal where there is one. The features are those behind feature 0.
-#[derive(Drop)]
+#[derive(Clone, Copy)]
 pub struct Capture {
     pub refusal: Refusal,
     pub features: u16,

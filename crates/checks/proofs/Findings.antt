@@ -7,19 +7,19 @@ use Rattle.refusal.specs.declared.Refusal.{Refusal}
 use Rattle.text.specs.declared.Feature.{Feature}
 use Rattle.refusal.specs.First.{refuse, accept, ◌if◌else◌}
 use Rattle.checks.specs.declared.Finding.{Finding}
-use Rattle.checks.specs.Check.{finding, ◌orNext◌}
+use Rattle.checks.specs.Check.{finding, ◌or_next◌}
 use Rattle.base.proofs.Bools.{not_yes, not_no}
 use Rattle.refusal.proofs.First.{call_fault}
 use Rattle.refusal.proofs.Calls.{if_yes, if_no}
 
 -- no number: the next one counts
-pub next_none : (a b : Finding) → a.refusal.number ≡ 0 → a orNext b ≡ b
-unfolding ◌orNext◌
-next_none a b h = rw (h, ◌orNext◌)
+pub next_none : (a b : Finding) → a.refusal.number ≡ 0 → a or_next b ≡ b
+unfolding ◌or_next◌
+next_none a b h = rw (h, ◌or_next◌)
 
 -- a number: it counts
-pub next_fault : (a b : Finding) → (a.refusal.number ≡ 0 → ⊥) → a orNext b ≡ a
-unfolding ◌orNext◌
+pub next_fault : (a b : Finding) → (a.refusal.number ≡ 0 → ⊥) → a or_next b ≡ a
+unfolding ◌or_next◌
 next_fault a b h = go a.refusal.number h
   where
     go : (n : ℕ) → (n ≡ 0 → ⊥) → ◌≡◌ {A = Finding} (elim n [ zero ↦ b | suc k ↦ a ]) a
@@ -27,7 +27,7 @@ next_fault a b h = go a.refusal.number h
     go (suc n) k = refl
 
 -- neither has a number
-pub next_zero : (a b : Finding) → (a orNext b).refusal.number ≡ 0 → (a.refusal.number ≡ 0) × (b.refusal.number ≡ 0)
+pub next_zero : (a b : Finding) → (a or_next b).refusal.number ≡ 0 → (a.refusal.number ≡ 0) × (b.refusal.number ≡ 0)
 next_zero a b e = go a.refusal.number refl
   where
     go : (n : ℕ) → a.refusal.number ≡ n → (a.refusal.number ≡ 0) × (b.refusal.number ≡ 0)
@@ -37,18 +37,18 @@ next_zero a b e = go a.refusal.number refl
         absurd (omega arith)
 
 -- 30, by whether a feature is reported
-pub core_missing : (f : ℕ) (there : Bool) (n : Finding) → there ≡ false → finding (refuse 30 if not there else accept) f orNext n ≡ finding (refuse 30) f
+pub core_missing : (f : ℕ) (there : Bool) (n : Finding) → there ≡ false → finding (refuse 30 if not there else accept) f or_next n ≡ finding (refuse 30) f
 core_missing f there n e =
-    ap (λ (r : Refusal). finding r f orNext n) (if_yes (refuse 30) accept (not there) (not_yes there e))
+    ap (λ (r : Refusal). finding r f or_next n) (if_yes (refuse 30) accept (not there) (not_yes there e))
     ∙ next_fault (finding (refuse 30) f) n (λ z. absurd (omega arith))
 
-pub core_there : (f : ℕ) (there : Bool) (n : Finding) → there ≡ true → finding (refuse 30 if not there else accept) f orNext n ≡ n
+pub core_there : (f : ℕ) (there : Bool) (n : Finding) → there ≡ true → finding (refuse 30 if not there else accept) f or_next n ≡ n
 core_there f there n e =
-    ap (λ (r : Refusal). finding r f orNext n) (if_no (refuse 30) accept (not there) (not_no there e))
+    ap (λ (r : Refusal). finding r f or_next n) (if_no (refuse 30) accept (not there) (not_no there e))
     ∙ next_none (finding accept f) n refl
 
 -- a call's refusal, made the finding
-pub next_call : (r a : Refusal) (f : ℕ) (n : Finding) → r ≡ a → (r.number ≡ 0 → ⊥) → finding r f ≡ finding a f orNext n
+pub next_call : (r a : Refusal) (f : ℕ) (n : Finding) → r ≡ a → (r.number ≡ 0 → ⊥) → finding r f ≡ finding a f or_next n
 next_call r a f n e k = ap (λ (x : Refusal). finding x f) e ∙ sym (next_fault (finding a f) n (call_fault r a e k))
 
 pub finding_eq : (a b : Refusal) (f : Feature) (n : ℕ) → a ≡ b → f.0 ≡ n → record { refusal = a; feature = f } ≡ finding b n

@@ -16,7 +16,7 @@ use Rattle.base.proofs.Lists.{all_append}
 use Rattle.base.proofs.Pick.{pick_here, pick_past}
 use Rattle.fields.specs.Field.{field, spell}
 use Rattle.refusal.specs.declared.Refusal.{Refusal}
-use Rattle.refusal.specs.First.{refuse, accept, ◌if◌else◌, pick_zero, ◌orElse◌, first_of, unless}
+use Rattle.refusal.specs.First.{refuse, accept, ◌if◌else◌, pick_zero, ◌or_else◌, first_of, unless}
 use Rattle.refusal.proofs.First.{or_else_assoc, or_else_none, or_else_fault, first_all, first_accept}
 use Rattle.refusal.proofs.Order.{Rule, broken, kept, None, rule_first, rule_last, rule_or_else}
 use Rattle.text.specs.Flags.{version, newer, flags_giving}
@@ -31,7 +31,7 @@ use Rattle.legal.specs.declared.Row.{Row}
 use Rattle.legal.specs.Legal.{mask_bytes, legal, other, row_of}
 use Rattle.legal.specs.Bodies.{byte_of, is_too_short, is_too_long, wrong_length, mask_at, reserved_rule, reserved_at, cue_rule}
 use Rattle.checks.specs.Rules.{flags_fault, flags_short, flags_barred, row_rule, profile_at, profiles_fault, body_fault, desc_fault}
-use Rattle.checks.specs.Check.{finding, ◌orNext◌, first_finding, checked_all, checked}
+use Rattle.checks.specs.Check.{finding, ◌or_next◌, first_finding, checked_all, checked}
 use Rattle.checks.specs.Faultless.{AtLeast, AtMost, Passes}
 use Rattle.base.proofs.Bools.{not_yes, not_no, and_true, and_false}
 use Rattle.refusal.proofs.Calls.{if_yes, if_no}
@@ -254,7 +254,7 @@ module _ (ds : List Desc) where
   unfolding checked_all
   all_found = zero_there (reported 0 ds) refl
     where
-      one_there : Reports 0 ds → (b : Bool) → reported 1 ds ≡ b → Found ds (finding (refuse 30 if not (reported 1 ds) else accept) 1 orNext first_finding (reported 3 ds) ds)
+      one_there : Reports 0 ds → (b : Bool) → reported 1 ds ≡ b → Found ds (finding (refuse 30 if not (reported 1 ds) else accept) 1 or_next first_finding (reported 3 ds) ds)
       one_there h true e = subst (Found ds) (sym (core_there 1 _ _ e)) (first_found h (reports_of 1 ds e) [] ds refl tt)
       one_there h false e = no_core (core_missing 1 _ _ e) h (not_reports 1 ds e)
 
@@ -279,5 +279,5 @@ recorder =
     0x01 ∷ 0x05 ∷ 0x03 ∷ 0x00 ∷ []
 
 pub recorder_passes : Passes recorder
-unfolding recorder ◌if◌else◌ pick_zero ◌orElse◌ first_of unless field spell text.stated_length text.header_rule text.head_rule text.number_at text.flags_at text.length_at text.desc_at text.head_fault text.walk text.walked text.read_fault text.wholes complete_fault pick reported ◌orNext◌ first_finding checked_all checked flags_fault flags_giving is_too_short is_too_long wrong_length flags_short flags_barred row_rule mask_bytes legal other row_of mask_at reserved_rule reserved_at cue_rule profile_at profiles_fault body_fault desc_fault
+unfolding recorder ◌if◌else◌ pick_zero ◌or_else◌ first_of unless field spell text.stated_length text.header_rule text.head_rule text.number_at text.flags_at text.length_at text.desc_at text.head_fault text.walk text.walked text.read_fault text.wholes complete_fault pick reported ◌or_next◌ first_finding checked_all checked flags_fault flags_giving is_too_short is_too_long wrong_length flags_short flags_barred row_rule mask_bytes legal other row_of mask_at reserved_rule reserved_at cue_rule profile_at profiles_fault body_fault desc_fault
 recorder_passes = passes_of recorder refl

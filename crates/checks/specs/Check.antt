@@ -9,14 +9,14 @@ use Rattle.checks.specs.Rules.{desc_fault}
 use Rattle.reading.specs.Places.{descs, reported}
 use Rattle.reading.specs.Completed.{complete_fault}
 
-infixr 20 ◌orNext◌
+infixr 20 ◌or_next◌
 -- a number and a feature
 abbrev pub finding : Refusal → ℕ → Finding
 finding r f = record { refusal = r; feature = record { 0 = f } }
 
 -- a where it has a number, else b
-unfoldable pub ◌orNext◌ : Finding → Finding → Finding
-a orNext b = elim a.refusal.number [ zero ↦ b | suc k ↦ a ]
+unfoldable pub ◌or_next◌ : Finding → Finding → Finding
+a or_next b = elim a.refusal.number [ zero ↦ b | suc k ↦ a ]
 
 -- the first descriptor with a fault
 unfoldable pub first_finding : (removable : Bool) → List Desc → Finding
@@ -26,9 +26,9 @@ first_finding removable ds =
 -- 30: feature 0 or 1 missing. Then each descriptor in order
 unfoldable pub checked_all : List Desc → Finding
 checked_all ds =
-    finding (refuse 30 if not (reported 0 ds) else accept) 0 orNext
-    finding (refuse 30 if not (reported 1 ds) else accept) 1 orNext
+    finding (refuse 30 if not (reported 0 ds) else accept) 0 or_next
+    finding (refuse 30 if not (reported 1 ds) else accept) 1 or_next
     first_finding (reported 3 ds) ds
 
 unfoldable pub checked : List ℕ → Finding
-checked s = finding (complete_fault s) 0 orNext checked_all (descs s)
+checked s = finding (complete_fault s) 0 or_next checked_all (descs s)

@@ -2,7 +2,7 @@
 use Rattle.std.specs.Prelude.{Bool, not, ◌&&◌, List, ℕ, ◌*◌, ◌/◌, leb, eqb, length}
 use Rattle.fields.specs.Field.{field}
 use Rattle.refusal.specs.declared.Refusal.{Refusal}
-use Rattle.refusal.specs.First.{refuse, accept, ◌if◌else◌, ◌orElse◌, first_of}
+use Rattle.refusal.specs.First.{refuse, accept, ◌if◌else◌, ◌or_else◌, first_of}
 use Rattle.text.specs.Flags.{newer, persistent, current, flags_giving}
 use Rattle.text.specs.Drive.{Desc}
 use Rattle.legal.specs.declared.Row.{Row}

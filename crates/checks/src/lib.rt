@@ -1,4 +1,5 @@
 // The driver's check of the descriptors of a response to RT 0 from 0.
+#![tactic(auto)]
 ghost use Rattle.std.specs.Prelude.{◌≡◌};
 ghost use Rattle.text.specs.Reading.{desc_at};
 ghost use Rattle.reading.specs.Places.{descs};
@@ -12,7 +13,7 @@ use refusal::Refusal;
 use text::{Feature, Header};
 
 // What a check finds: the number, 0 where there is no fault, and the feature at fault.
-#[derive(Drop)]
+#[derive(Clone, Copy)]
 pub struct Finding {
     pub refusal: Refusal,
     pub feature: Feature,

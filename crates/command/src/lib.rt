@@ -1,4 +1,5 @@
 // GET CONFIGURATION as bytes, 10 of them, or 12 in an ATAPI packet: what is refused of it, what it asks for, and how a driver makes one.
+#![tactic(auto)]
 ghost use Rattle.std.specs.Prelude.{◌≡◌};
 ghost use Rattle.lent.specs.Maker.{outcome};
 ghost use Rattle.lent.specs.Wrote.{Wrote};
@@ -9,7 +10,7 @@ use refusal::Refusal;
 use text::Feature;
 
 // What a host asks for.
-#[derive(Drop)]
+#[derive(Clone, Copy)]
 pub struct Command {
     pub rt: u8,
     pub sfn: Feature,

@@ -69,46 +69,46 @@ promises_asking 𝓤 {q} {O} {φ} {χ} {C} {s} f = (refl, id⊢ 𝓤 (fact 𝓤 
 
 -- ---- fields
 
-pub inside_decided : DecidedAsking inside.ended (λ M. inside.clauses) (λ M. inside.spec) (met (λ _ s at. at < length s.now)) (λ κs r. r)
+pub inside_decided : DecidedAsking inside.ended (λ M 𝓤 𝓛. inside.clauses 𝓛) (λ M 𝓤 𝓛. inside.spec 𝓛) (met (λ _ s at. at < length s.now)) (λ κs r. r)
 inside_decided x = decides_asking x.𝓤 (λ o o' p q. (joined p q, refl))
 
-pub inside_tied : PromisedAsking inside.ended (λ M. inside.clauses) (λ M. inside.spec) (met (λ _ s at. at < length s.now)) (named (λ _ s at r _ _. r ≡ get_or s.now at 0))
+pub inside_tied : PromisedAsking inside.ended (λ M 𝓤 𝓛. inside.clauses 𝓛) (λ M 𝓤 𝓛. inside.spec 𝓛) (met (λ _ s at. at < length s.now)) (named (λ _ s at r _ _. r ≡ get_or s.now at 0))
 inside_tied x = promises_asking x.𝓤 (λ o e. e)
 
-pub inside2_decided : DecidedAsking inside2.ended (λ M. inside2.clauses) (λ M. inside2.spec) (met (λ _ s at. at + 2 ≤ length s.now)) (λ κs r. r)
+pub inside2_decided : DecidedAsking inside2.ended (λ M 𝓤 𝓛. inside2.clauses 𝓛) (λ M 𝓤 𝓛. inside2.spec 𝓛) (met (λ _ s at. at + 2 ≤ length s.now)) (λ κs r. r)
 inside2_decided x = decides_asking x.𝓤 (λ o o' p q. (joined p q, refl))
 
-pub inside2_tied : PromisedAsking inside2.ended (λ M. inside2.clauses) (λ M. inside2.spec) (met (λ _ s at. at + 2 ≤ length s.now)) (named (λ _ s at r _ _. r ≡ field 2 s.now at))
+pub inside2_tied : PromisedAsking inside2.ended (λ M 𝓤 𝓛. inside2.clauses 𝓛) (λ M 𝓤 𝓛. inside2.spec 𝓛) (met (λ _ s at. at + 2 ≤ length s.now)) (named (λ _ s at r _ _. r ≡ field 2 s.now at))
 inside2_tied x = promises_asking x.𝓤 (λ o e. e)
 
-pub inside4_decided : DecidedAsking inside4.ended (λ M. inside4.clauses) (λ M. inside4.spec) (met (λ _ s at. at + 4 ≤ length s.now)) (λ κs r. r)
+pub inside4_decided : DecidedAsking inside4.ended (λ M 𝓤 𝓛. inside4.clauses 𝓛) (λ M 𝓤 𝓛. inside4.spec 𝓛) (met (λ _ s at. at + 4 ≤ length s.now)) (λ κs r. r)
 inside4_decided x = decides_asking x.𝓤 (λ o o' p q. (joined p q, refl))
 
-pub inside4_tied : PromisedAsking inside4.ended (λ M. inside4.clauses) (λ M. inside4.spec) (met (λ _ s at. at + 4 ≤ length s.now)) (named (λ _ s at r _ _. r ≡ field 4 s.now at))
+pub inside4_tied : PromisedAsking inside4.ended (λ M 𝓤 𝓛. inside4.clauses 𝓛) (λ M 𝓤 𝓛. inside4.spec 𝓛) (met (λ _ s at. at + 4 ≤ length s.now)) (named (λ _ s at r _ _. r ≡ field 4 s.now at))
 inside4_tied x = promises_asking x.𝓤 (λ o e. e)
 
 -- ---- lent
 
-pub place_decided : DecidedAsking place.ended (λ M. place.clauses) (λ M. place.spec)
+pub place_decided : DecidedAsking place.ended (λ M 𝓤 𝓛. place.clauses 𝓛) (λ M 𝓤 𝓛. place.spec 𝓛)
     (met (λ _ out at s from count. (at + count ≤ length out.now) × (from + count ≤ length s.now))) (λ κs r. r)
 place_decided x = decides_asking x.𝓤 (λ o o' p q. ((same p q).0, (same p q).1 & refl))
 
-pub place_tied : PromisedAsking place.ended (λ M. place.clauses) (λ M. place.spec)
+pub place_tied : PromisedAsking place.ended (λ M 𝓤 𝓛. place.clauses 𝓛) (λ M 𝓤 𝓛. place.spec 𝓛)
     (met (λ _ out at s from count. (at + count ≤ length out.now) × (from + count ≤ length s.now)))
     (named (λ _ out at s from count r out' _ _ _ _. Wrote out.now at (take count (drop from s.now)) r out'))
 place_tied x = promises_asking x.𝓤 (λ o e. e)
 
-pub place4_decided : DecidedAsking place4.ended (λ M. place4.clauses) (λ M. place4.spec) (met (λ _ out at part. (length part.now ≡ 4) × (at + 4 ≤ length out.now))) (λ κs r. r)
+pub place4_decided : DecidedAsking place4.ended (λ M 𝓤 𝓛. place4.clauses 𝓛) (λ M 𝓤 𝓛. place4.spec 𝓛) (met (λ _ out at part. (length part.now ≡ 4) × (at + 4 ≤ length out.now))) (λ κs r. r)
 place4_decided x = decides_asking x.𝓤 (λ o o' p q. ((same p q).0, (same p q).1 & refl))
 
-pub place4_tied : PromisedAsking place4.ended (λ M. place4.clauses) (λ M. place4.spec) (met (λ _ out at part. (length part.now ≡ 4) × (at + 4 ≤ length out.now)))
+pub place4_tied : PromisedAsking place4.ended (λ M 𝓤 𝓛. place4.clauses 𝓛) (λ M 𝓤 𝓛. place4.spec 𝓛) (met (λ _ out at part. (length part.now ≡ 4) × (at + 4 ≤ length out.now)))
     (named (λ _ out at part r out' _ _. Wrote out.now at part.now r out'))
 place4_tied x = promises_asking x.𝓤 (λ o e. e)
 
-pub set4_decided : DecidedAsking set4.ended (λ M. set4.clauses) (λ M. set4.spec) (met (λ _ out at v. at + 4 ≤ length out.now)) (λ κs r. r)
+pub set4_decided : DecidedAsking set4.ended (λ M 𝓤 𝓛. set4.clauses 𝓛) (λ M 𝓤 𝓛. set4.spec 𝓛) (met (λ _ out at v. at + 4 ≤ length out.now)) (λ κs r. r)
 set4_decided x = decides_asking x.𝓤 (λ o o' p q. ((same p q).0, (same p q).1 & refl))
 
-pub set4_tied : PromisedAsking set4.ended (λ M. set4.clauses) (λ M. set4.spec) (met (λ _ out at v. at + 4 ≤ length out.now))
+pub set4_tied : PromisedAsking set4.ended (λ M 𝓤 𝓛. set4.clauses 𝓛) (λ M 𝓤 𝓛. set4.spec 𝓛) (met (λ _ out at v. at + 4 ≤ length out.now))
     (named (λ _ out at v r out' _ _. Wrote out.now at (spell 4 v) r out'))
 set4_tied x = promises_asking x.𝓤 (λ o e. e)
 
@@ -127,73 +127,73 @@ sets_so b at value e q = record {
   elsewhere = λ x h. ap (λ (l : List ℕ). get_or l x 0) q ∙ get_or-set_other b at x value 0 h;
 }
 
-pub set_flags_decided : DecidedAsking set_flags.ended (λ M. set_flags.clauses) (λ M. set_flags.spec) (met (λ _ out nth flags. (nth.i < nth.n) × (profiles_behind nth.n ≤ length out.now))) (λ κs r. r)
+pub set_flags_decided : DecidedAsking set_flags.ended (λ M 𝓤 𝓛. set_flags.clauses 𝓛) (λ M 𝓤 𝓛. set_flags.spec 𝓛) (met (λ _ out nth flags. (nth.i < nth.n) × (profiles_behind nth.n ≤ length out.now))) (λ κs r. r)
 set_flags_decided x = decides_asking x.𝓤 (λ o o' p q. (refl, joined p q & refl))
 
-pub set_flags_tied : PromisedAsking set_flags.ended (λ M. set_flags.clauses) (λ M. set_flags.spec) (met (λ _ out nth flags. (nth.i < nth.n) × (profiles_behind nth.n ≤ length out.now)))
+pub set_flags_tied : PromisedAsking set_flags.ended (λ M 𝓤 𝓛. set_flags.clauses 𝓛) (λ M 𝓤 𝓛. set_flags.spec 𝓛) (met (λ _ out nth flags. (nth.i < nth.n) × (profiles_behind nth.n ≤ length out.now)))
     (named (λ _ out nth flags _ out' _ _. Sets out.now (flags_place nth.lay nth.n nth.i) flags.0 out'))
 set_flags_tied x = promises_asking x.𝓤 (λ o. sets_so _ _ _ _)
 
-pub entry_in_decided : DecidedAsking entry_in.ended (λ M. entry_in.clauses) (λ M. entry_in.spec) (met (λ _ s nth. Room s.now nth.n × (nth.i < nth.n))) (λ κs r. r)
+pub entry_in_decided : DecidedAsking entry_in.ended (λ M 𝓤 𝓛. entry_in.clauses 𝓛) (λ M 𝓤 𝓛. entry_in.spec 𝓛) (met (λ _ s nth. Room s.now nth.n × (nth.i < nth.n))) (λ κs r. r)
 entry_in_decided x = decides_asking x.𝓤 (λ o o' p q. (joined p q, refl))
 
-pub entry_in_tied : PromisedAsking entry_in.ended (λ M. entry_in.clauses) (λ M. entry_in.spec) (met (λ _ s nth. Room s.now nth.n × (nth.i < nth.n)))
+pub entry_in_tied : PromisedAsking entry_in.ended (λ M 𝓤 𝓛. entry_in.clauses 𝓛) (λ M 𝓤 𝓛. entry_in.spec 𝓛) (met (λ _ s nth. Room s.now nth.n × (nth.i < nth.n)))
     (named (λ _ s nth r _ _. r ≡ entry_of (stored nth.lay s.now) nth.i))
 entry_in_tied x = promises_asking x.𝓤 (λ o e. e)
 
-pub find_decided : DecidedAsking find.ended (λ M. find.clauses) (λ M. find.spec) (met (λ _ s nth. Room s.now nth.n × (nth.i < nth.n))) (λ κs r. r)
+pub find_decided : DecidedAsking find.ended (λ M 𝓤 𝓛. find.clauses 𝓛) (λ M 𝓤 𝓛. find.spec 𝓛) (met (λ _ s nth. Room s.now nth.n × (nth.i < nth.n))) (λ κs r. r)
 find_decided x = decides_asking x.𝓤 (λ o o' p q. (joined p q, refl))
 
-pub find_tied : PromisedAsking find.ended (λ M. find.clauses) (λ M. find.spec) (met (λ _ s nth. Room s.now nth.n × (nth.i < nth.n)))
+pub find_tied : PromisedAsking find.ended (λ M 𝓤 𝓛. find.clauses 𝓛) (λ M 𝓤 𝓛. find.spec 𝓛) (met (λ _ s nth. Room s.now nth.n × (nth.i < nth.n)))
     (named (λ _ s nth r _ _. r ≡ found_of (stored nth.lay s.now) nth.i))
 find_tied x = promises_asking x.𝓤 (λ o e. e)
 
-pub put_head_decided : DecidedAsking put_head.ended (λ M. put_head.clauses) (λ M. put_head.spec)
+pub put_head_decided : DecidedAsking put_head.ended (λ M 𝓤 𝓛. put_head.clauses 𝓛) (λ M 𝓤 𝓛. put_head.spec 𝓛)
     (met (λ _ out at s nth. Room s.now nth.n × (nth.i < nth.n) × (at + 4 ≤ length out.now))) (λ κs r. r)
 put_head_decided x = decides_asking x.𝓤 (λ o o' p q. ((same p q).0, (same p q).1 & refl))
 
-pub put_head_tied : PromisedAsking put_head.ended (λ M. put_head.clauses) (λ M. put_head.spec)
+pub put_head_tied : PromisedAsking put_head.ended (λ M 𝓤 𝓛. put_head.clauses 𝓛) (λ M 𝓤 𝓛. put_head.spec 𝓛)
     (met (λ _ out at s nth. Room s.now nth.n × (nth.i < nth.n) × (at + 4 ≤ length out.now)))
     (named (λ _ out at s nth r out' _ _ _. Wrote out.now at (head_bytes (entry_of (stored nth.lay s.now) nth.i)) r out'))
 put_head_tied x = promises_asking x.𝓤 (λ o e. e)
 
-pub place_row_decided : DecidedAsking place_row.ended (λ M. place_row.clauses) (λ M. place_row.spec) (met (λ _ out at head offset. (length head.now ≡ 4) × (at + 8 ≤ length out.now))) (λ κs r. r)
+pub place_row_decided : DecidedAsking place_row.ended (λ M 𝓤 𝓛. place_row.clauses 𝓛) (λ M 𝓤 𝓛. place_row.spec 𝓛) (met (λ _ out at head offset. (length head.now ≡ 4) × (at + 8 ≤ length out.now))) (λ κs r. r)
 place_row_decided x = decides_asking x.𝓤 (λ o o' p q. ((same p q).0, (same p q).1 & refl))
 
-pub place_row_tied : PromisedAsking place_row.ended (λ M. place_row.clauses) (λ M. place_row.spec) (met (λ _ out at head offset. (length head.now ≡ 4) × (at + 8 ≤ length out.now)))
+pub place_row_tied : PromisedAsking place_row.ended (λ M 𝓤 𝓛. place_row.clauses 𝓛) (λ M 𝓤 𝓛. place_row.spec 𝓛) (met (λ _ out at head offset. (length head.now ≡ 4) × (at + 8 ≤ length out.now)))
     (named (λ _ out at head offset r out' _ _ _. Wrote out.now at (head.now ++ spell 4 offset) r out'))
 place_row_tied x = promises_asking x.𝓤 (λ o e. e)
 
-pub put_contents_decided : DecidedAsking put_contents.ended (λ M. put_contents.clauses) (λ M. put_contents.spec) (met (λ _ out at to lay s n. Room s.now n)) (λ κs r. r)
+pub put_contents_decided : DecidedAsking put_contents.ended (λ M 𝓤 𝓛. put_contents.clauses 𝓛) (λ M 𝓤 𝓛. put_contents.spec 𝓛) (met (λ _ out at to lay s n. Room s.now n)) (λ κs r. r)
 put_contents_decided x = decides_asking x.𝓤 (λ o o' p q. ((same p q).0, (same p q).1 & refl))
 
-pub put_contents_tied : PromisedAsking put_contents.ended (λ M. put_contents.clauses) (λ M. put_contents.spec) (met (λ _ out at to lay s n. Room s.now n))
+pub put_contents_tied : PromisedAsking put_contents.ended (λ M 𝓤 𝓛. put_contents.clauses 𝓛) (λ M 𝓤 𝓛. put_contents.spec 𝓛) (met (λ _ out at to lay s n. Room s.now n))
     (named (λ _ out at to lay s n r out' _ _ _ _ _. Wrote out.now at (contents to (each (entry_of (stored lay s.now)) 0 n)) r out'))
 put_contents_tied x = promises_asking x.𝓤 (λ o e. e)
 
 -- ---- reading
 
-pub number_in_decided : DecidedAsking number_in.ended (λ M. number_in.clauses) (λ M. number_in.spec) (met (λ _ s at. at + 4 ≤ length s.now)) (λ κs r. r)
+pub number_in_decided : DecidedAsking number_in.ended (λ M 𝓤 𝓛. number_in.clauses 𝓛) (λ M 𝓤 𝓛. number_in.spec 𝓛) (met (λ _ s at. at + 4 ≤ length s.now)) (λ κs r. r)
 number_in_decided x = decides_asking x.𝓤 (λ o o' p q. ((λ i. record { 0 = joined p q i }), refl))
 
-pub number_in_tied : PromisedAsking number_in.ended (λ M. number_in.clauses) (λ M. number_in.spec) (met (λ _ s at. at + 4 ≤ length s.now)) (named (λ _ s at r _ _. r.0 ≡ number_at s.now at))
+pub number_in_tied : PromisedAsking number_in.ended (λ M 𝓤 𝓛. number_in.clauses 𝓛) (λ M 𝓤 𝓛. number_in.spec 𝓛) (met (λ _ s at. at + 4 ≤ length s.now)) (named (λ _ s at r _ _. r.0 ≡ number_at s.now at))
 number_in_tied x = promises_asking x.𝓤 (λ o e. e)
 
-pub flags_in_decided : DecidedAsking flags_in.ended (λ M. flags_in.clauses) (λ M. flags_in.spec) (met (λ _ s at. at + 4 ≤ length s.now)) (λ κs r. r)
+pub flags_in_decided : DecidedAsking flags_in.ended (λ M 𝓤 𝓛. flags_in.clauses 𝓛) (λ M 𝓤 𝓛. flags_in.spec 𝓛) (met (λ _ s at. at + 4 ≤ length s.now)) (λ κs r. r)
 flags_in_decided x = decides_asking x.𝓤 (λ o o' p q. ((λ i. record { 0 = joined p q i }), refl))
 
-pub flags_in_tied : PromisedAsking flags_in.ended (λ M. flags_in.clauses) (λ M. flags_in.spec) (met (λ _ s at. at + 4 ≤ length s.now)) (named (λ _ s at r _ _. r.0 ≡ flags_at s.now at))
+pub flags_in_tied : PromisedAsking flags_in.ended (λ M 𝓤 𝓛. flags_in.clauses 𝓛) (λ M 𝓤 𝓛. flags_in.spec 𝓛) (met (λ _ s at. at + 4 ≤ length s.now)) (named (λ _ s at r _ _. r.0 ≡ flags_at s.now at))
 flags_in_tied x = promises_asking x.𝓤 (λ o e. e)
 
-pub length_in_decided : DecidedAsking length_in.ended (λ M. length_in.clauses) (λ M. length_in.spec) (met (λ _ s at. at + 4 ≤ length s.now)) (λ κs r. r)
+pub length_in_decided : DecidedAsking length_in.ended (λ M 𝓤 𝓛. length_in.clauses 𝓛) (λ M 𝓤 𝓛. length_in.spec 𝓛) (met (λ _ s at. at + 4 ≤ length s.now)) (λ κs r. r)
 length_in_decided x = decides_asking x.𝓤 (λ o o' p q. (joined p q, refl))
 
-pub length_in_tied : PromisedAsking length_in.ended (λ M. length_in.clauses) (λ M. length_in.spec) (met (λ _ s at. at + 4 ≤ length s.now)) (named (λ _ s at r _ _. r ≡ length_at s.now at))
+pub length_in_tied : PromisedAsking length_in.ended (λ M 𝓤 𝓛. length_in.clauses 𝓛) (λ M 𝓤 𝓛. length_in.spec 𝓛) (met (λ _ s at. at + 4 ≤ length s.now)) (named (λ _ s at r _ _. r ≡ length_at s.now at))
 length_in_tied x = promises_asking x.𝓤 (λ o e. e)
 
-pub reports_decided : DecidedAsking reports.ended (λ M. reports.clauses) (λ M. reports.spec) (met (λ _ f s. (complete_fault s.now).number ≡ 0)) (λ κs r. r)
+pub reports_decided : DecidedAsking reports.ended (λ M 𝓤 𝓛. reports.clauses 𝓛) (λ M 𝓤 𝓛. reports.spec 𝓛) (met (λ _ f s. (complete_fault s.now).number ≡ 0)) (λ κs r. r)
 reports_decided x = decides_asking x.𝓤 (λ o o' p q. (joined p q, refl))
 
-pub reports_tied : PromisedAsking reports.ended (λ M. reports.clauses) (λ M. reports.spec) (met (λ _ f s. (complete_fault s.now).number ≡ 0))
+pub reports_tied : PromisedAsking reports.ended (λ M 𝓤 𝓛. reports.clauses 𝓛) (λ M 𝓤 𝓛. reports.spec 𝓛) (met (λ _ f s. (complete_fault s.now).number ≡ 0))
     (named (λ _ f s r _ _. r ≡ reported f.0 (descs s.now)))
 reports_tied x = promises_asking x.𝓤 (λ o e. e)

@@ -15,7 +15,7 @@ use Rattle.base.proofs.Lists.{all_map, all_get_d, drop_flat}
 use Rattle.fields.specs.Field.{field, spell}
 use Rattle.fields.proofs.Laws.{field_here}
 use Rattle.refusal.specs.declared.Refusal.{Refusal}
-use Rattle.refusal.specs.First.{refuse, accept, ◌if◌else◌, pick_zero, ◌orElse◌, first_of}
+use Rattle.refusal.specs.First.{refuse, accept, ◌if◌else◌, pick_zero, ◌or_else◌, first_of}
 use Rattle.text.specs.Flags.{newer, flags_giving}
 use Rattle.text.specs.Drive.{Desc, Listed, Drive, Sound, bit, profile_bytes}
 use Rattle.text.specs.Response.{feature0, all, selected, full, sent}
@@ -169,7 +169,7 @@ module _ (ps : List Listed) (above : All (λ (p : Listed). 0 < p.number) ps) (lo
       rw (field_here (flat profile_bytes ps) (4 * i) 2 p.number ((bit p.on ∷ 0 ∷ []) ++ x) e v) u
 
   zero_own : Own (feature0 ps)
-  unfolding feature0 profiles_fault profile_at flags_fault flags_giving ◌if◌else◌ pick_zero ◌orElse◌
+  unfolding feature0 profiles_fault profile_at flags_fault flags_giving ◌if◌else◌ pick_zero ◌or_else◌
   zero_own = record {
     flagged = refl;
     numbered =

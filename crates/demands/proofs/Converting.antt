@@ -14,7 +14,7 @@ use Rattle.base.proofs.Promise.{by, all_three}
 use Rattle.lent.specs.Maker as maker
 use Rattle.lent.proofs.Maker.{makes_fault}
 use Rattle.refusal.specs.declared.Refusal.{Refusal}
-use Rattle.refusal.specs.First.{refuse, accept, ◌if◌else◌, ◌orElse◌, unless}
+use Rattle.refusal.specs.First.{refuse, accept, ◌if◌else◌, ◌or_else◌, unless}
 use Rattle.refusal.proofs.First.{or_else_fault, unless_fault}
 use Rattle.command.specs.Command.{command_fault, rt_of, sfn_of, allocation_of}
 use Rattle.text.specs.Drive.{Drive}
@@ -141,7 +141,7 @@ module _ {l : Layout} {s t u : Sheet} {d : List ℕ} {o : maker.Outcome} (c : Co
   alike_swept : (rt a : ℕ) (bs : Buffers) → benched t rt a bs ≡ benched u rt a bs
   alike_swept rt a bs = ap (λ (x : Sheet). benched x rt a bs) is_laid ∙ either_benched l s b room rt a bs ∙ ap (λ (x : Sheet). benched x rt a bs) (sym first)
 
-pub respond_either : AllThree convert.ended (λ M. convert.clauses) respond.ended (λ M. respond.clauses) respond.ended (λ M. respond.clauses)
+pub respond_either : AllThree convert.ended (λ M 𝓤 𝓛. convert.clauses 𝓛) respond.ended (λ M 𝓤 𝓛. respond.clauses 𝓛) respond.ended (λ M 𝓤 𝓛. respond.clauses 𝓛)
     (λ x o y p z q. saying x o (λ _ to lay s out r _ _ _ out'.
     saying y p (λ _ lay₂ s₂ command₂ out₂ r₂ _ _ _ out₂'.
     saying z q (λ _ lay₃ s₃ command₃ out₃ r₃ _ _ _ out₃'.
@@ -154,7 +154,7 @@ respond_either x κs args g κs₂ args₂ g₂ o p q =
     all_three x.𝓤 (λ e fg z b there first is_command is-buffer.
     fg.0 ∙ alike (by (Converts _ _ _) (converts _ _ _) e) z b there first args.1.1.0.now args.1.1.1.0.now ∙ sym (rw (is_command, is-buffer) at fg.1))
 
-pub bench_either : AllThree convert.ended (λ M. convert.clauses) bench.ended (λ M. bench.clauses) bench.ended (λ M. bench.clauses)
+pub bench_either : AllThree convert.ended (λ M 𝓤 𝓛. convert.clauses 𝓛) bench.ended (λ M 𝓤 𝓛. bench.clauses 𝓛) bench.ended (λ M 𝓤 𝓛. bench.clauses 𝓛)
     (λ x o y p z q. saying x o (λ _ to lay s out r _ _ _ out'.
     saying y p (λ _ lay₂ s₂ rt₂ a₂ response₂ collected₂ starts₂ r₂ _ _ _ _ response₂' collected₂' starts₂'.
     saying z q (λ _ lay₃ s₃ rt₃ a₃ response₃ collected₃ starts₃ r₃ _ _ _ _ response₃' collected₃' starts₃'.

@@ -105,8 +105,8 @@ use Rattle.capture.specs.contracts.check as capture_check
 use Rattle.import.specs.contracts.import as import
 use Rattle.sense.specs.contracts.make as sense_make
 use Rattle.sense.specs.contracts.read as sense_read
-use Rattle.hex.specs.Text as hex
-use Rattle.hex.specs.contracts.spell as hex_spell
+use Rattle.hex_text.specs.Text as hex
+use Rattle.hex_text.specs.contracts.spell as hex_spell
 use Rattle.sense.proofs.Picked.{heard_injective}
 use Rattle.abi.specs.Left.{Left}
 use Rattle.rom.specs.contracts.respond_accepted as rom_respond_accepted
@@ -141,235 +141,235 @@ use Rattle.abi.specs.contracts.gcf_read_sense as gcf_read_sense
 
 -- ---- base
 
-pub least_decided : Decided least.ended (λ M. least.clauses) (λ M. least.spec)
+pub least_decided : Decided least.ended (λ M 𝓤 𝓛. least.clauses 𝓛) (λ M 𝓤 𝓛. least.spec 𝓛)
 least_decided x = decides x.𝓤 (λ o o' p q. (joined p q, refl))
 
-pub difference_decided : Decided difference.ended (λ M. difference.clauses) (λ M. difference.spec)
+pub difference_decided : Decided difference.ended (λ M 𝓤 𝓛. difference.clauses 𝓛) (λ M 𝓤 𝓛. difference.spec 𝓛)
 difference_decided x = decides x.𝓤 (λ o o' p q. (joined p q, refl))
 
 -- ---- fields
 
-pub byte_decided : Decided byte.ended (λ M. byte.clauses) (λ M. byte.spec)
+pub byte_decided : Decided byte.ended (λ M 𝓤 𝓛. byte.clauses 𝓛) (λ M 𝓤 𝓛. byte.spec 𝓛)
 byte_decided x = decides x.𝓤 (λ o o' p q. (joined p q, refl))
 
-pub get2_decided : Decided get2.ended (λ M. get2.clauses) (λ M. get2.spec)
+pub get2_decided : Decided get2.ended (λ M 𝓤 𝓛. get2.clauses 𝓛) (λ M 𝓤 𝓛. get2.spec 𝓛)
 get2_decided x = decides x.𝓤 (λ o o' p q. (joined p q, refl))
 
-pub get3_decided : Decided get3.ended (λ M. get3.clauses) (λ M. get3.spec)
+pub get3_decided : Decided get3.ended (λ M 𝓤 𝓛. get3.clauses 𝓛) (λ M 𝓤 𝓛. get3.spec 𝓛)
 get3_decided x = decides x.𝓤 (λ o o' p q. (joined p q, refl))
 
-pub get4_decided : Decided get4.ended (λ M. get4.clauses) (λ M. get4.spec)
+pub get4_decided : Decided get4.ended (λ M 𝓤 𝓛. get4.clauses 𝓛) (λ M 𝓤 𝓛. get4.spec 𝓛)
 get4_decided x = decides x.𝓤 (λ o o' p q. (joined p q, refl))
 
-pub part_decided : DecidedAs part.ended (λ M. part.clauses) (λ M. part.spec) (λ κs r. seen r)
+pub part_decided : DecidedAs part.ended (λ M 𝓤 𝓛. part.clauses 𝓛) (λ M 𝓤 𝓛. part.spec 𝓛) (λ κs r. seen r)
 part_decided x = decides x.𝓤 (λ o o' p q. (same_part p q, refl))
 
 -- ---- refusal
 
-pub refusal_placed_decided : Decided refusal_placed.ended (λ M. refusal_placed.clauses) (λ M. refusal_placed.spec)
+pub refusal_placed_decided : Decided refusal_placed.ended (λ M 𝓤 𝓛. refusal_placed.clauses 𝓛) (λ M 𝓤 𝓛. refusal_placed.spec 𝓛)
 refusal_placed_decided x = decides x.𝓤 (λ o o' p q. (joined p q, refl))
 
 -- ---- lent
 
-pub made_refused_decided : Decided made_refused.ended (λ M. made_refused.clauses) (λ M. made_refused.spec)
+pub made_refused_decided : Decided made_refused.ended (λ M 𝓤 𝓛. made_refused.clauses 𝓛) (λ M 𝓤 𝓛. made_refused.spec 𝓛)
 made_refused_decided x = decides x.𝓤 (λ o o' p q. (joined p q, refl))
 
-pub made_written_decided : Decided made_written.ended (λ M. made_written.clauses) (λ M. made_written.spec)
+pub made_written_decided : Decided made_written.ended (λ M 𝓤 𝓛. made_written.clauses 𝓛) (λ M 𝓤 𝓛. made_written.spec 𝓛)
 made_written_decided x = decides x.𝓤 (λ o o' p q. (joined p q, refl))
 
-pub put_decided : Decided put.ended (λ M. put.clauses) (λ M. put.spec)
+pub put_decided : Decided put.ended (λ M 𝓤 𝓛. put.clauses 𝓛) (λ M 𝓤 𝓛. put.spec 𝓛)
 put_decided x = decides x.𝓤 (λ o o' p q. ((same p q).0, (same p q).1 & refl))
 
-pub put2_decided : Decided put2.ended (λ M. put2.clauses) (λ M. put2.spec)
+pub put2_decided : Decided put2.ended (λ M 𝓤 𝓛. put2.clauses 𝓛) (λ M 𝓤 𝓛. put2.spec 𝓛)
 put2_decided x = decides x.𝓤 (λ o o' p q. ((same p q).0, (same p q).1 & refl))
 
-pub put4_decided : Decided put4.ended (λ M. put4.clauses) (λ M. put4.spec)
+pub put4_decided : Decided put4.ended (λ M 𝓤 𝓛. put4.clauses 𝓛) (λ M 𝓤 𝓛. put4.spec 𝓛)
 put4_decided x = decides x.𝓤 (λ o o' p q. ((same p q).0, (same p q).1 & refl))
 
-pub copy_decided : Decided copy.ended (λ M. copy.clauses) (λ M. copy.spec)
+pub copy_decided : Decided copy.ended (λ M 𝓤 𝓛. copy.clauses 𝓛) (λ M 𝓤 𝓛. copy.spec 𝓛)
 copy_decided x = decides x.𝓤 (λ o o' p q. ((same p q).0, (same p q).1 & refl))
 
-pub note_decided : Decided note.ended (λ M. note.clauses) (λ M. note.spec)
+pub note_decided : Decided note.ended (λ M 𝓤 𝓛. note.clauses 𝓛) (λ M 𝓤 𝓛. note.spec 𝓛)
 note_decided = lent_decides.note_decided
 
-pub clear_decided : Decided clear.ended (λ M. clear.clauses) (λ M. clear.spec)
+pub clear_decided : Decided clear.ended (λ M 𝓤 𝓛. clear.clauses 𝓛) (λ M 𝓤 𝓛. clear.spec 𝓛)
 clear_decided x = decides x.𝓤 (λ o o' p q. (refl, joined p q & refl))
 
-pub clear_list_decided : Decided clear_list.ended (λ M. clear_list.clauses) (λ M. clear_list.spec)
+pub clear_list_decided : Decided clear_list.ended (λ M 𝓤 𝓛. clear_list.clauses 𝓛) (λ M 𝓤 𝓛. clear_list.spec 𝓛)
 clear_list_decided x = decides x.𝓤 (λ o o' p q. (refl, joined p q & refl))
 
 -- ---- text
 
-pub flags_reserved_decided : Decided flags_reserved.ended (λ M. flags_reserved.clauses) (λ M. flags_reserved.spec)
+pub flags_reserved_decided : Decided flags_reserved.ended (λ M 𝓤 𝓛. flags_reserved.clauses 𝓛) (λ M 𝓤 𝓛. flags_reserved.spec 𝓛)
 flags_reserved_decided x = decides x.𝓤 (λ o o' p q. (joined p q, refl))
 
-pub flags_version_decided : Decided flags_version.ended (λ M. flags_version.clauses) (λ M. flags_version.spec)
+pub flags_version_decided : Decided flags_version.ended (λ M 𝓤 𝓛. flags_version.clauses 𝓛) (λ M 𝓤 𝓛. flags_version.spec 𝓛)
 flags_version_decided x = decides x.𝓤 (λ o o' p q. (joined p q, refl))
 
-pub flags_persistent_decided : Decided flags_persistent.ended (λ M. flags_persistent.clauses) (λ M. flags_persistent.spec)
+pub flags_persistent_decided : Decided flags_persistent.ended (λ M 𝓤 𝓛. flags_persistent.clauses 𝓛) (λ M 𝓤 𝓛. flags_persistent.spec 𝓛)
 flags_persistent_decided x = decides x.𝓤 (λ o o' p q. (joined p q, refl))
 
-pub flags_current_decided : Decided flags_current.ended (λ M. flags_current.clauses) (λ M. flags_current.spec)
+pub flags_current_decided : Decided flags_current.ended (λ M 𝓤 𝓛. flags_current.clauses 𝓛) (λ M 𝓤 𝓛. flags_current.spec 𝓛)
 flags_current_decided x = decides x.𝓤 (λ o o' p q. (joined p q, refl))
 
-pub flags_odd_decided : Decided flags_odd.ended (λ M. flags_odd.clauses) (λ M. flags_odd.spec)
+pub flags_odd_decided : Decided flags_odd.ended (λ M 𝓤 𝓛. flags_odd.clauses 𝓛) (λ M 𝓤 𝓛. flags_odd.spec 𝓛)
 flags_odd_decided x = decides x.𝓤 (λ o o' p q. (joined p q, refl))
 
-pub flags_fault_decided : Decided flags_fault_fn.ended (λ M. flags_fault_fn.clauses) (λ M. flags_fault_fn.spec)
+pub flags_fault_decided : Decided flags_fault_fn.ended (λ M 𝓤 𝓛. flags_fault_fn.clauses 𝓛) (λ M 𝓤 𝓛. flags_fault_fn.spec 𝓛)
 flags_fault_decided x = decides x.𝓤 (λ o o' p q. (joined p q, refl))
 
-pub command_fault_decided : Decided command_fault_fn.ended (λ M. command_fault_fn.clauses) (λ M. command_fault_fn.spec)
+pub command_fault_decided : Decided command_fault_fn.ended (λ M 𝓤 𝓛. command_fault_fn.clauses 𝓛) (λ M 𝓤 𝓛. command_fault_fn.spec 𝓛)
 command_fault_decided x = decides x.𝓤 (λ o o' p q. (joined p q, refl))
 
-pub command_read_decided : Decided command_read.ended (λ M. command_read.clauses) (λ M. command_read.spec)
+pub command_read_decided : Decided command_read.ended (λ M 𝓤 𝓛. command_read.clauses 𝓛) (λ M 𝓤 𝓛. command_read.spec 𝓛)
 command_read_decided x = decides x.𝓤 (λ o o' p q. (joined p q, refl))
 
-pub command_build_decided : Decided command_build.ended (λ M. command_build.clauses) (λ M. command_build.spec)
+pub command_build_decided : Decided command_build.ended (λ M 𝓤 𝓛. command_build.clauses 𝓛) (λ M 𝓤 𝓛. command_build.spec 𝓛)
 command_build_decided x = decides x.𝓤 (λ o o' p q. (ap (λ (z : Outcome). z.made) (joined p q), refl & refl & refl & refl & ap (λ (z : Outcome). z.buffer) (joined p q) & refl))
 
-pub header_new_decided : Decided header_new.ended (λ M. header_new.clauses) (λ M. header_new.spec)
+pub header_new_decided : Decided header_new.ended (λ M 𝓤 𝓛. header_new.clauses 𝓛) (λ M 𝓤 𝓛. header_new.spec 𝓛)
 header_new_decided = text_decides.new_decided
 
 -- ---- profiles
 
-pub profiles_current_decided : Decided profiles_current.ended (λ M. profiles_current.clauses) (λ M. profiles_current.spec)
+pub profiles_current_decided : Decided profiles_current.ended (λ M 𝓤 𝓛. profiles_current.clauses 𝓛) (λ M 𝓤 𝓛. profiles_current.spec 𝓛)
 profiles_current_decided x = decides x.𝓤 (λ o o' p q. ((λ i. record { 0 = joined p q i }), refl))
 
-pub profiles_fault_decided : Decided profiles_fault_fn.ended (λ M. profiles_fault_fn.clauses) (λ M. profiles_fault_fn.spec)
+pub profiles_fault_decided : Decided profiles_fault_fn.ended (λ M 𝓤 𝓛. profiles_fault_fn.clauses 𝓛) (λ M 𝓤 𝓛. profiles_fault_fn.spec 𝓛)
 profiles_fault_decided x = decides x.𝓤 (λ o o' p q. (joined p q, refl))
 
-pub profiles_has_decided : Decided profiles_has.ended (λ M. profiles_has.clauses) (λ M. profiles_has.spec)
+pub profiles_has_decided : Decided profiles_has.ended (λ M 𝓤 𝓛. profiles_has.clauses 𝓛) (λ M 𝓤 𝓛. profiles_has.spec 𝓛)
 profiles_has_decided x = decides x.𝓤 (λ o o' p q. (joined p q, refl))
 
 -- ---- layout
 
-pub feature_count_decided : Decided feature_count_here.ended (λ M. feature_count_here.clauses) (λ M. feature_count_here.spec)
+pub feature_count_decided : Decided feature_count_here.ended (λ M 𝓤 𝓛. feature_count_here.clauses 𝓛) (λ M 𝓤 𝓛. feature_count_here.spec 𝓛)
 feature_count_decided x = decides x.𝓤 (λ o o' p q. (joined p q, refl))
 
-pub profile_count_decided : Decided profile_count_here.ended (λ M. profile_count_here.clauses) (λ M. profile_count_here.spec)
+pub profile_count_decided : Decided profile_count_here.ended (λ M 𝓤 𝓛. profile_count_here.clauses 𝓛) (λ M 𝓤 𝓛. profile_count_here.spec 𝓛)
 profile_count_decided x = decides x.𝓤 (λ o o' p q. (joined p q, refl))
 
-pub profiles_behind_decided : Decided profiles_behind_fn.ended (λ M. profiles_behind_fn.clauses) (λ M. profiles_behind_fn.spec)
+pub profiles_behind_decided : Decided profiles_behind_fn.ended (λ M 𝓤 𝓛. profiles_behind_fn.clauses 𝓛) (λ M 𝓤 𝓛. profiles_behind_fn.spec 𝓛)
 profiles_behind_decided x = decides x.𝓤 (λ o o' p q. (joined p q, refl))
 
-pub bodies_at_decided : Decided bodies_at_fn.ended (λ M. bodies_at_fn.clauses) (λ M. bodies_at_fn.spec)
+pub bodies_at_decided : Decided bodies_at_fn.ended (λ M 𝓤 𝓛. bodies_at_fn.clauses 𝓛) (λ M 𝓤 𝓛. bodies_at_fn.spec 𝓛)
 bodies_at_decided x = decides x.𝓤 (λ o o' p q. (joined p q, refl))
 
-pub flags_at_decided : Decided flags_at_fn.ended (λ M. flags_at_fn.clauses) (λ M. flags_at_fn.spec)
+pub flags_at_decided : Decided flags_at_fn.ended (λ M 𝓤 𝓛. flags_at_fn.clauses 𝓛) (λ M 𝓤 𝓛. flags_at_fn.spec 𝓛)
 flags_at_decided x = decides x.𝓤 (λ o o' p q. ((λ i. record { 0 = joined p q i }), refl))
 
-pub length_at_decided : Decided length_at.ended (λ M. length_at.clauses) (λ M. length_at.spec)
+pub length_at_decided : Decided length_at.ended (λ M 𝓤 𝓛. length_at.clauses 𝓛) (λ M 𝓤 𝓛. length_at.spec 𝓛)
 length_at_decided x = decides x.𝓤 (λ o o' p q. (joined p q, refl))
 
-pub offset_at_decided : Decided offset_at.ended (λ M. offset_at.clauses) (λ M. offset_at.spec)
+pub offset_at_decided : Decided offset_at.ended (λ M 𝓤 𝓛. offset_at.clauses 𝓛) (λ M 𝓤 𝓛. offset_at.spec 𝓛)
 offset_at_decided x = decides x.𝓤 (λ o o' p q. (joined p q, refl))
 
-pub feature_at_decided : Decided feature_at_fn.ended (λ M. feature_at_fn.clauses) (λ M. feature_at_fn.spec)
+pub feature_at_decided : Decided feature_at_fn.ended (λ M 𝓤 𝓛. feature_at_fn.clauses 𝓛) (λ M 𝓤 𝓛. feature_at_fn.spec 𝓛)
 feature_at_decided x = decides x.𝓤 (λ o o' p q. ((λ i. record { 0 = joined p q i }), refl))
 
-pub put_counts_decided : Decided put_counts.ended (λ M. put_counts.clauses) (λ M. put_counts.spec)
+pub put_counts_decided : Decided put_counts.ended (λ M 𝓤 𝓛. put_counts.clauses 𝓛) (λ M 𝓤 𝓛. put_counts.spec 𝓛)
 put_counts_decided x = decides x.𝓤 (λ o o' p q. ((same p q).0, (same p q).1 & refl))
 
-pub profiles_part_decided : DecidedAs profiles_part_fn.ended (λ M. profiles_part_fn.clauses) (λ M. profiles_part_fn.spec) (λ κs r. seen r)
+pub profiles_part_decided : DecidedAs profiles_part_fn.ended (λ M 𝓤 𝓛. profiles_part_fn.clauses 𝓛) (λ M 𝓤 𝓛. profiles_part_fn.spec 𝓛) (λ κs r. seen r)
 profiles_part_decided x = decides x.𝓤 (λ o o' p q. (same_part p q, refl))
 
 -- ---- sheet
 
-pub flags_rule_decided : Decided flags_rule_fn.ended (λ M. flags_rule_fn.clauses) (λ M. flags_rule_fn.spec)
+pub flags_rule_decided : Decided flags_rule_fn.ended (λ M 𝓤 𝓛. flags_rule_fn.clauses 𝓛) (λ M 𝓤 𝓛. flags_rule_fn.spec 𝓛)
 flags_rule_decided x = decides x.𝓤 (λ o o' p q. (joined p q, refl))
 
-pub end_before_decided : Decided end_before_fn.ended (λ M. end_before_fn.clauses) (λ M. end_before_fn.spec)
+pub end_before_decided : Decided end_before_fn.ended (λ M 𝓤 𝓛. end_before_fn.clauses 𝓛) (λ M 𝓤 𝓛. end_before_fn.spec 𝓛)
 end_before_decided x = decides x.𝓤 (λ o o' p q. (joined p q, refl))
 
-pub first_from_decided : Decided first_from_law.ended (λ M. first_from_law.clauses) (λ M. first_from_law.spec)
+pub first_from_decided : Decided first_from_law.ended (λ M 𝓤 𝓛. first_from_law.clauses 𝓛) (λ M 𝓤 𝓛. first_from_law.spec 𝓛)
 first_from_decided x = decides x.𝓤 (λ o o' p q. (joined p q, refl))
 
-pub next_from_decided : Decided next_from_fn.ended (λ M. next_from_fn.clauses) (λ M. next_from_fn.spec)
+pub next_from_decided : Decided next_from_fn.ended (λ M 𝓤 𝓛. next_from_fn.clauses 𝓛) (λ M 𝓤 𝓛. next_from_fn.spec 𝓛)
 next_from_decided x = decides x.𝓤 (λ o o' p q. (joined p q, refl))
 
-pub check_decided : Decided check.ended (λ M. check.clauses) (λ M. check.spec)
+pub check_decided : Decided check.ended (λ M 𝓤 𝓛. check.clauses 𝓛) (λ M 𝓤 𝓛. check.spec 𝓛)
 check_decided = sheet_decides.check_decided
 
 -- ---- load
 
-pub load_decided : Decided load.ended (λ M. load.clauses) (λ M. load.spec)
+pub load_decided : Decided load.ended (λ M 𝓤 𝓛. load.clauses 𝓛) (λ M 𝓤 𝓛. load.spec 𝓛)
 load_decided x = decides x.𝓤 (λ o o' p q. (ap (λ (z : Outcome). z.made) (joined p q), refl & refl & refl & refl & ap (λ (z : Outcome). z.buffer) (joined p q) & refl))
 
 -- ---- convert
 
-pub convert_decided : Decided convert.ended (λ M. convert.clauses) (λ M. convert.spec)
+pub convert_decided : Decided convert.ended (λ M 𝓤 𝓛. convert.clauses 𝓛) (λ M 𝓤 𝓛. convert.spec 𝓛)
 convert_decided x = decides x.𝓤 (λ o o' p q. (ap (λ (z : Outcome). z.made) (joined p q), refl & refl & refl & ap (λ (z : Outcome). z.buffer) (joined p q) & refl))
 
 -- ---- responder
 
-pub send_decided : Decided send.ended (λ M. send.clauses) (λ M. send.spec)
+pub send_decided : Decided send.ended (λ M 𝓤 𝓛. send.clauses 𝓛) (λ M 𝓤 𝓛. send.spec 𝓛)
 send_decided x = decides x.𝓤 (λ o o' p q. (ap (λ (z : Outcome). z.made) (joined p q), refl & refl & refl & refl & refl & ap (λ (z : Outcome). z.buffer) (joined p q) & refl))
 
-pub size_decided : Decided size.ended (λ M. size.clauses) (λ M. size.spec)
+pub size_decided : Decided size.ended (λ M 𝓤 𝓛. size.clauses 𝓛) (λ M 𝓤 𝓛. size.spec 𝓛)
 size_decided x = decides x.𝓤 (λ o o' p q. (joined p q, refl))
 
-pub send_sized_decided : Decided send_sized.ended (λ M. send_sized.clauses) (λ M. send_sized.spec)
+pub send_sized_decided : Decided send_sized.ended (λ M 𝓤 𝓛. send_sized.clauses 𝓛) (λ M 𝓤 𝓛. send_sized.spec 𝓛)
 send_sized_decided x = decides x.𝓤 (λ o o' p q. (ap (λ (z : Outcome). z.made) (joined p q), refl & refl & refl & refl & refl & refl & refl & ap (λ (z : Outcome). z.buffer) (joined p q) & refl))
 
-pub respond_accepted_decided : Decided respond_accepted.ended (λ M. respond_accepted.clauses) (λ M. respond_accepted.spec)
+pub respond_accepted_decided : Decided respond_accepted.ended (λ M 𝓤 𝓛. respond_accepted.clauses 𝓛) (λ M 𝓤 𝓛. respond_accepted.spec 𝓛)
 respond_accepted_decided x = decides x.𝓤 (λ o o' p q. (ap (λ (z : Outcome). z.made) (joined p q), refl & refl & refl & ap (λ (z : Outcome). z.buffer) (joined p q) & refl))
 
-pub respond_decided : Decided respond.ended (λ M. respond.clauses) (λ M. respond.spec)
+pub respond_decided : Decided respond.ended (λ M 𝓤 𝓛. respond.clauses 𝓛) (λ M 𝓤 𝓛. respond.spec 𝓛)
 respond_decided x = decides x.𝓤 (λ o o' p q. (ap (λ (z : Outcome). z.made) (joined p q), refl & refl & refl & ap (λ (z : Outcome). z.buffer) (joined p q) & refl))
 
 -- ---- reading
 
-pub number_at_decided : Decided number_at.ended (λ M. number_at.clauses) (λ M. number_at.spec)
+pub number_at_decided : Decided number_at.ended (λ M 𝓤 𝓛. number_at.clauses 𝓛) (λ M 𝓤 𝓛. number_at.spec 𝓛)
 number_at_decided x = decides x.𝓤 (λ o o' p q. ((λ i. record { 0 = joined p q i }), refl))
 
-pub reading_flags_at_decided : Decided reading_flags_at.ended (λ M. reading_flags_at.clauses) (λ M. reading_flags_at.spec)
+pub reading_flags_at_decided : Decided reading_flags_at.ended (λ M 𝓤 𝓛. reading_flags_at.clauses 𝓛) (λ M 𝓤 𝓛. reading_flags_at.spec 𝓛)
 reading_flags_at_decided x = decides x.𝓤 (λ o o' p q. ((λ i. record { 0 = joined p q i }), refl))
 
-pub reading_length_at_decided : Decided reading_length_at.ended (λ M. reading_length_at.clauses) (λ M. reading_length_at.spec)
+pub reading_length_at_decided : Decided reading_length_at.ended (λ M 𝓤 𝓛. reading_length_at.clauses 𝓛) (λ M 𝓤 𝓛. reading_length_at.spec 𝓛)
 reading_length_at_decided x = decides x.𝓤 (λ o o' p q. (joined p q, refl))
 
-pub next_at_decided : Decided next_at_fn.ended (λ M. next_at_fn.clauses) (λ M. next_at_fn.spec)
+pub next_at_decided : Decided next_at_fn.ended (λ M 𝓤 𝓛. next_at_fn.clauses 𝓛) (λ M 𝓤 𝓛. next_at_fn.spec 𝓛)
 next_at_decided x = decides x.𝓤 (λ o o' p q. (joined p q, refl))
 
-pub body_at_decided : DecidedAs body_at.ended (λ M. body_at.clauses) (λ M. body_at.spec) (λ κs r. seen r)
+pub body_at_decided : DecidedAs body_at.ended (λ M 𝓤 𝓛. body_at.clauses 𝓛) (λ M 𝓤 𝓛. body_at.spec 𝓛) (λ κs r. seen r)
 body_at_decided x = decides x.𝓤 (λ o o' p q. (same_part p q, refl))
 
-pub scan_decided : Decided scan.ended (λ M. scan.clauses) (λ M. scan.spec)
+pub scan_decided : Decided scan.ended (λ M 𝓤 𝓛. scan.clauses 𝓛) (λ M 𝓤 𝓛. scan.spec 𝓛)
 scan_decided x = decides x.𝓤 (λ o o' p q. (joined p q, refl))
 
-pub stops_decided : Decided stops.ended (λ M. stops.clauses) (λ M. stops.spec)
+pub stops_decided : Decided stops.ended (λ M 𝓤 𝓛. stops.clauses 𝓛) (λ M 𝓤 𝓛. stops.spec 𝓛)
 stops_decided x = decides x.𝓤 (λ o o' p q. (joined p q, refl))
 
-pub place_of_decided : Decided place_of.ended (λ M. place_of.clauses) (λ M. place_of.spec)
+pub place_of_decided : Decided place_of.ended (λ M 𝓤 𝓛. place_of.clauses 𝓛) (λ M 𝓤 𝓛. place_of.spec 𝓛)
 place_of_decided x = decides x.𝓤 (λ o o' p q. (joined p q, refl))
 
-pub read_decided : Decided read.ended (λ M. read.clauses) (λ M. read.spec)
+pub read_decided : Decided read.ended (λ M 𝓤 𝓛. read.clauses 𝓛) (λ M 𝓤 𝓛. read.spec 𝓛)
 read_decided x = decides x.𝓤 (λ o o' p q. (joined p q, refl))
 
-pub complete_decided : Decided complete.ended (λ M. complete.clauses) (λ M. complete.spec)
+pub complete_decided : Decided complete.ended (λ M 𝓤 𝓛. complete.clauses 𝓛) (λ M 𝓤 𝓛. complete.spec 𝓛)
 complete_decided x = decides x.𝓤 (λ o o' p q. (joined p q, refl))
 
-pub complete_number_decided : Decided complete_number.ended (λ M. complete_number.clauses) (λ M. complete_number.spec)
+pub complete_number_decided : Decided complete_number.ended (λ M 𝓤 𝓛. complete_number.clauses 𝓛) (λ M 𝓤 𝓛. complete_number.spec 𝓛)
 complete_number_decided x = decides x.𝓤 (λ o o' p q. (joined p q, refl))
 
-pub judge_decided : Decided judge.ended (λ M. judge.clauses) (λ M. judge.spec)
+pub judge_decided : Decided judge.ended (λ M 𝓤 𝓛. judge.clauses 𝓛) (λ M 𝓤 𝓛. judge.spec 𝓛)
 judge_decided = reading_decides.judge_decided
 
-pub held_decided : DecidedAs held.ended (λ M. held.clauses) (λ M. held.spec) (λ κs r. seen r)
+pub held_decided : DecidedAs held.ended (λ M 𝓤 𝓛. held.clauses 𝓛) (λ M 𝓤 𝓛. held.spec 𝓛) (λ κs r. seen r)
 held_decided = reading_decides.held_decided
 
 -- ---- sweep
 
-pub most_decided : Decided most.ended (λ M. most.clauses) (λ M. most.spec)
+pub most_decided : Decided most.ended (λ M 𝓤 𝓛. most.clauses 𝓛) (λ M 𝓤 𝓛. most.spec 𝓛)
 most_decided x = decides x.𝓤 (λ o o' p q. (joined p q, refl))
 
-pub sweep_start_decided : Decided sweep_start.ended (λ M. sweep_start.clauses) (λ M. sweep_start.spec)
+pub sweep_start_decided : Decided sweep_start.ended (λ M 𝓤 𝓛. sweep_start.clauses 𝓛) (λ M 𝓤 𝓛. sweep_start.spec 𝓛)
 sweep_start_decided x = decides x.𝓤 (λ o o' p q. (joined p q, refl))
 
-pub sweep_take_decided : Decided sweep_take.ended (λ M. sweep_take.clauses) (λ M. sweep_take.spec)
+pub sweep_take_decided : Decided sweep_take.ended (λ M 𝓤 𝓛. sweep_take.clauses 𝓛) (λ M 𝓤 𝓛. sweep_take.spec 𝓛)
 sweep_take_decided x = decides x.𝓤 (λ o o' p q. (ap (λ (z : Turn). z.step) (joined p q), refl & refl & ap (λ (z : Turn). z.buffer) (joined p q) & refl))
 
-pub take_response_decided : Decided take_response.ended (λ M. take_response.clauses) (λ M. take_response.spec)
+pub take_response_decided : Decided take_response.ended (λ M 𝓤 𝓛. take_response.clauses 𝓛) (λ M 𝓤 𝓛. take_response.spec 𝓛)
 take_response_decided x = decides x.𝓤 (λ o o' p q. (
   ap (λ (z : Turn). z.step.refusal) (joined p q),
   ap (λ (z : Turn). z.step.sweep) (joined p q) & refl & ap (λ (z : Turn). z.buffer) (joined p q) & refl,
@@ -377,17 +377,17 @@ take_response_decided x = decides x.𝓤 (λ o o' p q. (
 
 -- ---- listing
 
-pub list_decided : Decided list.ended (λ M. list.clauses) (λ M. list.spec)
+pub list_decided : Decided list.ended (λ M 𝓤 𝓛. list.clauses 𝓛) (λ M 𝓤 𝓛. list.spec 𝓛)
 list_decided x = decides x.𝓤 (λ o o' p q. ((same p q).0, refl & (same p q).1 & refl))
 
 -- ---- descriptor
 
-pub stands_decided : Decided stands.ended (λ M. stands.clauses) (λ M. stands.spec)
+pub stands_decided : Decided stands.ended (λ M 𝓤 𝓛. stands.clauses 𝓛) (λ M 𝓤 𝓛. stands.spec 𝓛)
 stands_decided x = decides x.𝓤 (λ o o' p q. (joined p q, refl))
 
 -- ---- meanings
 
-pub put_words_decided : Decided put_words.ended (λ M. put_words.clauses) (λ M. put_words.spec)
+pub put_words_decided : Decided put_words.ended (λ M 𝓤 𝓛. put_words.clauses 𝓛) (λ M 𝓤 𝓛. put_words.spec 𝓛)
 put_words_decided x = decides x.𝓤 (λ o o' p q. ((same p q).0, refl & (same p q).1 & refl))
 
 -- ---- bench
@@ -401,7 +401,7 @@ collected p = ap (λ (z : bench_specs.Buffers). z.collected) p
 starts : {a b : bench_specs.Buffers} → a ≡ b → a.starts ≡ b.starts
 starts p = ap (λ (z : bench_specs.Buffers). z.starts) p
 
-pub bench_decided : Decided bench.ended (λ M. bench.clauses) (λ M. bench.spec)
+pub bench_decided : Decided bench.ended (λ M 𝓤 𝓛. bench.clauses 𝓛) (λ M 𝓤 𝓛. bench.spec 𝓛)
 bench_decided x = decides x.𝓤 (λ o o' p q. (
   ap (λ (z : bench_specs.Ending). z.reply) (joined p q),
   refl & refl & refl & refl & response (ap (λ (z : bench_specs.Ending). z.buffers) (joined p q)) & collected (ap (λ (z : bench_specs.Ending). z.buffers) (joined p q)) & starts (ap (λ (z : bench_specs.Ending). z.buffers) (joined p q)) & refl,
@@ -409,41 +409,41 @@ bench_decided x = decides x.𝓤 (λ o o' p q. (
 
 -- ---- checks
 
-pub check_descriptors_decided : Decided check_descriptors.ended (λ M. check_descriptors.clauses) (λ M. check_descriptors.spec)
+pub check_descriptors_decided : Decided check_descriptors.ended (λ M 𝓤 𝓛. check_descriptors.clauses 𝓛) (λ M 𝓤 𝓛. check_descriptors.spec 𝓛)
 check_descriptors_decided x = decides x.𝓤 (λ o o' p q. (joined p q, refl))
 
-pub fault_at_decided : Decided fault_at.ended (λ M. fault_at.clauses) (λ M. fault_at.spec)
+pub fault_at_decided : Decided fault_at.ended (λ M 𝓤 𝓛. fault_at.clauses 𝓛) (λ M 𝓤 𝓛. fault_at.spec 𝓛)
 fault_at_decided x = decides x.𝓤 (λ o o' p q. (joined p q, refl))
 
-pub wrong_number_decided : Decided wrong_number_fn.ended (λ M. wrong_number_fn.clauses) (λ M. wrong_number_fn.spec)
+pub wrong_number_decided : Decided wrong_number_fn.ended (λ M 𝓤 𝓛. wrong_number_fn.clauses 𝓛) (λ M 𝓤 𝓛. wrong_number_fn.spec 𝓛)
 wrong_number_decided x = decides x.𝓤 (λ o o' p q. (joined p q, refl))
 
-pub check_profile_decided : Decided check_profile.ended (λ M. check_profile.clauses) (λ M. check_profile.spec)
+pub check_profile_decided : Decided check_profile.ended (λ M 𝓤 𝓛. check_profile.clauses 𝓛) (λ M 𝓤 𝓛. check_profile.spec 𝓛)
 check_profile_decided x = decides x.𝓤 (λ o o' p q. (said_injective o.0 o'.0 (joined p q), refl))
 
-pub check_feature_decided : Decided check_feature.ended (λ M. check_feature.clauses) (λ M. check_feature.spec)
+pub check_feature_decided : Decided check_feature.ended (λ M 𝓤 𝓛. check_feature.clauses 𝓛) (λ M 𝓤 𝓛. check_feature.spec 𝓛)
 check_feature_decided x = decides x.𝓤 (λ o o' p q. (said_injective o.0 o'.0 (joined p q), refl))
 
 -- ---- legal
 
-pub row_of_decided : Decided row_of.ended (λ M. row_of.clauses) (λ M. row_of.spec)
+pub row_of_decided : Decided row_of.ended (λ M 𝓤 𝓛. row_of.clauses 𝓛) (λ M 𝓤 𝓛. row_of.spec 𝓛)
 row_of_decided x = decides x.𝓤 (λ o o' p q. (joined p q, refl))
 
-pub wrong_length_decided : Decided wrong_length_fn.ended (λ M. wrong_length_fn.clauses) (λ M. wrong_length_fn.spec)
+pub wrong_length_decided : Decided wrong_length_fn.ended (λ M 𝓤 𝓛. wrong_length_fn.clauses 𝓛) (λ M 𝓤 𝓛. wrong_length_fn.spec 𝓛)
 wrong_length_decided x = decides x.𝓤 (λ o o' p q. (joined p q, refl))
 
-pub mask_at_decided : Decided mask_at.ended (λ M. mask_at.clauses) (λ M. mask_at.spec)
+pub mask_at_decided : Decided mask_at.ended (λ M 𝓤 𝓛. mask_at.clauses 𝓛) (λ M 𝓤 𝓛. mask_at.spec 𝓛)
 mask_at_decided x = decides x.𝓤 (λ o o' p q. (joined p q, refl))
 
-pub reserved_fault_decided : Decided reserved_fault.ended (λ M. reserved_fault.clauses) (λ M. reserved_fault.spec)
+pub reserved_fault_decided : Decided reserved_fault.ended (λ M 𝓤 𝓛. reserved_fault.clauses 𝓛) (λ M 𝓤 𝓛. reserved_fault.spec 𝓛)
 reserved_fault_decided x = decides x.𝓤 (λ o o' p q. (joined p q, refl))
 
-pub cue_fault_decided : Decided cue_fault.ended (λ M. cue_fault.clauses) (λ M. cue_fault.spec)
+pub cue_fault_decided : Decided cue_fault.ended (λ M 𝓤 𝓛. cue_fault.clauses 𝓛) (λ M 𝓤 𝓛. cue_fault.spec 𝓛)
 cue_fault_decided x = decides x.𝓤 (λ o o' p q. (joined p q, refl))
 
 -- ---- mend
 
-pub mend_decided : Decided mend.ended (λ M. mend.clauses) (λ M. mend.spec)
+pub mend_decided : Decided mend.ended (λ M 𝓤 𝓛. mend.clauses 𝓛) (λ M 𝓤 𝓛. mend.spec 𝓛)
 mend_decided x = decides x.𝓤 (λ o o' p q. (
   ap (λ (z : mend_specs.Outcome). z.answer) (joined p q),
   refl & ap (λ (z : mend_specs.Outcome). z.copy) (joined p q) & ap (λ (z : mend_specs.Outcome). z.list) (joined p q) & refl,
@@ -451,31 +451,31 @@ mend_decided x = decides x.𝓤 (λ o o' p q. (
 
 -- ---- capture and import
 
-pub capture_check_decided : Decided capture_check.ended (λ M. capture_check.clauses) (λ M. capture_check.spec)
+pub capture_check_decided : Decided capture_check.ended (λ M 𝓤 𝓛. capture_check.clauses 𝓛) (λ M 𝓤 𝓛. capture_check.spec 𝓛)
 capture_check_decided x = decides x.𝓤 (λ o o' p q. (joined p q, refl))
 
-pub import_decided : Decided import.ended (λ M. import.clauses) (λ M. import.spec)
+pub import_decided : Decided import.ended (λ M 𝓤 𝓛. import.clauses 𝓛) (λ M 𝓤 𝓛. import.spec 𝓛)
 import_decided x = decides x.𝓤 (λ o o' p q. (ap (λ (z : Outcome). z.made) (joined p q), refl & ap (λ (z : Outcome). z.buffer) (joined p q) & refl))
 
 -- ---- rom
 
-pub rom_respond_accepted_decided : Decided rom_respond_accepted.ended (λ M. rom_respond_accepted.clauses) (λ M. rom_respond_accepted.spec)
+pub rom_respond_accepted_decided : Decided rom_respond_accepted.ended (λ M 𝓤 𝓛. rom_respond_accepted.clauses 𝓛) (λ M 𝓤 𝓛. rom_respond_accepted.spec 𝓛)
 rom_respond_accepted_decided x = decides x.𝓤 (λ o o' p q. (ap (λ (z : Outcome). z.made) (joined p q), refl & refl & ap (λ (z : Outcome). z.buffer) (joined p q) & refl))
 
-pub rom_respond_decided : Decided rom_respond.ended (λ M. rom_respond.clauses) (λ M. rom_respond.spec)
+pub rom_respond_decided : Decided rom_respond.ended (λ M 𝓤 𝓛. rom_respond.clauses 𝓛) (λ M 𝓤 𝓛. rom_respond.spec 𝓛)
 rom_respond_decided x = decides x.𝓤 (λ o o' p q. (ap (λ (z : Outcome). z.made) (joined p q), refl & refl & ap (λ (z : Outcome). z.buffer) (joined p q) & refl))
 
 -- ---- sense
 
-pub sense_make_decided : Decided sense_make.ended (λ M. sense_make.clauses) (λ M. sense_make.spec)
+pub sense_make_decided : Decided sense_make.ended (λ M 𝓤 𝓛. sense_make.clauses 𝓛) (λ M 𝓤 𝓛. sense_make.spec 𝓛)
 sense_make_decided = sense_decides.make_decided
 
-pub sense_read_decided : Decided sense_read.ended (λ M. sense_read.clauses) (λ M. sense_read.spec)
+pub sense_read_decided : Decided sense_read.ended (λ M 𝓤 𝓛. sense_read.clauses 𝓛) (λ M 𝓤 𝓛. sense_read.spec 𝓛)
 sense_read_decided x = decides x.𝓤 (λ o o' p q. (heard_injective o.0 o'.0 (joined p q), refl))
 
 -- ---- hex
 
-pub hex_spell_decided : Decided hex_spell.ended (λ M. hex_spell.clauses) (λ M. hex_spell.spec)
+pub hex_spell_decided : Decided hex_spell.ended (λ M 𝓤 𝓛. hex_spell.clauses 𝓛) (λ M 𝓤 𝓛. hex_spell.spec 𝓛)
 hex_spell_decided x = decides x.𝓤 (λ o o' p q. (ap (λ (z : hex.Outcome). z.told) (joined p q), refl & ap (λ (z : hex.Outcome). z.buffer) (joined p q) & refl))
 
 -- ---- abi: what is left in the buffers, and what is told
@@ -489,89 +489,89 @@ buffers {B} p = ap (λ (z : Left B). z.buffers) p
 told : {B : Type 0} {a b : Left B} → a ≡ b → a.told ≡ b.told
 told {B} p = ap (λ (z : Left B). z.told) p
 
-pub gcf_check_sheet_decided : Decided gcf_check_sheet.ended (λ M. gcf_check_sheet.clauses) (λ M. gcf_check_sheet.spec)
+pub gcf_check_sheet_decided : Decided gcf_check_sheet.ended (λ M 𝓤 𝓛. gcf_check_sheet.clauses 𝓛) (λ M 𝓤 𝓛. gcf_check_sheet.spec 𝓛)
 gcf_check_sheet_decided x = decides x.𝓤 (λ o o' p q. (number (joined p q), refl & refl & told (joined p q) & refl))
 
-pub gcf_respond_decided : Decided gcf_respond.ended (λ M. gcf_respond.clauses) (λ M. gcf_respond.spec)
+pub gcf_respond_decided : Decided gcf_respond.ended (λ M 𝓤 𝓛. gcf_respond.clauses 𝓛) (λ M 𝓤 𝓛. gcf_respond.spec 𝓛)
 gcf_respond_decided x = decides x.𝓤 (λ o o' p q. (number (joined p q), refl & refl & refl & buffers (joined p q) & told (joined p q) & refl))
 
-pub gcf_respond_accepted_decided : Decided gcf_respond_accepted.ended (λ M. gcf_respond_accepted.clauses) (λ M. gcf_respond_accepted.spec)
+pub gcf_respond_accepted_decided : Decided gcf_respond_accepted.ended (λ M 𝓤 𝓛. gcf_respond_accepted.clauses 𝓛) (λ M 𝓤 𝓛. gcf_respond_accepted.spec 𝓛)
 gcf_respond_accepted_decided x = decides x.𝓤 (λ o o' p q. (number (joined p q), refl & refl & refl & buffers (joined p q) & told (joined p q) & refl))
 
-pub gcf_check_image_decided : Decided gcf_check_image.ended (λ M. gcf_check_image.clauses) (λ M. gcf_check_image.spec)
+pub gcf_check_image_decided : Decided gcf_check_image.ended (λ M 𝓤 𝓛. gcf_check_image.clauses 𝓛) (λ M 𝓤 𝓛. gcf_check_image.spec 𝓛)
 gcf_check_image_decided x = decides x.𝓤 (λ o o' p q. (number (joined p q), refl & told (joined p q) & refl))
 
-pub gcf_respond_image_decided : Decided gcf_respond_image.ended (λ M. gcf_respond_image.clauses) (λ M. gcf_respond_image.spec)
+pub gcf_respond_image_decided : Decided gcf_respond_image.ended (λ M 𝓤 𝓛. gcf_respond_image.clauses 𝓛) (λ M 𝓤 𝓛. gcf_respond_image.spec 𝓛)
 gcf_respond_image_decided x = decides x.𝓤 (λ o o' p q. (number (joined p q), refl & refl & buffers (joined p q) & told (joined p q) & refl))
 
-pub gcf_respond_image_accepted_decided : Decided gcf_respond_image_accepted.ended (λ M. gcf_respond_image_accepted.clauses) (λ M. gcf_respond_image_accepted.spec)
+pub gcf_respond_image_accepted_decided : Decided gcf_respond_image_accepted.ended (λ M 𝓤 𝓛. gcf_respond_image_accepted.clauses 𝓛) (λ M 𝓤 𝓛. gcf_respond_image_accepted.spec 𝓛)
 gcf_respond_image_accepted_decided x = decides x.𝓤 (λ o o' p q. (number (joined p q), refl & refl & buffers (joined p q) & told (joined p q) & refl))
 
-pub gcf_read_decided : Decided gcf_read.ended (λ M. gcf_read.clauses) (λ M. gcf_read.spec)
+pub gcf_read_decided : Decided gcf_read.ended (λ M 𝓤 𝓛. gcf_read.clauses 𝓛) (λ M 𝓤 𝓛. gcf_read.spec 𝓛)
 gcf_read_decided x = decides x.𝓤 (λ o o' p q. (number (joined p q), refl & refl & refl & told (joined p q) & refl))
 
-pub gcf_held_decided : Decided gcf_held.ended (λ M. gcf_held.clauses) (λ M. gcf_held.spec)
+pub gcf_held_decided : Decided gcf_held.ended (λ M 𝓤 𝓛. gcf_held.clauses 𝓛) (λ M 𝓤 𝓛. gcf_held.spec 𝓛)
 gcf_held_decided x = decides x.𝓤 (λ o o' p q. ((same p q).0, refl & refl & refl & (same p q).1 & refl))
 
-pub gcf_words_decided : Decided gcf_words.ended (λ M. gcf_words.clauses) (λ M. gcf_words.spec)
+pub gcf_words_decided : Decided gcf_words.ended (λ M 𝓤 𝓛. gcf_words.clauses 𝓛) (λ M 𝓤 𝓛. gcf_words.spec 𝓛)
 gcf_words_decided x = decides x.𝓤 (λ o o' p q. ((same p q).0, refl & (same p q).1 & refl))
 
-pub gcf_list_decided : Decided gcf_list.ended (λ M. gcf_list.clauses) (λ M. gcf_list.spec)
+pub gcf_list_decided : Decided gcf_list.ended (λ M 𝓤 𝓛. gcf_list.clauses 𝓛) (λ M 𝓤 𝓛. gcf_list.spec 𝓛)
 gcf_list_decided x = decides x.𝓤 (λ o o' p q. ((same p q).0, refl & (same p q).1 & refl))
 
-pub gcf_stops_decided : Decided gcf_stops.ended (λ M. gcf_stops.clauses) (λ M. gcf_stops.spec)
+pub gcf_stops_decided : Decided gcf_stops.ended (λ M 𝓤 𝓛. gcf_stops.clauses 𝓛) (λ M 𝓤 𝓛. gcf_stops.spec 𝓛)
 gcf_stops_decided x = decides x.𝓤 (λ o o' p q. (refl, refl & refl & refl & refl & joined p q & refl))
 
-pub gcf_next_decided : Decided gcf_next.ended (λ M. gcf_next.clauses) (λ M. gcf_next.spec)
+pub gcf_next_decided : Decided gcf_next.ended (λ M 𝓤 𝓛. gcf_next.clauses 𝓛) (λ M 𝓤 𝓛. gcf_next.spec 𝓛)
 gcf_next_decided x = decides x.𝓤 (λ o o' p q. (ap (λ (z : Bool × List ℕ). z.0) (joined p q), refl & refl & ap (λ (z : Bool × List ℕ). z.1) (joined p q) & refl))
 
-pub gcf_place_decided : Decided gcf_place.ended (λ M. gcf_place.clauses) (λ M. gcf_place.spec)
+pub gcf_place_decided : Decided gcf_place.ended (λ M 𝓤 𝓛. gcf_place.clauses 𝓛) (λ M 𝓤 𝓛. gcf_place.spec 𝓛)
 gcf_place_decided x = decides x.𝓤 (λ o o' p q. (joined p q, refl))
 
-pub gcf_most_decided : Decided gcf_most.ended (λ M. gcf_most.clauses) (λ M. gcf_most.spec)
+pub gcf_most_decided : Decided gcf_most.ended (λ M 𝓤 𝓛. gcf_most.clauses 𝓛) (λ M 𝓤 𝓛. gcf_most.spec 𝓛)
 gcf_most_decided x = decides x.𝓤 (λ o o' p q. (joined p q, refl))
 
-pub gcf_sweep_start_decided : Decided gcf_sweep_start.ended (λ M. gcf_sweep_start.clauses) (λ M. gcf_sweep_start.spec)
+pub gcf_sweep_start_decided : Decided gcf_sweep_start.ended (λ M 𝓤 𝓛. gcf_sweep_start.clauses 𝓛) (λ M 𝓤 𝓛. gcf_sweep_start.spec 𝓛)
 gcf_sweep_start_decided x = decides x.𝓤 (λ o o' p q. (joined p q, refl))
 
-pub gcf_sweep_take_decided : Decided gcf_sweep_take.ended (λ M. gcf_sweep_take.clauses) (λ M. gcf_sweep_take.spec)
+pub gcf_sweep_take_decided : Decided gcf_sweep_take.ended (λ M 𝓤 𝓛. gcf_sweep_take.clauses 𝓛) (λ M 𝓤 𝓛. gcf_sweep_take.spec 𝓛)
 gcf_sweep_take_decided x = decides x.𝓤 (λ o o' p q. (ap (λ (z : Turn). z.step) (joined p q), refl & refl & ap (λ (z : Turn). z.buffer) (joined p q) & refl))
 
-pub gcf_bench_decided : Decided gcf_bench.ended (λ M. gcf_bench.clauses) (λ M. gcf_bench.spec)
+pub gcf_bench_decided : Decided gcf_bench.ended (λ M 𝓤 𝓛. gcf_bench.clauses 𝓛) (λ M 𝓤 𝓛. gcf_bench.spec 𝓛)
 gcf_bench_decided x = decides x.𝓤 (λ o o' p q. (
   number (joined p q),
   refl & refl & refl & refl & response (buffers (joined p q)) & collected (buffers (joined p q)) & starts (buffers (joined p q)) & told (joined p q) & refl,
 ))
 
-pub gcf_judge_decided : Decided gcf_judge.ended (λ M. gcf_judge.clauses) (λ M. gcf_judge.spec)
+pub gcf_judge_decided : Decided gcf_judge.ended (λ M 𝓤 𝓛. gcf_judge.clauses 𝓛) (λ M 𝓤 𝓛. gcf_judge.spec 𝓛)
 gcf_judge_decided x = decides x.𝓤 (λ o o' p q. (number (joined p q), refl & refl & refl & refl & buffers (joined p q) & told (joined p q) & refl))
 
-pub gcf_check_descriptors_decided : Decided gcf_check_descriptors.ended (λ M. gcf_check_descriptors.clauses) (λ M. gcf_check_descriptors.spec)
+pub gcf_check_descriptors_decided : Decided gcf_check_descriptors.ended (λ M 𝓤 𝓛. gcf_check_descriptors.clauses 𝓛) (λ M 𝓤 𝓛. gcf_check_descriptors.spec 𝓛)
 gcf_check_descriptors_decided x = decides x.𝓤 (λ o o' p q. (number (joined p q), refl & told (joined p q) & refl))
 
-pub gcf_check_profile_decided : Decided gcf_check_profile.ended (λ M. gcf_check_profile.clauses) (λ M. gcf_check_profile.spec)
+pub gcf_check_profile_decided : Decided gcf_check_profile.ended (λ M 𝓤 𝓛. gcf_check_profile.clauses 𝓛) (λ M 𝓤 𝓛. gcf_check_profile.spec 𝓛)
 gcf_check_profile_decided x = decides x.𝓤 (λ o o' p q. (number (joined p q), refl & refl & told (joined p q) & refl))
 
-pub gcf_mend_decided : Decided gcf_mend.ended (λ M. gcf_mend.clauses) (λ M. gcf_mend.spec)
+pub gcf_mend_decided : Decided gcf_mend.ended (λ M 𝓤 𝓛. gcf_mend.clauses 𝓛) (λ M 𝓤 𝓛. gcf_mend.spec 𝓛)
 gcf_mend_decided x = decides x.𝓤 (λ o o' p q. (
   number (joined p q),
   refl & ap (λ (z : List ℕ × List ℕ). z.0) (buffers (joined p q)) & ap (λ (z : List ℕ × List ℕ). z.1) (buffers (joined p q)) & told (joined p q) & refl,
 ))
 
-pub gcf_import_decided : Decided gcf_import.ended (λ M. gcf_import.clauses) (λ M. gcf_import.spec)
+pub gcf_import_decided : Decided gcf_import.ended (λ M 𝓤 𝓛. gcf_import.clauses 𝓛) (λ M 𝓤 𝓛. gcf_import.spec 𝓛)
 gcf_import_decided x = decides x.𝓤 (λ o o' p q. (number (joined p q), refl & buffers (joined p q) & told (joined p q) & refl))
 
-pub gcf_convert_decided : Decided gcf_convert.ended (λ M. gcf_convert.clauses) (λ M. gcf_convert.spec)
+pub gcf_convert_decided : Decided gcf_convert.ended (λ M 𝓤 𝓛. gcf_convert.clauses 𝓛) (λ M 𝓤 𝓛. gcf_convert.spec 𝓛)
 gcf_convert_decided x = decides x.𝓤 (λ o o' p q. (number (joined p q), refl & refl & refl & buffers (joined p q) & told (joined p q) & refl))
 
-pub gcf_load_decided : Decided gcf_load.ended (λ M. gcf_load.clauses) (λ M. gcf_load.spec)
+pub gcf_load_decided : Decided gcf_load.ended (λ M 𝓤 𝓛. gcf_load.clauses 𝓛) (λ M 𝓤 𝓛. gcf_load.spec 𝓛)
 gcf_load_decided x = decides x.𝓤 (λ o o' p q. (number (joined p q), refl & refl & refl & refl & buffers (joined p q) & told (joined p q) & refl))
 
-pub gcf_build_command_decided : Decided gcf_build_command.ended (λ M. gcf_build_command.clauses) (λ M. gcf_build_command.spec)
+pub gcf_build_command_decided : Decided gcf_build_command.ended (λ M 𝓤 𝓛. gcf_build_command.clauses 𝓛) (λ M 𝓤 𝓛. gcf_build_command.spec 𝓛)
 gcf_build_command_decided x = decides x.𝓤 (λ o o' p q. (number (joined p q), refl & refl & refl & refl & buffers (joined p q) & told (joined p q) & refl))
 
-pub gcf_make_sense_decided : Decided gcf_make_sense.ended (λ M. gcf_make_sense.clauses) (λ M. gcf_make_sense.spec)
+pub gcf_make_sense_decided : Decided gcf_make_sense.ended (λ M 𝓤 𝓛. gcf_make_sense.clauses 𝓛) (λ M 𝓤 𝓛. gcf_make_sense.spec 𝓛)
 gcf_make_sense_decided x = decides x.𝓤 (λ o o' p q. (number (joined p q), refl & buffers (joined p q) & told (joined p q) & refl))
 
-pub gcf_read_sense_decided : Decided gcf_read_sense.ended (λ M. gcf_read_sense.clauses) (λ M. gcf_read_sense.spec)
+pub gcf_read_sense_decided : Decided gcf_read_sense.ended (λ M 𝓤 𝓛. gcf_read_sense.clauses 𝓛) (λ M 𝓤 𝓛. gcf_read_sense.spec 𝓛)
 gcf_read_sense_decided x = decides x.𝓤 (λ o o' p q. (number (joined p q), refl & told (joined p q) & refl))

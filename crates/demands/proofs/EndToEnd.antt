@@ -93,7 +93,7 @@ module _ {s : Sheet} {c d : List ℕ} {o : maker.Outcome} (a : Answers s c d o) 
 
 -- ---- demand 2 end to end: `respond` is called, then `read` with what the box sent
 
-pub demand2_end_to_end : Both respond.ended (λ M. respond.clauses) read.ended (λ M. read.clauses)
+pub demand2_end_to_end : Both respond.ended (λ M 𝓤 𝓛. respond.clauses 𝓛) read.ended (λ M 𝓤 𝓛. read.clauses 𝓛)
     (λ x o y p. saying x o (λ _ lay s command out r _ _ _ out'.
     saying y p (λ _ rt₂ sfn₂ s₂ r₂ _ _ _.
     r.refusal.number ≡ 0 → Bytes s.now → 8 ≤ allocation_of command.now
@@ -111,7 +111,7 @@ replayed {r} {d} {s} {c} {e} i a z b there plain is-rt is-sfn enough fits =
     a.sends (by Accepted (i.stores b z).accepted there) plain (rw x fits)
     ∙ ap (λ (xs : List ℕ). maker.making xs e) x
 
-pub import_end_to_end : Both import.ended (λ M. import.clauses) respond.ended (λ M. respond.clauses)
+pub import_end_to_end : Both import.ended (λ M 𝓤 𝓛. import.clauses 𝓛) respond.ended (λ M 𝓤 𝓛. respond.clauses 𝓛)
     (λ x o y p. saying x o (λ _ response sheet r _ sheet'.
     saying y p (λ _ lay₂ s₂ command₂ out₂ r₂ _ _ _ out₂'.
     r.refusal.number ≡ 0 → Bytes response.now → stored lay₂ s₂.now ≡ stored Rows (take r.count sheet')
@@ -146,7 +146,7 @@ replayed_laid {r} {d} {l} {s} {t} {f} {c} {e} i k a z y b there laid-there plain
         go zero e = refl
         go (suc n) e = absurd (omega (arith, z, e, ap (λ (x : maker.Outcome). x.made.refusal.number) (i.refuses_capture (λ w. omega arith))))
 
-pub import_convert_end_to_end : AllThree import.ended (λ M. import.clauses) convert.ended (λ M. convert.clauses) respond.ended (λ M. respond.clauses)
+pub import_convert_end_to_end : AllThree import.ended (λ M 𝓤 𝓛. import.clauses 𝓛) convert.ended (λ M 𝓤 𝓛. convert.clauses 𝓛) respond.ended (λ M 𝓤 𝓛. respond.clauses 𝓛)
     (λ x o y q z p. saying x o (λ _ response sheet r _ sheet'.
     saying y q (λ _ to₂ lay₂ s₂ out₂ r₂ _ _ _ out₂'.
     saying z p (λ _ lay₃ s₃ command₃ out₃ r₃ _ _ _ out₃'.
@@ -161,7 +161,7 @@ import_convert_end_to_end x κs args g κs₂ args₂ g₂ o q p =
 
 -- ---- sense data end to end: `make` is called, then `read` with the bytes that it wrote
 
-pub sense_end_to_end : Both sense_make.ended (λ M. sense_make.clauses) sense_read.ended (λ M. sense_read.clauses)
+pub sense_end_to_end : Both sense_make.ended (λ M 𝓤 𝓛. sense_make.clauses 𝓛) sense_read.ended (λ M 𝓤 𝓛. sense_read.clauses 𝓛)
     (λ x o y p. saying x o (λ _ number out r _ out'.
     saying y p (λ _ s₂ r₂ _.
     r.refusal.number ≡ 0 → s₂.now ≡ take r.count out' → heard r₂ ≡ kind_of number)))
@@ -169,7 +169,7 @@ sense_end_to_end x κs args g o p = both x.𝓤 (λ e f z there. f ∙ ap sensed
 
 -- ---- `gcf_respond` leaves what `respond` answers and leaves, called with the same sheet, command and buffer
 
-pub gcf_respond_same : Both gcf_respond.ended (λ M. gcf_respond.clauses) respond.ended (λ M. respond.clauses)
+pub gcf_respond_same : Both gcf_respond.ended (λ M 𝓤 𝓛. gcf_respond.clauses 𝓛) respond.ended (λ M 𝓤 𝓛. respond.clauses 𝓛)
     (λ x o y p. saying x o (λ _ columns sheet command response told r _ _ _ response' told'.
     saying y p (λ _ lay₂ s₂ command₂ out₂ r₂ _ _ _ out₂'.
     stored lay₂ s₂.now ≡ stored (layout_of columns) sheet.now → command₂.now ≡ command.now → out₂.now ≡ response.now

@@ -31,7 +31,7 @@ pub no_shorter : (s : Sheet) (rt a : ℕ) (b : Buffers) → Bytes s.bytes → Ac
 no_shorter s rt a b w ok p = bench_fewest.fewest_commands (meaning_fine s w ok).sound rt a p.kind p.eight p (demand3 s rt a b w ok p)
 
 -- The same of every outcome that the contract of `bench::bench` allows.
-pub bench_no_shorter : Promised bench.ended (λ M. bench.clauses) (λ M. bench.spec)
+pub bench_no_shorter : Promised bench.ended (λ M 𝓤 𝓛. bench.clauses 𝓛) (λ M 𝓤 𝓛. bench.spec 𝓛)
     (named (λ _ lay s rt a response collected starts r _ _ _ _ response' collected' starts'. Bytes s.now → Accepted (stored lay s.now)
     → Premises (meaning (stored lay s.now)) rt a (buffers response.now collected.now starts.now)
     → Fewest (meaning (stored lay s.now)) rt a (ending r (buffers response' collected' starts'))))

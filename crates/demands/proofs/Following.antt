@@ -135,10 +135,10 @@ follows {m} good w s out = record {
     accepted e n = ap (λ (s : List ℕ). (take_fault w s (length out)).number) (sym e) ∙ ap (λ (r : Refusal). r.number) (sym (step_refusal w s out)) ∙ n
 
 -- Of `Sweep::take` and `take_response`, with a sheet that is accepted: a driver, or `gcf join`, that refuses a response on these grounds never refuses what one box sends from one sheet.
-pub take_follows : (sheet : Sheet) → Bytes sheet.bytes → Accepted sheet → Promised sweep_take.ended (λ M. sweep_take.clauses) (λ M. sweep_take.spec)
+pub take_follows : (sheet : Sheet) → Bytes sheet.bytes → Accepted sheet → Promised sweep_take.ended (λ M 𝓤 𝓛. sweep_take.clauses 𝓛) (λ M 𝓤 𝓛. sweep_take.spec 𝓛)
     (named (λ _ self response out r _ _ out'. Follows (meaning sheet) self response.now (turn r out')))
 take_follows sheet y accepted x = promises x.𝓤 (λ o. by (Follows (meaning sheet) _ _) (follows (meaning_fine sheet y accepted).sound _ _ _))
 
-pub take_response_follows : (sheet : Sheet) → Bytes sheet.bytes → Accepted sheet → Promised take_response.ended (λ M. take_response.clauses) (λ M. take_response.spec)
+pub take_response_follows : (sheet : Sheet) → Bytes sheet.bytes → Accepted sheet → Promised take_response.ended (λ M 𝓤 𝓛. take_response.clauses 𝓛) (λ M 𝓤 𝓛. take_response.spec 𝓛)
     (named (λ _ «record» response out r record' _ out'. Follows (meaning sheet) «record».now response.now (turn (step r record') out')))
 take_response_follows sheet y accepted x = promises x.𝓤 (λ o. by (Follows (meaning sheet) _ _) (follows (meaning_fine sheet y accepted).sound _ _ _))

@@ -12,7 +12,7 @@ use Rattle.base.specs.Lists.{Bytes}
 use Rattle.base.proofs.Decided.{Outcome}
 use Rattle.base.proofs.Promise.{all_three}
 use Rattle.refusal.specs.declared.Refusal.{Refusal}
-use Rattle.refusal.specs.First.{refuse, accept, ◌if◌else◌, ◌orElse◌}
+use Rattle.refusal.specs.First.{refuse, accept, ◌if◌else◌, ◌or_else◌}
 use Rattle.refusal.proofs.First.{or_else_none, unless_none, unless_fault}
 use Rattle.lent.specs.Maker as maker
 use Rattle.lent.proofs.Maker.{makes_fault, makes_number}
@@ -122,7 +122,7 @@ agree i d c e b o q s there = record {
         ap (λ (x : maker.Outcome). x.made.refusal) ((images i c e).refuses f)
         ∙ sym (ap (λ (x : maker.Outcome). x.made.refusal) (q ∙ makes_fault (capture_fault i) 42 (sheet_from i).bytes d f))
 
-pub rom_end_to_end : AllThree import.ended (λ M. import.clauses) respond.ended (λ M. respond.clauses) rom_respond.ended (λ M. rom_respond.clauses)
+pub rom_end_to_end : AllThree import.ended (λ M 𝓤 𝓛. import.clauses 𝓛) respond.ended (λ M 𝓤 𝓛. respond.clauses 𝓛) rom_respond.ended (λ M 𝓤 𝓛. rom_respond.clauses 𝓛)
     (λ x o y p z q. saying x o (λ _ response sheet r _ sheet'.
     saying y p (λ _ lay₂ s₂ command₂ out₂ r₂ _ _ _ out₂'.
     saying z q (λ _ image₃ command₃ out₃ r₃ _ _ out₃'.

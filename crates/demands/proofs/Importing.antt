@@ -16,7 +16,7 @@ use Rattle.base.proofs.Compare.{le_or_lt}
 use Rattle.base.proofs.Promise.{by}
 use Rattle.fields.specs.Field.{field, spell}
 use Rattle.refusal.specs.declared.Refusal.{Refusal}
-use Rattle.refusal.specs.First.{refuse, accept, ◌if◌else◌, pick_zero, ◌orElse◌, first_of, unless, placed}
+use Rattle.refusal.specs.First.{refuse, accept, ◌if◌else◌, pick_zero, ◌or_else◌, first_of, unless, placed}
 use Rattle.text.specs.Flags as flags
 use Rattle.command.specs.Command.{opcode_of, rt_of, sfn_of, allocation_of, command_fault, command_length, command_bytes, packet}
 use Rattle.text.specs.Drive.{profile_bytes}
@@ -250,7 +250,7 @@ pub each_number :
     × (number (0 ∷ 0 ∷ 0 ∷ 12 ∷ 0 ∷ 0 ∷ 0 ∷ 0 ∷ 0 ∷ 0 ∷ 3 ∷ 0 ∷ 0 ∷ 1 ∷ 2 ∷ 0 ∷ []) [] ≡ 44)
     × (number (0 ∷ 0 ∷ 0 ∷ 8 ∷ 0 ∷ 0 ∷ 0 ∷ 0 ∷ 0 ∷ 0 ∷ 3 ∷ 0 ∷ []) (0 ∷ 0 ∷ 0 ∷ []) ≡ 42)
     × (number (0 ∷ 0 ∷ 0 ∷ 8 ∷ 0 ∷ 0 ∷ 0 ∷ 0 ∷ 0 ∷ 0 ∷ 3 ∷ 0 ∷ []) (0 ∷ 0 ∷ 0 ∷ 0 ∷ []) ≡ 0)
-unfolding each flat field spell ◌if◌else◌ pick_zero ◌orElse◌ first_of placed profile_bytes current_profile text.stated_length text.stated_profile text.header_rule text.head_rule text.number_at text.flags_at text.length_at text.desc_at text.head_fault text.walk text.walked text.read_fault text.wholes profiles.profile_number profiles.profile_current profiles.profile_last profiles.listed profiles.profiles_of profiles.lists profiles.record_rule profiles.record_fault profiles.records_fault flags_rule flags.flags_giving row_bytes contents entries_of sheet_of capture.captured capture.own_rule capture.flags_faults capture.sheet_rule completed.complete_fault capture.capture_fault import.sheet_from unless refusing making makes import.imported
+unfolding each flat field spell ◌if◌else◌ pick_zero ◌or_else◌ first_of placed profile_bytes current_profile text.stated_length text.stated_profile text.header_rule text.head_rule text.number_at text.flags_at text.length_at text.desc_at text.head_fault text.walk text.walked text.read_fault text.wholes profiles.profile_number profiles.profile_current profiles.profile_last profiles.listed profiles.profiles_of profiles.lists profiles.record_rule profiles.record_fault profiles.records_fault flags_rule flags.flags_giving row_bytes contents entries_of sheet_of capture.captured capture.own_rule capture.flags_faults capture.sheet_rule completed.complete_fault capture.capture_fault import.sheet_from unless refusing making makes import.imported
 each_number = (refl, refl, refl, refl, refl, refl, refl, refl, refl, refl, refl, refl, refl)
 
 -- ---- the premises can be met: the full response of sheet E, 44 bytes, and a buffer of 52

@@ -14,10 +14,10 @@ use Rattle.judge.proofs.Promised.{rank, Judges, judges}
 use Rattle.judge.specs.contracts.judge as judge
 use Rattle.demands.proofs.Named.{named}
 
-pub judge_decided : Decided judge.ended (λ M. judge.clauses) (λ M. judge.spec)
+pub judge_decided : Decided judge.ended (λ M 𝓤 𝓛. judge.clauses 𝓛) (λ M 𝓤 𝓛. judge.spec 𝓛)
 judge_decided x = decides x.𝓤 (λ o o' p q. (ap (λ (z : Judgement). z.said) (joined p q), refl & refl & refl & refl & ap (λ (z : Judgement). z.scratch) (joined p q) & refl))
 
-pub judge_tied : Promised judge.ended (λ M. judge.clauses) (λ M. judge.spec)
+pub judge_tied : Promised judge.ended (λ M 𝓤 𝓛. judge.clauses 𝓛) (λ M 𝓤 𝓛. judge.spec 𝓛)
     (named (λ _ lay s command response scratch r _ _ _ _ scratch'. Judges (stored lay s.now) command.now response.now scratch.now (judgement r scratch')))
 judge_tied x = promises x.𝓤 (λ o. by (Judges _ _ _ _) (judges _ _ _ _))
 

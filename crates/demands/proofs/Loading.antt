@@ -15,7 +15,7 @@ use Rattle.base.proofs.Decided.{Outcome}
 use Rattle.base.proofs.Promise.{Promised, promises, by, both, all_three}
 use Rattle.fields.specs.Field.{field, spell}
 use Rattle.refusal.specs.declared.Refusal.{Refusal}
-use Rattle.refusal.specs.First.{refuse, accept, ◌if◌else◌, pick_zero, ◌orElse◌, unless}
+use Rattle.refusal.specs.First.{refuse, accept, ◌if◌else◌, pick_zero, ◌or_else◌, unless}
 use Rattle.refusal.proofs.First.{unless_none, unless_fault}
 use Rattle.lent.specs.declared.Made.{Made}
 use Rattle.lent.specs.Maker as maker
@@ -67,7 +67,7 @@ has_so n b = record {
   nowhere = λ h. lists_each n b 0 (length b / 4) ∙ each_lacks (profiles.profile_number b) (length b / 4) n h;
 }
 
-pub profiles_has_tied : Promised profiles_has.ended (λ M. profiles_has.clauses) (λ M. profiles_has.spec) (named (λ _ b number r _ _. HasProfile number.0 b.now r))
+pub profiles_has_tied : Promised profiles_has.ended (λ M 𝓤 𝓛. profiles_has.clauses 𝓛) (λ M 𝓤 𝓛. profiles_has.spec 𝓛) (named (λ _ b number r _ _. HasProfile number.0 b.now r))
 profiles_has_tied x = promises x.𝓤 (λ o. by (HasProfile _ _) (has_so _ _))
 
 -- ---- between two loadings: `load` is called, then `respond` or `bench` with the sheet that it left
@@ -100,7 +100,7 @@ module _ {fs ps : List ℕ} {s t : Sheet} {d : List ℕ} {o : maker.Outcome} (l 
   swept_there rt a c p =
       subst (λ (x : Sheet). Swept (drive_with fs ps (meaning s)) rt a c (benched x rt a c)) (sym is_loaded) (demand3_loaded fs ps s b fine rt a c p)
 
-pub load_respond : Both load.ended (λ M. load.clauses) respond.ended (λ M. respond.clauses)
+pub load_respond : Both load.ended (λ M 𝓤 𝓛. load.clauses 𝓛) respond.ended (λ M 𝓤 𝓛. respond.clauses 𝓛)
     (λ x o y p. saying x o (λ _ lay s features profiles out r _ _ _ _ out'.
     saying y p (λ _ lay₂ s₂ command₂ out₂ r₂ _ _ _ out₂'.
     r.refusal.number ≡ 0 → Bytes s.now → stored lay₂ s₂.now ≡ stored lay (take r.count out') → (command_fault command₂.now).number ≡ 0
@@ -108,7 +108,7 @@ pub load_respond : Both load.ended (λ M. load.clauses) respond.ended (λ M. res
     → maker.outcome r₂ out₂' ≡ maker.making (sent (rt_of command₂.now) (sfn_of command₂.now) (allocation_of command₂.now) (drive_with features.now profiles.now (meaning (stored lay s.now)))) out₂.now)))
 load_respond x κs args g o p = both x.𝓤 (λ f g z b there. sent_there (by (Loads _ _ _ _) (loads_so _ _ _ _) f) z b there _ _ (by (Answers _ _ _) (demand2 _ _ _) g))
 
-pub load_bench : Both load.ended (λ M. load.clauses) bench.ended (λ M. bench.clauses)
+pub load_bench : Both load.ended (λ M 𝓤 𝓛. load.clauses 𝓛) bench.ended (λ M 𝓤 𝓛. bench.clauses 𝓛)
     (λ x o y p. saying x o (λ _ lay s features profiles out r _ _ _ _ out'.
     saying y p (λ _ lay₂ s₂ rt₂ a₂ response₂ collected₂ starts₂ r₂ _ _ _ _ response₂' collected₂' starts₂'.
     r.refusal.number ≡ 0 → Bytes s.now → stored lay₂ s₂.now ≡ stored lay (take r.count out')
@@ -127,7 +127,7 @@ module _ {fs ps d : List ℕ} {s t u : Sheet} {o : maker.Outcome} (a : Loads fs 
       ∙ loading_last s b (accepts a z) fs ps fs' ps' e
       ∙ ap (λ (x : Sheet). loading fs' ps' x e) (sym first)
 
-pub load_last : AllThree load.ended (λ M. load.clauses) load.ended (λ M. load.clauses) load.ended (λ M. load.clauses)
+pub load_last : AllThree load.ended (λ M 𝓤 𝓛. load.clauses 𝓛) load.ended (λ M 𝓤 𝓛. load.clauses 𝓛) load.ended (λ M 𝓤 𝓛. load.clauses 𝓛)
     (λ x o y p z q. saying x o (λ _ lay s features profiles out r _ _ _ _ out'.
     saying y p (λ _ lay₂ s₂ features₂ profiles₂ out₂ r₂ _ _ _ _ out₂'.
     saying z q (λ _ lay₃ s₃ features₃ profiles₃ out₃ r₃ _ _ _ _ out₃'.
@@ -197,7 +197,7 @@ module _ {l : Layout} {s t u : Sheet} {c : List ℕ} {a : maker.Outcome} (v : Co
   either {fs} {ps} {d} {e} {o} {q} x y n =
       loads_either l s b (v.accepts b z) (subst (λ (w : Sheet). Loads fs ps w d o) is_laid x) (subst (λ (w : Sheet). Loads fs ps w e q) first y) n
 
-pub load_either : AllThree convert.ended (λ M. convert.clauses) load.ended (λ M. load.clauses) load.ended (λ M. load.clauses)
+pub load_either : AllThree convert.ended (λ M 𝓤 𝓛. convert.clauses 𝓛) load.ended (λ M 𝓤 𝓛. load.clauses 𝓛) load.ended (λ M 𝓤 𝓛. load.clauses 𝓛)
     (λ x o y p z q. saying x o (λ _ to lay s out r _ _ _ out'.
     saying y p (λ _ lay₂ s₂ features₂ profiles₂ out₂ r₂ _ _ _ _ out₂'.
     saying z q (λ _ lay₃ s₃ features₃ profiles₃ out₃ r₃ _ _ _ _ out₃'.
@@ -249,7 +249,7 @@ pub record Mixes : Type 0 where
   pub not_b : got ≡ flat bytes (selected 0 0 medium_b) → ⊥
 
 pub mixes : Mixes
-unfolding each flat keep pick field spell ◌if◌else◌ pick_zero ◌orElse◌ unless profile_bytes bytes feature0 all wants selected current_profile header data_length full sent layout.features layout.profiles layout.number_place layout.flags_place layout.length_place layout.offset_place layout.number layout.flags layout.body_length layout.offset layout.profiles_in profiles.profile_number profiles.profile_current profiles.listed profiles.profiles_of desc meaning is_in flags_with feature_with profile_with drive_with text.stated_length text.stated_profile text.header_rule text.head_rule text.number_at text.flags_at text.length_at text.desc_at text.head_fault text.walk text.walked text.read_fault text.last_number sweep.start_rule sweep.fresh sweep.ended_now sweep.cut sweep.wholes_of sweep.changed sweep.take_fault sweep.ends_sweep sweep.left_by sweep.held_profile sweep.advanced sweep.taking sweep.stepped asking across sheet_e
+unfolding each flat keep pick field spell ◌if◌else◌ pick_zero ◌or_else◌ unless profile_bytes bytes feature0 all wants selected current_profile header data_length full sent layout.features layout.profiles layout.number_place layout.flags_place layout.length_place layout.offset_place layout.number layout.flags layout.body_length layout.offset layout.profiles_in profiles.profile_number profiles.profile_current profiles.listed profiles.profiles_of desc meaning is_in flags_with feature_with profile_with drive_with text.stated_length text.stated_profile text.header_rule text.head_rule text.number_at text.flags_at text.length_at text.desc_at text.head_fault text.walk text.walked text.read_fault text.last_number sweep.start_rule sweep.fresh sweep.ended_now sweep.cut sweep.wholes_of sweep.changed sweep.take_fault sweep.ends_sweep sweep.left_by sweep.held_profile sweep.advanced sweep.taking sweep.stepped asking across sheet_e
 mixes = record {
   fine = refl;
   over = refl;
@@ -262,5 +262,5 @@ abbrev seen : sweep.Turn
 seen = across 0 20 (replicate 36 0) (medium_a ∷ medium_c ∷ [])
 
 pub sees : (seen.step.refusal ≡ refuse 45) × (seen.step.sweep.ended ≡ true)
-unfolding each flat keep pick field spell ◌if◌else◌ pick_zero ◌orElse◌ unless profile_bytes bytes feature0 all wants selected current_profile header data_length full sent layout.features layout.profiles layout.number_place layout.flags_place layout.length_place layout.offset_place layout.number layout.flags layout.body_length layout.offset layout.profiles_in profiles.profile_number profiles.profile_current profiles.listed profiles.profiles_of desc meaning is_in flags_with feature_with profile_with drive_with text.stated_length text.stated_profile text.header_rule text.head_rule text.number_at text.flags_at text.length_at text.desc_at text.head_fault text.walk text.walked text.read_fault text.last_number sweep.start_rule sweep.fresh sweep.ended_now sweep.cut sweep.wholes_of sweep.changed sweep.take_fault sweep.ends_sweep sweep.left_by sweep.held_profile sweep.advanced sweep.taking sweep.stepped asking across sheet_e
+unfolding each flat keep pick field spell ◌if◌else◌ pick_zero ◌or_else◌ unless profile_bytes bytes feature0 all wants selected current_profile header data_length full sent layout.features layout.profiles layout.number_place layout.flags_place layout.length_place layout.offset_place layout.number layout.flags layout.body_length layout.offset layout.profiles_in profiles.profile_number profiles.profile_current profiles.listed profiles.profiles_of desc meaning is_in flags_with feature_with profile_with drive_with text.stated_length text.stated_profile text.header_rule text.head_rule text.number_at text.flags_at text.length_at text.desc_at text.head_fault text.walk text.walked text.read_fault text.last_number sweep.start_rule sweep.fresh sweep.ended_now sweep.cut sweep.wholes_of sweep.changed sweep.take_fault sweep.ends_sweep sweep.left_by sweep.held_profile sweep.advanced sweep.taking sweep.stepped asking across sheet_e
 sees = (refl, refl)

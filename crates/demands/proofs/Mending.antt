@@ -20,7 +20,7 @@ use Rattle.base.proofs.Promise.{Promised, promises, by, both, all_three, Twice}
 use Rattle.fields.specs.Field.{field, spell}
 use Rattle.fields.proofs.Laws.{field_take}
 use Rattle.refusal.specs.declared.Refusal.{Refusal}
-use Rattle.refusal.specs.First.{refuse, accept, ◌if◌else◌, ◌orElse◌, first_of}
+use Rattle.refusal.specs.First.{refuse, accept, ◌if◌else◌, ◌or_else◌, first_of}
 use Rattle.refusal.proofs.First.{or_else_none, or_else_fault, placed_number, if_zero}
 use Rattle.refusal.proofs.Numbers.{if_holds, first_holds}
 use Rattle.lent.specs.Maker as maker
@@ -63,27 +63,27 @@ use Rattle.mend.proofs.Promised.{Remains, Mends, mends_so, mending_so, made_so}
 use Rattle.mend.specs.contracts.mend as mend
 use Rattle.demands.proofs.Named.{named, saying, Both, AllThree}
 
-pub mend_tied : Promised mend.ended (λ M. mend.clauses) (λ M. mend.spec)
+pub mend_tied : Promised mend.ended (λ M 𝓤 𝓛. mend.clauses 𝓛) (λ M 𝓤 𝓛. mend.spec 𝓛)
     (named (λ _ response copy list r _ copy' list'. Mends response.now copy.now list.now (mending.outcome r copy' list')))
 mend_tied x = promises x.𝓤 (λ o. by (Mends _ _ _) (mends_so _ _ _))
 
 -- ---- what the mender shares with the check: the table, lengths, the bits of a byte, and the two rules of a body
 
-pub row_of_tied : Promised row_of.ended (λ M. row_of.clauses) (λ M. row_of.spec) (named (λ _ f r _. r ≡ row_of f.0))
+pub row_of_tied : Promised row_of.ended (λ M 𝓤 𝓛. row_of.clauses 𝓛) (λ M 𝓤 𝓛. row_of.spec 𝓛) (named (λ _ f r _. r ≡ row_of f.0))
 row_of_tied x = promises x.𝓤 (λ o e. e)
 
-pub wrong_length_tied : Promised wrong_length_fn.ended (λ M. wrong_length_fn.clauses) (λ M. wrong_length_fn.spec)
+pub wrong_length_tied : Promised wrong_length_fn.ended (λ M 𝓤 𝓛. wrong_length_fn.clauses 𝓛) (λ M 𝓤 𝓛. wrong_length_fn.spec 𝓛)
     (named (λ _ wanted flags n len r _ _ _ _. r ≡ wrong_length wanted flags.0 n len))
 wrong_length_tied x = promises x.𝓤 (λ o e. e)
 
-pub mask_at_tied : Promised mask_at.ended (λ M. mask_at.clauses) (λ M. mask_at.spec) (named (λ _ row n k r _ _ _. r ≡ mask_at row.1 row.2 n k))
+pub mask_at_tied : Promised mask_at.ended (λ M 𝓤 𝓛. mask_at.clauses 𝓛) (λ M 𝓤 𝓛. mask_at.spec 𝓛) (named (λ _ row n k r _ _ _. r ≡ mask_at row.1 row.2 n k))
 mask_at_tied x = promises x.𝓤 (λ o e. e)
 
-pub reserved_fault_tied : Promised reserved_fault.ended (λ M. reserved_fault.clauses) (λ M. reserved_fault.spec)
+pub reserved_fault_tied : Promised reserved_fault.ended (λ M 𝓤 𝓛. reserved_fault.clauses 𝓛) (λ M 𝓤 𝓛. reserved_fault.spec 𝓛)
     (named (λ _ row body r _ _. r ≡ first_of (reserved_at row body.now) 0 (length body.now)))
 reserved_fault_tied x = promises x.𝓤 (λ o e. e)
 
-pub cue_fault_tied : Promised cue_fault.ended (λ M. cue_fault.clauses) (λ M. cue_fault.spec)
+pub cue_fault_tied : Promised cue_fault.ended (λ M 𝓤 𝓛. cue_fault.clauses 𝓛) (λ M 𝓤 𝓛. cue_fault.spec 𝓛)
     (named (λ _ f body r _ _. r ≡ cue_rule f.0 (get_or body.now 0 0) (field 3 body.now 1)))
 cue_fault_tied x = promises x.𝓤 (λ o e. e)
 
@@ -125,7 +125,7 @@ still r d l {o} e c room same =
     }
 
 -- MENDING TWICE IS MENDING ONCE: `mend` is called, and again with what it left
-pub mend_again : Twice mend.ended (λ M. mend.clauses)
+pub mend_again : Twice mend.ended (λ M 𝓤 𝓛. mend.clauses 𝓛)
     (λ x o y p. saying x o (λ _ response copy list r _ copy' list'. saying y p (λ _ response₂ copy₂ list₂ r₂ _ copy₂' list₂'.
     r.refusal.number ≡ 0 → Bytes response.now → response₂.now ≡ take r.length copy' → length response₂.now ≤ length copy₂.now
     → Still response₂.now copy₂.now list₂.now (mending.outcome r₂ copy₂' list₂'))))
@@ -135,7 +135,7 @@ mend_again x κs args g o p = both x.𝓤 (λ e f z bs there room.
     still _ _ _ f (subst (λ (s : List ℕ). (complete_fault s).number ≡ 0) (sym is) (mended_complete _ bs c)) room (ap mended is ∙ mended_again _ bs c ∙ sym is))
 
 -- AFTERWARDS THE CHECK CAN FIND ONLY 30, 31 OR 39: `mend` is called, then `check_descriptors` with what it left
-pub mend_check : Both mend.ended (λ M. mend.clauses) check_descriptors.ended (λ M. check_descriptors.clauses)
+pub mend_check : Both mend.ended (λ M 𝓤 𝓛. mend.clauses 𝓛) check_descriptors.ended (λ M 𝓤 𝓛. check_descriptors.clauses 𝓛)
     (λ x o y p. saying x o (λ _ response copy list r _ copy' list'.
     saying y p (λ _ s₂ r₂ _.
     r.refusal.number ≡ 0 → Bytes response.now → s₂.now ≡ take r.length copy' → Remains r₂.refusal.number)))
@@ -143,7 +143,7 @@ mend_check x κs args g o p = both x.𝓤 (λ e f z bs there.
     subst (λ (v : Finding). Remains v.refusal.number) (sym (f ∙ ap checked (there ∙ is_mended _ _ _ e z bs))) (mending_so _ bs (facts _ _ _ e z bs).0).found)
 
 -- WHAT THE CHECK ACCEPTED IS NOT CHANGED: it is called, and `mend` with the same response
-pub check_mend : Both mend.ended (λ M. mend.clauses) check_descriptors.ended (λ M. check_descriptors.clauses)
+pub check_mend : Both mend.ended (λ M 𝓤 𝓛. mend.clauses 𝓛) check_descriptors.ended (λ M 𝓤 𝓛. check_descriptors.clauses 𝓛)
     (λ x o y p. saying x o (λ _ response copy list r _ copy' list'.
     saying y p (λ _ s₂ r₂ _.
     r₂.refusal.number ≡ 0 → Bytes response.now → s₂.now ≡ response.now → length response.now ≤ length copy.now
@@ -153,7 +153,7 @@ check_mend x κs args g o p = both x.𝓤 (λ e f z bs same room.
     still _ _ _ e (passes_of _ k).input room (mended_kept _ bs k))
 
 -- IT IS READ AS BEFORE: `mend` is called, and `read` with the response and with what was left; the two readings are the same, and so are the descriptors but for flags and bodies
-pub mend_read : AllThree mend.ended (λ M. mend.clauses) read.ended (λ M. read.clauses) read.ended (λ M. read.clauses)
+pub mend_read : AllThree mend.ended (λ M 𝓤 𝓛. mend.clauses 𝓛) read.ended (λ M 𝓤 𝓛. read.clauses 𝓛) read.ended (λ M 𝓤 𝓛. read.clauses 𝓛)
     (λ x o y p z q. saying x o (λ _ response copy list r _ copy' list'.
     saying y p (λ _ rt₂ sfn₂ s₂ r₂ _ _ _.
     saying z q (λ _ rt₃ sfn₃ s₃ r₃ _ _ _.
@@ -322,7 +322,7 @@ fault_of s d n f e = go (capture_fault s).number refl
     go (suc k) q = sym (ap (λ (x : Refusal). x.number) (or_else_fault _ _ (λ z. omega (arith, z, q)))) ∙ m
 
 -- WHERE AN IMPORT WAS REFUSED FOR FLAGS ALONE IT IS NO MORE: `mend` is called, and `import` with the response and with what was left
-pub mend_import : AllThree mend.ended (λ M. mend.clauses) import.ended (λ M. import.clauses) import.ended (λ M. import.clauses)
+pub mend_import : AllThree mend.ended (λ M 𝓤 𝓛. mend.clauses 𝓛) import.ended (λ M 𝓤 𝓛. import.clauses 𝓛) import.ended (λ M 𝓤 𝓛. import.clauses 𝓛)
     (λ x o y p z q. saying x o (λ _ response copy list r _ copy' list'.
     saying y p (λ _ response₂ sheet₂ r₂ _ sheet₂'.
     saying z q (λ _ response₃ sheet₃ r₃ _ sheet₃'.

@@ -21,7 +21,7 @@ use Rattle.fields.specs.Field.{field, spell}
 use Rattle.lent.specs.Maker as maker
 use Rattle.lent.specs.declared.Made.{Made}
 use Rattle.text.specs.declared.Reading.{Reading}
-use Rattle.refusal.specs.First.{◌if◌else◌, pick_zero, ◌orElse◌, first_of, unless, placed}
+use Rattle.refusal.specs.First.{◌if◌else◌, pick_zero, ◌or_else◌, first_of, unless, placed}
 use Rattle.text.specs.Flags as flags
 use Rattle.command.specs.Command.{opcode_of, rt_of, sfn_of, allocation_of, command_fault, command_length, command_bytes, packet}
 use Rattle.text.specs.Drive.{Desc, Drive, Sound, profile_bytes}
@@ -162,7 +162,7 @@ abbrev ExchangedE : (rt sfn : ℕ) → Type 0
 ExchangedE rt sfn = Exchanged (command rt sfn 64) (asked rt sfn).made (asked rt sfn).buffer rt sfn (sent_by (asked rt sfn)) (text.reading 65534 rt sfn (sent_by (asked rt sfn)))
 
 pub exchanged_e : ExchangedE 0 1 × ExchangedE 1 3
-unfolding each flat keep field spell ◌if◌else◌ pick_zero ◌orElse◌ first_of placed opcode_of rt_of sfn_of allocation_of command_fault command_length profile_bytes bytes feature0 all wants selected current_profile header data_length full sent layout.features layout.profiles layout.number_place layout.flags_place layout.length_place layout.offset_place layout.number layout.flags layout.body_length layout.offset layout.profiles_in profiles.profile_number profiles.profile_current profiles.profile_last profiles.listed profiles.profiles_of profiles.lists profiles.record_rule profiles.record_fault profiles.records_fault number_before end_before_entry flags_rule flags.flags_giving entry_rule entry_fault counted verdict desc meaning unless maker.refusing maker.making maker.makes box.answered sheet_e command command_bytes packet text.stated_length text.stated_profile text.header_rule text.head_rule text.number_at text.flags_at text.length_at text.desc_at text.head_fault text.walk text.walked text.read_fault text.reading text.taken
+unfolding each flat keep field spell ◌if◌else◌ pick_zero ◌or_else◌ first_of placed opcode_of rt_of sfn_of allocation_of command_fault command_length profile_bytes bytes feature0 all wants selected current_profile header data_length full sent layout.features layout.profiles layout.number_place layout.flags_place layout.length_place layout.offset_place layout.number layout.flags layout.body_length layout.offset layout.profiles_in profiles.profile_number profiles.profile_current profiles.profile_last profiles.listed profiles.profiles_of profiles.lists profiles.record_rule profiles.record_fault profiles.records_fault number_before end_before_entry flags_rule flags.flags_giving entry_rule entry_fault counted verdict desc meaning unless maker.refusing maker.making maker.makes box.answered sheet_e command command_bytes packet text.stated_length text.stated_profile text.header_rule text.head_rule text.number_at text.flags_at text.length_at text.desc_at text.head_fault text.walk text.walked text.read_fault text.reading text.taken
 exchanged_e = (
   record { answered = refl; asked_rt = refl; asked_sfn = refl; handed = refl; complete = refl },
   record { answered = refl; asked_rt = refl; asked_sfn = refl; handed = refl; complete = refl },
@@ -208,7 +208,7 @@ module _ {s : Sheet} {c d : List ℕ} {made : Made} {buffer : List ℕ} {rt sfn 
       }
 
 -- A complete response holds what its command selects: `respond` is called, then `read` with what the box sent.
-pub complete_end_to_end : Both respond.ended (λ M. respond.clauses) read.ended (λ M. read.clauses)
+pub complete_end_to_end : Both respond.ended (λ M 𝓤 𝓛. respond.clauses 𝓛) read.ended (λ M 𝓤 𝓛. read.clauses 𝓛)
     (λ x o y p. saying x o (λ _ lay s command out r _ _ _ out'.
     saying y p (λ _ rt₂ sfn₂ s₂ r₂ _ _ _.
     Bytes s.now → Exchanged command.now r out' rt₂ sfn₂.0 s₂.now r₂
@@ -230,23 +230,23 @@ combined : {s s' : Sheet} {rt sfn rt' sfn' : ℕ} {received received' : List ℕ
 combined {s} {s'} {rt} {sfn} {rt'} {sfn'} b same h k = rw (h.descriptors, k.descriptors, ← same) (combines (meaning_fine s b h.accepted).sound rt sfn rt' sfn')
 
 -- Two commands to a box with one sheet, each with the reading of what was sent, in any order.
-module _ (x : Call respond.ended (λ M. respond.clauses)) (κs : Lfts (read.ended).signature.lifetimes) (args : Args (read.ended).signature κs)
+module _ (x : Call respond.ended (λ M 𝓤 𝓛. respond.clauses 𝓛)) (κs : Lfts (read.ended).signature.lifetimes) (args : Args (read.ended).signature κs)
     (κs₂ : Lfts (respond.ended).signature.lifetimes) (args₂ : Args (respond.ended).signature κs₂)
     (κs₃ : Lfts (read.ended).signature.lifetimes) (args₃ : Args (read.ended).signature κs₃) where
-  abbrev again : Call respond.ended (λ M. respond.clauses)
+  abbrev again : Call respond.ended (λ M 𝓤 𝓛. respond.clauses 𝓛)
   again = beside x κs₂ args₂ tt
 
-  abbrev first_read : Call read.ended (λ M. read.clauses)
+  abbrev first_read : Call read.ended (λ M 𝓤 𝓛. read.clauses 𝓛)
   first_read = beside x κs args tt
 
-  abbrev second_read : Call read.ended (λ M. read.clauses)
+  abbrev second_read : Call read.ended (λ M 𝓤 𝓛. read.clauses 𝓛)
   second_read = beside x κs₃ args₃ tt
 
-  pub combined_end_to_end : (o : Outcome respond.ended (λ M. respond.clauses) x) (p : Outcome read.ended (λ M. read.clauses) first_read)
-      (o' : Outcome respond.ended (λ M. respond.clauses) again) (p' : Outcome read.ended (λ M. read.clauses) second_read)
+  pub combined_end_to_end : (o : Outcome respond.ended (λ M 𝓤 𝓛. respond.clauses 𝓛) x) (p : Outcome read.ended (λ M 𝓤 𝓛. read.clauses 𝓛) first_read)
+      (o' : Outcome respond.ended (λ M 𝓤 𝓛. respond.clauses 𝓛) again) (p' : Outcome read.ended (λ M 𝓤 𝓛. read.clauses 𝓛) second_read)
       → ent x.𝓤 (conj x.𝓤
-      (conj x.𝓤 (allowed respond.ended (λ M. respond.clauses) x o) (allowed read.ended (λ M. read.clauses) first_read p))
-      (conj x.𝓤 (allowed respond.ended (λ M. respond.clauses) again o') (allowed read.ended (λ M. read.clauses) second_read p'))) (fact x.𝓤 (
+      (conj x.𝓤 (allowed respond.ended (λ M 𝓤 𝓛. respond.clauses 𝓛) x o) (allowed read.ended (λ M 𝓤 𝓛. read.clauses 𝓛) first_read p))
+      (conj x.𝓤 (allowed respond.ended (λ M 𝓤 𝓛. respond.clauses 𝓛) again o') (allowed read.ended (λ M 𝓤 𝓛. read.clauses 𝓛) second_read p'))) (fact x.𝓤 (
       saying x o (λ _ lay s command out r _ _ _ out'.
       saying first_read p (λ _ rt₂ sfn₂ s₂ r₂ _ _ _.
       saying again o' (λ _ lay₃ s₃ command₃ out₃ r₃ _ _ _ out₃'.

@@ -9,7 +9,7 @@ use Rattle.base.specs.Lists.{Bytes}
 use Rattle.base.proofs.Decided.{Outcome}
 use Rattle.base.proofs.Promise.{Promised, promises, by, both, all_three, Twice}
 use Rattle.refusal.specs.declared.Refusal.{Refusal}
-use Rattle.refusal.specs.First.{accept, unless, ◌orElse◌}
+use Rattle.refusal.specs.First.{accept, unless, ◌or_else◌}
 use Rattle.lent.specs.declared.Made.{Made}
 use Rattle.lent.specs.Maker as maker
 use Rattle.text.specs.declared.Reading.{Reading}
@@ -78,23 +78,23 @@ alike : {S L : Type 0} {s s' : S} {c c' d d' : List ℕ} {o o' : L} (f : S → L
 alike {c = c} f same e e' is-s is_c is-d = e ∙ rw (is-s, is-d) (same is_c) ∙ sym e'
 
 -- the sheet engine, in either layout, and its unchecked entry
-pub respond_alike : Twice respond.ended (λ M. respond.clauses)
+pub respond_alike : Twice respond.ended (λ M 𝓤 𝓛. respond.clauses 𝓛)
     (λ x o y p. saying x o (λ _ lay s command out r _ _ _ out'. saying y p (λ _ lay₂ s₂ command₂ out₂ r₂ _ _ _ out₂'.
     Alike (stored lay s.now) (stored lay₂ s₂.now) command.now command₂.now out.now out₂.now (maker.outcome r out') (maker.outcome r₂ out₂'))))
 respond_alike x κs args g o p = both x.𝓤 (alike answered (λ same. same_answered same _ _))
 
-pub respond_accepted_alike : Twice respond_accepted.ended (λ M. respond_accepted.clauses)
+pub respond_accepted_alike : Twice respond_accepted.ended (λ M 𝓤 𝓛. respond_accepted.clauses 𝓛)
     (λ x o y p. saying x o (λ _ lay s command out r _ _ _ out'. saying y p (λ _ lay₂ s₂ command₂ out₂ r₂ _ _ _ out₂'.
     Alike (stored lay s.now) (stored lay₂ s₂.now) command.now command₂.now out.now out₂.now (maker.outcome r out') (maker.outcome r₂ out₂'))))
 respond_accepted_alike x κs args g o p = both x.𝓤 (alike trusting_command (λ same. same_trusted same _ _))
 
 -- the image engine, and its unchecked entry
-pub rom_respond_alike : Twice rom_respond.ended (λ M. rom_respond.clauses)
+pub rom_respond_alike : Twice rom_respond.ended (λ M 𝓤 𝓛. rom_respond.clauses 𝓛)
     (λ x o y p. saying x o (λ _ image command out r _ _ out'. saying y p (λ _ image₂ command₂ out₂ r₂ _ _ out₂'.
     Alike image.now image₂.now command.now command₂.now out.now out₂.now (maker.outcome r out') (maker.outcome r₂ out₂'))))
 rom_respond_alike x κs args g o p = both x.𝓤 (alike image_answered (λ same. same_image same _ _))
 
-pub rom_respond_accepted_alike : Twice rom_respond_accepted.ended (λ M. rom_respond_accepted.clauses)
+pub rom_respond_accepted_alike : Twice rom_respond_accepted.ended (λ M 𝓤 𝓛. rom_respond_accepted.clauses 𝓛)
     (λ x o y p. saying x o (λ _ image command out r _ _ out'. saying y p (λ _ image₂ command₂ out₂ r₂ _ _ out₂'.
     Alike image.now image₂.now command.now command₂.now out.now out₂.now (maker.outcome r out') (maker.outcome r₂ out₂'))))
 rom_respond_accepted_alike x κs args g o p = both x.𝓤 (alike image_commanded (λ same. same_image_accepted same _ _))
@@ -104,36 +104,36 @@ told_alike : {S : Type 0} {s s' : S} {c c' d d' : List ℕ} {o o' : Left (List �
     → o ≡ show_made (f s c d) → o' ≡ show_made (f s' c' d') → Alike s s' c c' d d' o o'
 told_alike f same e e' is-s is_c is-d = e ∙ rw (is-s, is-d) (ap show_made (same is_c)) ∙ sym e'
 
-pub gcf_respond_alike : Twice gcf_respond.ended (λ M. gcf_respond.clauses)
+pub gcf_respond_alike : Twice gcf_respond.ended (λ M 𝓤 𝓛. gcf_respond.clauses 𝓛)
     (λ x o y p. saying x o (λ _ columns sheet command response told r _ _ _ response' told'. saying y p (λ _ columns₂ sheet₂ command₂ response₂ told₂ r₂ _ _ _ response₂' told₂'.
     Alike (stored (layout_of columns) sheet.now) (stored (layout_of columns₂) sheet₂.now) command.now command₂.now response.now response₂.now (left r response' told') (left r₂ response₂' told₂'))))
 gcf_respond_alike x κs args g o p = both x.𝓤 (told_alike answered (λ same. same_answered same _ _))
 
-pub gcf_respond_accepted_alike : Twice gcf_respond_accepted.ended (λ M. gcf_respond_accepted.clauses)
+pub gcf_respond_accepted_alike : Twice gcf_respond_accepted.ended (λ M 𝓤 𝓛. gcf_respond_accepted.clauses 𝓛)
     (λ x o y p. saying x o (λ _ columns sheet command response told r _ _ _ response' told'. saying y p (λ _ columns₂ sheet₂ command₂ response₂ told₂ r₂ _ _ _ response₂' told₂'.
     Alike (stored (layout_of columns) sheet.now) (stored (layout_of columns₂) sheet₂.now) command.now command₂.now response.now response₂.now (left r response' told') (left r₂ response₂' told₂'))))
 gcf_respond_accepted_alike x κs args g o p = both x.𝓤 (told_alike trusting_command (λ same. same_trusted same _ _))
 
-pub gcf_respond_image_alike : Twice gcf_respond_image.ended (λ M. gcf_respond_image.clauses)
+pub gcf_respond_image_alike : Twice gcf_respond_image.ended (λ M 𝓤 𝓛. gcf_respond_image.clauses 𝓛)
     (λ x o y p. saying x o (λ _ image command response told r _ _ response' told'. saying y p (λ _ image₂ command₂ response₂ told₂ r₂ _ _ response₂' told₂'.
     Alike image.now image₂.now command.now command₂.now response.now response₂.now (left r response' told') (left r₂ response₂' told₂'))))
 gcf_respond_image_alike x κs args g o p = both x.𝓤 (told_alike image_answered (λ same. same_image same _ _))
 
-pub gcf_respond_image_accepted_alike : Twice gcf_respond_image_accepted.ended (λ M. gcf_respond_image_accepted.clauses)
+pub gcf_respond_image_accepted_alike : Twice gcf_respond_image_accepted.ended (λ M 𝓤 𝓛. gcf_respond_image_accepted.clauses 𝓛)
     (λ x o y p. saying x o (λ _ image command response told r _ _ response' told'. saying y p (λ _ image₂ command₂ response₂ told₂ r₂ _ _ response₂' told₂'.
     Alike image.now image₂.now command.now command₂.now response.now response₂.now (left r response' told') (left r₂ response₂' told₂'))))
 gcf_respond_image_accepted_alike x κs args g o p = both x.𝓤 (told_alike image_commanded (λ same. same_image_accepted same _ _))
 
 -- ---- the three functions of a command
 
-pub command_fault_tied : Promised command_fault_fn.ended (λ M. command_fault_fn.clauses) (λ M. command_fault_fn.spec) (named (λ _ bytes r _. (r ≡ command_fault bytes.now) × Commands bytes.now r))
+pub command_fault_tied : Promised command_fault_fn.ended (λ M 𝓤 𝓛. command_fault_fn.clauses 𝓛) (λ M 𝓤 𝓛. command_fault_fn.spec 𝓛) (named (λ _ bytes r _. (r ≡ command_fault bytes.now) × Commands bytes.now r))
 command_fault_tied x = promises x.𝓤 (λ o e. (e, by (Commands _) (commands _) e))
 
-pub command_read_tied : Promised command_read.ended (λ M. command_read.clauses) (λ M. command_read.spec) (named (λ _ bytes r _. (r ≡ command_of bytes.now) × Understood bytes.now r.rt r.sfn.0 r.allocation))
+pub command_read_tied : Promised command_read.ended (λ M 𝓤 𝓛. command_read.clauses 𝓛) (λ M 𝓤 𝓛. command_read.spec 𝓛) (named (λ _ bytes r _. (r ≡ command_of bytes.now) × Understood bytes.now r.rt r.sfn.0 r.allocation))
 unfolding command_of
 command_read_tied x = promises x.𝓤 (λ o e. (e, by (λ (c : Command). Understood x.args.0.now c.rt c.sfn.0 c.allocation) (understood x.args.0.now) e))
 
-pub command_build_tied : Promised command_build.ended (λ M. command_build.clauses) (λ M. command_build.spec)
+pub command_build_tied : Promised command_build.ended (λ M 𝓤 𝓛. command_build.clauses 𝓛) (λ M 𝓤 𝓛. command_build.spec 𝓛)
     (named (λ _ length rt sfn allocation out r _ _ _ _ out'. Builds length rt sfn.0 allocation out.now (maker.outcome r out')))
 command_build_tied x = promises x.𝓤 (λ o. by (Builds _ _ _ _ _) (builds _ _ _ _ _))
 
@@ -167,21 +167,21 @@ module _ {n rt sfn a : ℕ} {was d c : List ℕ} {m : Made} (h : Handed m d sfn 
   is_asked f = ap (λ (r : Refusal). f r (rt_of c) (sfn_of c) (allocation_of c)) is_fine ∙ ap (λ (k : Command). f accept k.rt k.sfn.0 k.allocation) is_command
 
 -- `fault` refuses nothing of it
-pub build_fault : Both command_build.ended (λ M. command_build.clauses) command_fault_fn.ended (λ M. command_fault_fn.clauses)
+pub build_fault : Both command_build.ended (λ M 𝓤 𝓛. command_build.clauses 𝓛) command_fault_fn.ended (λ M 𝓤 𝓛. command_fault_fn.clauses 𝓛)
     (λ x o y p. saying x o (λ _ length rt sfn allocation out r _ _ _ _ out'.
     saying y p (λ _ bytes₂ r₂ _.
     Handed r out' sfn.0 allocation bytes₂.now → r₂ ≡ accept)))
 build_fault x κs args g o p = both x.𝓤 (λ e f h. f ∙ is_fine h (by (Builds _ _ _ _ _) (builds _ _ _ _ _) e))
 
 -- `read` understands it as exactly those three
-pub build_read : Both command_build.ended (λ M. command_build.clauses) command_read.ended (λ M. command_read.clauses)
+pub build_read : Both command_build.ended (λ M 𝓤 𝓛. command_build.clauses 𝓛) command_read.ended (λ M 𝓤 𝓛. command_read.clauses 𝓛)
     (λ x o y p. saying x o (λ _ length rt sfn allocation out r _ _ _ _ out'.
     saying y p (λ _ bytes₂ r₂ _.
     Handed r out' sfn.0 allocation bytes₂.now → (r₂.rt ≡ rt) × (r₂.sfn ≡ sfn) × (r₂.allocation ≡ allocation))))
 build_read x κs args g o p = both x.𝓤 (λ e f h. let k = f ∙ is_command h (by (Builds _ _ _ _ _) (builds _ _ _ _ _) e) in (ap (λ (z : Command). z.rt) k, ap (λ (z : Command). z.sfn) k, ap (λ (z : Command). z.allocation) k))
 
 -- the image engine answers it with what is defined for those three
-pub build_rom_respond : Both command_build.ended (λ M. command_build.clauses) rom_respond.ended (λ M. rom_respond.clauses)
+pub build_rom_respond : Both command_build.ended (λ M 𝓤 𝓛. command_build.clauses 𝓛) rom_respond.ended (λ M 𝓤 𝓛. rom_respond.clauses 𝓛)
     (λ x o y p. saying x o (λ _ length rt sfn allocation out r _ _ _ _ out'.
     saying y p (λ _ image₂ command₂ out₂ r₂ _ _ out₂'.
     Handed r out' sfn.0 allocation command₂.now
@@ -190,7 +190,7 @@ unfolding image_answered
 build_rom_respond x κs args g o p = both x.𝓤 (λ e f h. f ∙ is_asked h (by (Builds _ _ _ _ _) (builds _ _ _ _ _) e) (λ r rt sfn a. maker.makes (capture_fault args.0.now or_else r) 12 (sent rt sfn a (captured (descs args.0.now))) args.1.1.0.now))
 
 -- and so does the sheet engine
-pub build_respond : Both command_build.ended (λ M. command_build.clauses) respond.ended (λ M. respond.clauses)
+pub build_respond : Both command_build.ended (λ M 𝓤 𝓛. command_build.clauses 𝓛) respond.ended (λ M 𝓤 𝓛. respond.clauses 𝓛)
     (λ x o y p. saying x o (λ _ length rt sfn allocation out r _ _ _ _ out'.
     saying y p (λ _ lay₂ s₂ command₂ out₂ r₂ _ _ _ out₂'.
     Handed r out' sfn.0 allocation command₂.now
@@ -201,7 +201,7 @@ build_respond x κs args g o p = both x.𝓤 (λ e f h.
     f ∙ is_asked h (by (Builds _ _ _ _ _) (builds _ _ _ _ _) e) (λ r rt sfn a. maker.makes (verdict s or_else r) 12 (sent rt sfn a (meaning s)) args.1.1.1.0.now))
 
 -- End to end: built, answered, read: the reading gives back what the sheet has for those three.
-pub build_end_to_end : AllThree command_build.ended (λ M. command_build.clauses) respond.ended (λ M. respond.clauses) read.ended (λ M. read.clauses)
+pub build_end_to_end : AllThree command_build.ended (λ M 𝓤 𝓛. command_build.clauses 𝓛) respond.ended (λ M 𝓤 𝓛. respond.clauses 𝓛) read.ended (λ M 𝓤 𝓛. read.clauses 𝓛)
     (λ x o y p z q. saying x o (λ _ length rt sfn allocation out r _ _ _ _ out'.
     saying y p (λ _ lay₂ s₂ command₂ out₂ r₂ _ _ _ out₂'.
     saying z q (λ _ rt₃ sfn₃ s₃ r₃ _ _ _.

@@ -11,7 +11,7 @@ use Rattle.base.proofs.Compare.{le_or_lt}
 use Rattle.base.specs.Lists.{flat, keep, Bytes}
 use Rattle.fields.specs.Field.{field, spell}
 use Rattle.refusal.specs.declared.Refusal.{Refusal}
-use Rattle.refusal.specs.First.{refuse, accept, ◌orElse◌}
+use Rattle.refusal.specs.First.{refuse, accept, ◌or_else◌}
 use Rattle.command.specs.Command.{opcode_of, rt_of, sfn_of, allocation_of, command_length, command_fault}
 use Rattle.text.specs.Drive.{Desc, Drive}
 use Rattle.text.specs.Response as text

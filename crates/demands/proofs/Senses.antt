@@ -14,7 +14,7 @@ use Rattle.base.specs.Pick.{pick}
 use Rattle.base.proofs.Promise.{Promised, promises, by}
 use Rattle.fields.specs.Field.{field, spell}
 use Rattle.refusal.specs.declared.Refusal.{Refusal}
-use Rattle.refusal.specs.First.{refuse, accept, ◌if◌else◌, pick_zero, ◌orElse◌, first_of, unless, placed}
+use Rattle.refusal.specs.First.{refuse, accept, ◌if◌else◌, pick_zero, ◌or_else◌, first_of, unless, placed}
 use Rattle.refusal.proofs.First.{unless_none, unless_fault}
 use Rattle.refusal.proofs.Numbers.{if_holds, or_else_holds, first_holds, placed_holds}
 use Rattle.text.specs.Flags as flags
@@ -202,10 +202,10 @@ answered_taken s c d =
     (or_else_holds Taken _ _ (or_else_holds Taken _ _ (verdict_taken s) (command_taken c)) (if_holds Taken (refuse 12) _ accept refl refl))
 
 -- And so it is with every outcome that the contract of `respond` allows.
-pub respond_taken : Promised respond.ended (λ M. respond.clauses) (λ M. respond.spec) (named (λ _ lay s command out r _ _ _ _. Taken r.refusal.number))
+pub respond_taken : Promised respond.ended (λ M 𝓤 𝓛. respond.clauses 𝓛) (λ M 𝓤 𝓛. respond.spec 𝓛) (named (λ _ lay s command out r _ _ _ _. Taken r.refusal.number))
 respond_taken x = promises x.𝓤 (λ o. by (λ (z : Outcome). Taken z.made.refusal.number) (answered_taken _ _ _))
 
-pub gcf_respond_taken : Promised gcf_respond.ended (λ M. gcf_respond.clauses) (λ M. gcf_respond.spec) (named (λ _ columns sheet command response told r _ _ _ _ _. Taken r))
+pub gcf_respond_taken : Promised gcf_respond.ended (λ M 𝓤 𝓛. gcf_respond.clauses 𝓛) (λ M 𝓤 𝓛. gcf_respond.spec 𝓛) (named (λ _ columns sheet command response told r _ _ _ _ _. Taken r))
 unfolding show_made
 gcf_respond_taken x = promises x.𝓤 (λ o. by (λ (z : Left (List ℕ)). Taken z.number) (answered_taken _ _ _))
 
@@ -223,10 +223,10 @@ pub trusted_taken : (s : Sheet) (c d : List ℕ) → Taken (trusting_command s c
 unfolding trusting_command trusting sized making pick given kind_of
 trusted_taken s c d = unless_taken (command_fault c) d _ (command_taken c) (unless_taken _ d _ (if_holds Taken (refuse 12) _ accept refl refl) refl)
 
-pub respond_accepted_taken : Promised respond_accepted.ended (λ M. respond_accepted.clauses) (λ M. respond_accepted.spec) (named (λ _ lay s command out r _ _ _ _. Taken r.refusal.number))
+pub respond_accepted_taken : Promised respond_accepted.ended (λ M 𝓤 𝓛. respond_accepted.clauses 𝓛) (λ M 𝓤 𝓛. respond_accepted.spec 𝓛) (named (λ _ lay s command out r _ _ _ _. Taken r.refusal.number))
 respond_accepted_taken x = promises x.𝓤 (λ o. by (λ (z : Outcome). Taken z.made.refusal.number) (trusted_taken _ _ _))
 
-pub gcf_respond_accepted_taken : Promised gcf_respond_accepted.ended (λ M. gcf_respond_accepted.clauses) (λ M. gcf_respond_accepted.spec) (named (λ _ columns sheet command response told r _ _ _ _ _. Taken r))
+pub gcf_respond_accepted_taken : Promised gcf_respond_accepted.ended (λ M 𝓤 𝓛. gcf_respond_accepted.clauses 𝓛) (λ M 𝓤 𝓛. gcf_respond_accepted.spec 𝓛) (named (λ _ columns sheet command response told r _ _ _ _ _. Taken r))
 unfolding show_made
 gcf_respond_accepted_taken x = promises x.𝓤 (λ o. by (λ (z : Left (List ℕ)). Taken z.number) (trusted_taken _ _ _))
 
@@ -239,10 +239,10 @@ image_taken i c d =
     (or_else_holds Taken _ _ (capture_is Taken refl refl refl refl refl refl refl refl refl refl refl refl i) (command_taken c))
     (if_holds Taken (refuse 12) _ accept refl refl))
 
-pub rom_respond_taken : Promised rom_respond.ended (λ M. rom_respond.clauses) (λ M. rom_respond.spec) (named (λ _ image command out r _ _ _. Taken r.refusal.number))
+pub rom_respond_taken : Promised rom_respond.ended (λ M 𝓤 𝓛. rom_respond.clauses 𝓛) (λ M 𝓤 𝓛. rom_respond.spec 𝓛) (named (λ _ image command out r _ _ _. Taken r.refusal.number))
 rom_respond_taken x = promises x.𝓤 (λ o. by (λ (z : Outcome). Taken z.made.refusal.number) (image_taken _ _ _))
 
-pub gcf_respond_image_taken : Promised gcf_respond_image.ended (λ M. gcf_respond_image.clauses) (λ M. gcf_respond_image.spec) (named (λ _ image command response told r _ _ _ _. Taken r))
+pub gcf_respond_image_taken : Promised gcf_respond_image.ended (λ M 𝓤 𝓛. gcf_respond_image.clauses 𝓛) (λ M 𝓤 𝓛. gcf_respond_image.spec 𝓛) (named (λ _ image command response told r _ _ _ _. Taken r))
 unfolding show_made
 gcf_respond_image_taken x = promises x.𝓤 (λ o. by (λ (z : Left (List ℕ)). Taken z.number) (image_taken _ _ _))
 
@@ -252,10 +252,10 @@ unfolding image_commanded image_requested pick given kind_of
 image_once_taken i c d =
     unless_taken (command_fault c) d _ (command_taken c) (subst Taken (sym (makes_number accept 12 _ d)) (or_else_holds Taken accept _ refl (if_holds Taken (refuse 12) _ accept refl refl)))
 
-pub rom_respond_accepted_taken : Promised rom_respond_accepted.ended (λ M. rom_respond_accepted.clauses) (λ M. rom_respond_accepted.spec) (named (λ _ image command out r _ _ _. Taken r.refusal.number))
+pub rom_respond_accepted_taken : Promised rom_respond_accepted.ended (λ M 𝓤 𝓛. rom_respond_accepted.clauses 𝓛) (λ M 𝓤 𝓛. rom_respond_accepted.spec 𝓛) (named (λ _ image command out r _ _ _. Taken r.refusal.number))
 rom_respond_accepted_taken x = promises x.𝓤 (λ o. by (λ (z : Outcome). Taken z.made.refusal.number) (image_once_taken _ _ _))
 
-pub gcf_respond_image_accepted_taken : Promised gcf_respond_image_accepted.ended (λ M. gcf_respond_image_accepted.clauses) (λ M. gcf_respond_image_accepted.spec) (named (λ _ image command response told r _ _ _ _. Taken r))
+pub gcf_respond_image_accepted_taken : Promised gcf_respond_image_accepted.ended (λ M 𝓤 𝓛. gcf_respond_image_accepted.clauses 𝓛) (λ M 𝓤 𝓛. gcf_respond_image_accepted.spec 𝓛) (named (λ _ image command response told r _ _ _ _. Taken r))
 unfolding show_made
 gcf_respond_image_accepted_taken x = promises x.𝓤 (λ o. by (λ (z : Left (List ℕ)). Taken z.number) (image_once_taken _ _ _))
 
@@ -281,7 +281,7 @@ head number len behind = 0 ∷ number ∷ 3 ∷ len ∷ behind
 
 -- Each number of the table is given: 0 to 12, 44 from a sheet, 14 to 18, 20, 29, 41 with an image.
 pub each_given : All Occurs taken
-unfolding each flat keep field spell ◌if◌else◌ pick_zero ◌orElse◌ first_of placed opcode_of rt_of sfn_of allocation_of command_fault command_length profile_bytes bytes feature0 all wants selected current_profile header data_length full sent layout.features layout.profiles layout.number_place layout.flags_place layout.length_place layout.offset_place layout.number layout.flags layout.body_length layout.offset layout.profiles_in profiles.profile_number profiles.profile_current profiles.profile_last profiles.listed profiles.profiles_of profiles.lists profiles.record_rule profiles.record_fault profiles.records_fault number_before end_before_entry flags_rule flags.flags_giving entry_rule entry_fault counted verdict desc meaning unless refusing making makes answered command command_bytes packet capture_fault own_rule flags_faults sheet_rule complete_fault text.stated_length text.stated_profile text.header_rule text.head_rule text.number_at text.flags_at text.length_at text.desc_at text.head_fault text.walk text.walked text.read_fault text.wholes image_answered
+unfolding each flat keep field spell ◌if◌else◌ pick_zero ◌or_else◌ first_of placed opcode_of rt_of sfn_of allocation_of command_fault command_length profile_bytes bytes feature0 all wants selected current_profile header data_length full sent layout.features layout.profiles layout.number_place layout.flags_place layout.length_place layout.offset_place layout.number layout.flags layout.body_length layout.offset layout.profiles_in profiles.profile_number profiles.profile_current profiles.profile_last profiles.listed profiles.profiles_of profiles.lists profiles.record_rule profiles.record_fault profiles.records_fault number_before end_before_entry flags_rule flags.flags_giving entry_rule entry_fault counted verdict desc meaning unless refusing making makes answered command command_bytes packet capture_fault own_rule flags_faults sheet_rule complete_fault text.stated_length text.stated_profile text.header_rule text.head_rule text.number_at text.flags_at text.length_at text.desc_at text.head_fault text.walk text.walked text.read_fault text.wholes image_answered
 each_given = (occurs_in none (command 0 0 0) [] refl, (occurs_in (stored Rows []) [] [] refl, (occurs_in (stored Rows (0 ∷ 0 ∷ 0 ∷ 64 ∷ replicate 256 0)) [] [] refl, (occurs_in (stored Rows (0 ∷ 0 ∷ 0 ∷ 1 ∷ 0 ∷ 0 ∷ 0 ∷ 0 ∷ [])) [] [] refl, (occurs_in (one 0 0 0 12) [] [] refl, (occurs_in (one 1 0x40 0 12) [] [] refl, (occurs_in (one 1 0 1 12) [] [] refl, (occurs_in (one 1 0 0 0) [] [] refl, (occurs_in (stored Rows (0 ∷ 0 ∷ 0 ∷ 0 ∷ 0 ∷ [])) [] [] refl, (occurs_in none [] [] refl, (occurs_in none (replicate 10 0) [] refl, (occurs_in none (command 3 0 0) [] refl, (occurs_in none (command 0 0 1) [] refl, (occurs_with [] [] [] refl, (occurs_with (image 0 []) [] [] refl, (occurs_with (image 4 (head 0 0 [])) [] [] refl, (occurs_with (image 8 (head 0 1 [])) [] [] refl, (occurs_with (image 12 (head 0 0 (head 0 0 []))) [] [] refl, (occurs_with (image 8 (head 0 4 [])) [] [] refl, (occurs_with (image 8 []) [] [] refl, (occurs_with (image 4 []) [] [] refl, (occurs_in (one 1 2 0 12) [] [] refl, tt))))))))))))))))))))))
 
 -- So the maker takes no other number than a command gives.

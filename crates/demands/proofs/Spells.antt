@@ -7,17 +7,17 @@ use native.Mathlib.Omega.{arith}
 use lib.Dec.{ltb}
 use lib.ListN.{length, drop}
 use Rattle.base.specs.Lists.{Bytes}
-use Rattle.hex.specs.Chars.{choose, at, value, blank, parts, is_a, past_of, past, ends, line_at}
-use Rattle.hex.specs.Front.{is_offset, is_six, is_end, is_said, is_words, width, opened_at, opened}
-use Rattle.hex.specs.Steps.{digit, prefix, space, bar, between, newline, other, char, step}
-use Rattle.hex.specs.Text.{Spelling, some, ended, taken, spelling, Outcome, outcome, spelled, given}
-use Rattle.hex.specs.Printed.{figure, Lined, packed_in, packed, comma_in, commas, file_in_c, lines_of, dotted, grouped, dump_line, dumped, spaced, canon_line, canonical, single, od_line, od_printed}
-use Rattle.hex.proofs.Cases.{choose_yes, choose_no}
-use Rattle.hex.proofs.Packed.{packed_spelled}
-use Rattle.hex.proofs.Commas.{commas_spelled, file_spelled}
-use Rattle.hex.proofs.Dumped.{dumped_spelled}
-use Rattle.hex.proofs.Canonical.{canonical_spelled}
-use Rattle.hex.proofs.Od.{od_spelled}
+use Rattle.hex_text.specs.Chars.{choose, at, value, blank, parts, is_a, past_of, past, ends, line_at}
+use Rattle.hex_text.specs.Front.{is_offset, is_six, is_end, is_said, is_words, width, opened_at, opened}
+use Rattle.hex_text.specs.Steps.{digit, prefix, space, bar, between, newline, other, char, step}
+use Rattle.hex_text.specs.Text.{Spelling, some, ended, taken, spelling, Outcome, outcome, spelled, given}
+use Rattle.hex_text.specs.Printed.{figure, Lined, packed_in, packed, comma_in, commas, file_in_c, lines_of, dotted, grouped, dump_line, dumped, spaced, canon_line, canonical, single, od_line, od_printed}
+use Rattle.hex_text.proofs.Cases.{choose_yes, choose_no}
+use Rattle.hex_text.proofs.Packed.{packed_spelled}
+use Rattle.hex_text.proofs.Commas.{commas_spelled, file_spelled}
+use Rattle.hex_text.proofs.Dumped.{dumped_spelled}
+use Rattle.hex_text.proofs.Canonical.{canonical_spelled}
+use Rattle.hex_text.proofs.Od.{od_spelled}
 use Rattle.meanings.specs.Codes.{codes}
 
 -- the outcome o of a text that spells bs, with the buffer d: no line is wrong, the count is that of the bytes, and they stand at the front where there is room

@@ -12,7 +12,7 @@ use borrow.Author.Tests.{ltb-true, ltb-false}
 use Rattle.base.specs.Lists.{each, flat, keep, All, Bytes}
 use Rattle.fields.specs.Field.{field, spell}
 use Rattle.refusal.specs.declared.Refusal.{Refusal}
-use Rattle.refusal.specs.First.{refuse, accept, ◌if◌else◌, pick_zero, ◌orElse◌, first_of, unless, placed}
+use Rattle.refusal.specs.First.{refuse, accept, ◌if◌else◌, pick_zero, ◌or_else◌, first_of, unless, placed}
 use Rattle.refusal.proofs.First.{if_zero, or_else_none, or_else_fault, unless_fault}
 use Rattle.text.specs.Flags as flags
 use Rattle.text.specs.Drive.{Drive, profile_bytes}
@@ -118,7 +118,7 @@ unfolding sheet_e low
 bytes_e = bytes_low sheet_e.bytes refl
 
 pub accepted_e : Accepted sheet_e
-unfolding each field ◌if◌else◌ pick_zero ◌orElse◌ first_of placed layout.features layout.profiles layout.number_place layout.flags_place layout.length_place layout.offset_place layout.number layout.flags layout.body_length layout.offset layout.profiles_in profiles.profile_number profiles.profile_current profiles.profile_last profiles.lists profiles.record_rule profiles.record_fault profiles.records_fault number_before end_before_entry flags_rule flags.flags_giving entry_rule entry_fault counted verdict sheet_e
+unfolding each field ◌if◌else◌ pick_zero ◌or_else◌ first_of placed layout.features layout.profiles layout.number_place layout.flags_place layout.length_place layout.offset_place layout.number layout.flags layout.body_length layout.offset layout.profiles_in profiles.profile_number profiles.profile_current profiles.profile_last profiles.lists profiles.record_rule profiles.record_fault profiles.records_fault number_before end_before_entry flags_rule flags.flags_giving entry_rule entry_fault counted verdict sheet_e
 accepted_e = refl
 
 abbrev buffers_e : Buffers
@@ -142,7 +142,7 @@ unfolding sheet_e sheet_e' low
 bytes_e' = bytes_low sheet_e'.bytes refl
 
 accepted_e' : Accepted sheet_e'
-unfolding each field ◌if◌else◌ pick_zero ◌orElse◌ first_of placed layout.features layout.profiles layout.number_place layout.flags_place layout.length_place layout.offset_place layout.number layout.flags layout.body_length layout.offset layout.profiles_in profiles.profile_number profiles.profile_current profiles.profile_last profiles.lists profiles.record_rule profiles.record_fault profiles.records_fault number_before end_before_entry flags_rule flags.flags_giving entry_rule entry_fault counted verdict sheet_e sheet_e'
+unfolding each field ◌if◌else◌ pick_zero ◌or_else◌ first_of placed layout.features layout.profiles layout.number_place layout.flags_place layout.length_place layout.offset_place layout.number layout.flags layout.body_length layout.offset layout.profiles_in profiles.profile_number profiles.profile_current profiles.profile_last profiles.lists profiles.record_rule profiles.record_fault profiles.records_fault number_before end_before_entry flags_rule flags.flags_giving entry_rule entry_fault counted verdict sheet_e sheet_e'
 accepted_e' = refl
 
 abbrev buffers_e' : Buffers

@@ -1,11 +1,12 @@
 // One descriptor of received bytes: whether it stands whole at a place, its fields, and where the next one stands.
+#![tactic(auto)]
 ghost use Rattle.std.specs.Prelude.{◌≡◌};
 ghost use Rattle.descriptor.specs.Standing.{nothing_stands, stands_at};
 
 use text::{Feature, Flags};
 
 // What stands at a place: a whole descriptor, its fields, and the places of its body and of the next one; or none, and all else 0.
-#[derive(Drop)]
+#[derive(Clone, Copy)]
 pub struct Standing {
     pub whole: bool,
     pub number: Feature,

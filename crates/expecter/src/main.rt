@@ -1,6 +1,7 @@
 // Says of recorded exchanges what a driver has to make of them: a line of JSON members for each, from a reading, a sweep, a check and an import of the response. An exchange that
 // starts at 0 starts a sweep, any other goes on with the one before it. Arguments: how many exchanges there are, and whether there is no room for what a sweep collects and for a
 // sheet. Standard input has them (`exchanges`).
+#![tactic(auto)]
 use command::Command;
 use lent::Made;
 use libc::STDOUT_FILENO;

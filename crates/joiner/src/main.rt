@@ -5,6 +5,7 @@
 //
 // That no response is left out is told by Data Length, which counts all that a drive has from the start on, however much of it is sent: of the responses of one
 // drive each has that of the first less the bytes collected before it (`crates/demands/proofs/Following.antt`), and the first has feature 0.
+#![tactic(auto)]
 use libc::{STDERR_FILENO, STDOUT_FILENO};
 use program_io::streams::say;
 use program_io::{asked, dumps, streams};
@@ -32,7 +33,7 @@ const SHOWN: usize = 7;
 const SECOND: usize = 4;
 
 // A sweep over files: whether all was taken, and the record then.
-#[derive(Drop)]
+#[derive(Clone, Copy)]
 struct Joined {
     failed: bool,
     sweep: Sweep,

@@ -1,5 +1,6 @@
 // The judge of other people's boxes: a sheet, a recorded command and the response that a box gave to it, and the verdict. The right box makes its response in a scratch buffer,
 // and the two are compared; where they differ, boxes that get one thing wrong make theirs.
+#![tactic(auto)]
 ghost use Rattle.std.specs.Prelude.{◌≡◌, ◌≤◌, ◌<◌, ◌-◌, min, length, get_or, take, drop};
 ghost use Rattle.lent.specs.Wrote.{Wrote};
 ghost use Rattle.text.specs.Response.{selected, header, data_length, most, sent};
@@ -17,7 +18,7 @@ use refusal::Refusal;
 use text::{Feature, Profile};
 
 // What a box got wrong, where that explains its response.
-#[derive(Drop)]
+#[derive(Clone, Copy)]
 pub enum Mistake {
     // It sends only the features above SFN.
     OnlyAbove,
@@ -38,7 +39,7 @@ pub enum Mistake {
 }
 
 // What is said of a response.
-#[derive(Drop)]
+#[derive(Clone, Copy)]
 pub enum Verdict {
     // Exactly the bytes that are due.
     Exact,
@@ -55,7 +56,7 @@ pub enum Verdict {
 }
 
 // What a box makes of a request: the RT and the SFN that it goes by, and what it states in the header.
-#[derive(Drop)]
+#[derive(Clone, Copy)]
 struct Stated {
     rt: u8,
     sfn: Feature,

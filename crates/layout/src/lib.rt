@@ -1,4 +1,5 @@
 // Where a drive sheet's fields stand, read and written: nothing above this crate knows the layout of the contents. A field behind the sheet's end reads as 0.
+#![tactic(auto)]
 ghost use Rattle.std.specs.Prelude.{◌≡◌, ◌+◌, ◌*◌, ◌≤◌, ◌<◌, [], ◌∷◌, ◌++◌, length, get_or, set, take, drop};
 ghost use Rattle.fields.specs.Field.{spell};
 ghost use Rattle.fields.specs.Part.{PartOf};
@@ -13,7 +14,7 @@ ghost use Rattle.layout.specs.inner.Room.{Room};
 use text::{Feature, Flags};
 
 // How the contents stand: entry behind entry, or all feature numbers, then all flags, all body lengths, all offsets.
-#[derive(Drop)]
+#[derive(Clone, Copy)]
 pub enum Layout {
     Rows,
     Columns,
@@ -58,7 +59,7 @@ pub fn profiles_part(s: &[u8]) -> &[u8]
 // ---- where the fields of an entry stand
 
 // Which entry: how the contents stand, how many entries they have, and the index of the one. They go together to whoever looks at an entry.
-#[derive(Drop)]
+#[derive(Clone, Copy)]
 pub struct Nth {
     pub lay: Layout,
     pub n: u16,
@@ -145,7 +146,7 @@ pub fn offset_at(lay: Layout, s: &[u8], i: u16) -> u32
 
 // ---- an entry of a sheet that has its contents
 
-#[derive(Drop)]
+#[derive(Clone, Copy)]
 pub struct Entry {
     pub number: Feature,
     pub flags: Flags,
@@ -168,7 +169,7 @@ pub fn entry_in(s: &[u8], nth: Nth) -> Entry
 }
 
 // What a writer of descriptors looks at before it writes: flags and body length, and where the offset stands.
-#[derive(Drop)]
+#[derive(Clone, Copy)]
 pub struct Found {
     pub flags: Flags,
     pub length: u8,
@@ -197,7 +198,7 @@ fn gathered(s: &[u8], number: usize, flags: usize, len: usize) -> [u8; 4]
 {
     let mut head = [0u8; 4];
     let end = number + 2;
-    bytes::copy(&s[number..end], &mut head[..2]);
+    head[..2].copy_from_slice(&s[number..end]);
     head[2] = fields::inside(s, flags);
     head[3] = fields::inside(s, len);
     head
@@ -244,7 +245,7 @@ pub fn set_flags(out: &mut [u8], nth: Nth, flags: Flags)
 }
 
 // Which bytes of an entry are written: all in a row, or one field for its column.
-#[derive(Drop)]
+#[derive(Clone, Copy)]
 enum Piece {
     Row,
     Number,

@@ -11,7 +11,7 @@ use lib.Seq.{get_or-drop, take_all}
 use Rattle.base.specs.Lists.{Bytes}
 use Rattle.fields.specs.Field.{field, spell}
 use Rattle.refusal.specs.declared.Refusal.{Refusal}
-use Rattle.refusal.specs.First.{accept, ◌orElse◌, first_of}
+use Rattle.refusal.specs.First.{accept, ◌or_else◌, first_of}
 use Rattle.refusal.proofs.First.{or_else_none, or_else_fault, or_else_accept, call_none, call_fault, first_accept}
 use Rattle.legal.specs.declared.Row.{Row}
 use Rattle.legal.specs.declared.Length.{Length}

@@ -14,7 +14,7 @@ use Rattle.base.specs.Lists.{Bytes}
 use Rattle.fields.specs.Field.{field, spell}
 use Rattle.fields.proofs.Laws.{length_spell}
 use Rattle.refusal.specs.declared.Refusal.{Refusal}
-use Rattle.refusal.specs.First.{refuse, accept, ◌orElse◌, first_of}
+use Rattle.refusal.specs.First.{refuse, accept, ◌or_else◌, first_of}
 use Rattle.refusal.proofs.First.{rest, or_else_none, or_else_fault, or_else_assoc, or_else_accept, or_else_plain, if_plain, first_accept}
 use Rattle.legal.specs.declared.Masks.{Masks}
 use Rattle.legal.specs.Legal.{mask_bytes}

@@ -1,4 +1,5 @@
 // What may stand in a body: the table of legal lengths and body bits, and the rules that check and mender share.
+#![tactic(auto)]
 ghost use Rattle.std.specs.Prelude.{◌≡◌, ◌||◌, ◌+◌, ◌≤◌, length, get_or};
 ghost use Rattle.fields.specs.Field.{field};
 ghost use Rattle.refusal.specs.First.{first_of};
@@ -12,7 +13,7 @@ use text::{Feature, Flags};
 // ---- the table
 
 // How long a body may be: any length, exactly so many bytes, or 4 and the N bytes that byte 7 counts and up to 3 pad bytes.
-#[derive(Drop)]
+#[derive(Clone, Copy)]
 pub enum Length {
     Any,
     Exactly(u8),
@@ -20,13 +21,13 @@ pub enum Length {
 }
 
 // The bits that may be 1 in twelve bytes of a body, four bytes to a word, the first in its highest bits.
-#[derive(Drop)]
+#[derive(Clone, Copy)]
 pub struct Masks(pub u32, pub u32, pub u32);
 
 // A row: the feature, its length, the bits that may be 1 in its body by place, over again every twelve bytes (of Counted only in the first four), and
 // whether it may not be Persistent where feature 0003h is reported. All of it is numbers, so that the compiler makes a jump of the walk over the table and
 // lays no table out.
-#[derive(Drop)]
+#[derive(Clone, Copy)]
 pub struct Row(pub Feature, pub Length, pub Masks, pub bool);
 
 // The features that the table names; a row keeps one line.

@@ -24,17 +24,12 @@ same_end {s} {d} {i} h q = sym (take_all i d (omega (arith, q.sized))) ∙ q.fro
 
 -- a block of n bytes b, taken from index i of s on, and put there over d
 pub same_more : {s d b e : List ℕ} {i : ℕ} (n : ℕ) → Same s i d → i + n ≤ length s
-    → b ≡ take (length (take (i + n - i) (drop i s))) (take (i + n - i) (drop i s)) ++ drop (length (take (i + n - i) (drop i s))) (replicate n 0)
-    → e ≡ take (length b) b ++ drop (length b) (take (i + n - i) (drop i d))
+    → b ≡ take (i + n - i) (drop i s)
+    → e ≡ b
     → Same s (i + n) (take i d ++ (e ++ drop (i + n - i) (drop i d)))
 same_more {s} {d} {b} {e} {i} n q h hb he =
     let m : i + n - i ≡ n = omega arith in
-    let lx : length (take n (drop i s)) ≡ n = omega (arith, length-take n (drop i s), length-drop i s) in
-    let none : List ℕ = replicate n 0 in
-    let lz : length none ≤ length (take n (drop i s)) = omega (arith, lx, length-replicate {A = ℕ} n 0) in
-    let ld : length (take n (drop i d)) ≤ length (take n (drop i s)) = omega (arith, lx, length-take n (drop i d)) in
-    let eb : b ≡ take n (drop i s) = hb ∙ rw (m, take-length, drop_of_length-le none lz) (append-nil (take n (drop i s))) in
-    let ee : e ≡ take n (drop i s) = he ∙ rw (m, eb, take-length, drop_of_length-le (take n (drop i d)) ld) (append-nil (take n (drop i s))) in
+    let ee : e ≡ take n (drop i s) = he ∙ hb ∙ rw m in
     let lf : length (take (i + n) s) ≡ i + n = length-take-le (i + n) s h in
     let all : take i d ++ (e ++ drop (i + n - i) (drop i d)) ≡ take (i + n) s ++ drop (i + n) d =
     rw (m, ee, q.front, drop-drop n i d, take-add i n s) (sym (append_assoc (take i s) (take n (drop i s)) (drop (i + n) d))) in

@@ -7,7 +7,7 @@ use lib.Dec.{ltb}
 use lib.ListN.{length}
 use borrow.Author.Tests.{lt-ltb, le-ltb, ltb-false}
 use Rattle.refusal.specs.declared.Refusal.{Refusal}
-use Rattle.refusal.specs.First.{refuse, accept, ◌if◌else◌, ◌orElse◌, unless}
+use Rattle.refusal.specs.First.{refuse, accept, ◌if◌else◌, ◌or_else◌, unless}
 use Rattle.refusal.proofs.First.{if_true, if_false, or_else_none, or_else_fault, if_zero, or_else_zero, unless_none, unless_fault}
 use Rattle.lent.specs.Wrote.{Wrote}
 use Rattle.lent.specs.declared.Made.{Made}

@@ -1,7 +1,7 @@
 -- What a maker answers: a function that writes bytes to the front of a lent buffer, or refuses. Assumes nothing: these are definitions.
 use Rattle.std.specs.Prelude.{List, ◌++◌, ℕ, ltb, length, drop}
 use Rattle.refusal.specs.declared.Refusal.{Refusal}
-use Rattle.refusal.specs.First.{refuse, accept, ◌if◌else◌, ◌orElse◌, unless}
+use Rattle.refusal.specs.First.{refuse, accept, ◌if◌else◌, ◌or_else◌, unless}
 use Rattle.lent.specs.declared.Made.{Made}
 
 -- the answer, and the buffer afterwards

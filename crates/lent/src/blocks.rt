@@ -11,8 +11,8 @@ fn block4(s: &[u8], i: usize, out: &mut [u8])
 {
     let mut block = [0u8; 4];
     let end = i + 4;
-    bytes::copy(&s[i..end], &mut block);
-    bytes::copy(&block, &mut out[i..end]);
+    block.copy_from_slice(&s[i..end]);
+    out[i..end].copy_from_slice(&block);
 }
 
 // Copies the 8 bytes of s from index i on to the same place.
@@ -23,8 +23,8 @@ fn block8(s: &[u8], i: usize, out: &mut [u8])
 {
     let mut block = [0u8; 8];
     let end = i + 8;
-    bytes::copy(&s[i..end], &mut block);
-    bytes::copy(&block, &mut out[i..end]);
+    block.copy_from_slice(&s[i..end]);
+    out[i..end].copy_from_slice(&block);
 }
 
 // Copies the 16 bytes of s from index i on to the same place: both halves are read before any is written, so that they go at once. An array of 8 bytes is a
@@ -38,10 +38,10 @@ fn block16(s: &[u8], i: usize, out: &mut [u8])
     let mut second = [0u8; 8];
     let middle = i + 8;
     let end = middle + 8;
-    bytes::copy(&s[i..middle], &mut first);
-    bytes::copy(&s[middle..end], &mut second);
-    bytes::copy(&first, &mut out[i..middle]);
-    bytes::copy(&second, &mut out[middle..end]);
+    first.copy_from_slice(&s[i..middle]);
+    second.copy_from_slice(&s[middle..end]);
+    out[i..middle].copy_from_slice(&first);
+    out[middle..end].copy_from_slice(&second);
 }
 
 // Copies the 32 bytes of s from index i on to the same place.
@@ -130,7 +130,7 @@ pub fn fill(s: &[u8], out: &mut [u8])
         return;
     }
     if s.len() < 8 {
-        bytes::copy(s, out);
+        out.copy_from_slice(s);
         return;
     }
     if s.len() < 16 {

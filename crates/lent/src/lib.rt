@@ -1,5 +1,6 @@
 // Writing into lent memory. Every writer writes from an index on as far as the buffer has room, changes nothing else, and returns the
 // index behind what it wrote.
+#![tactic(auto)]
 ghost use Rattle.std.specs.Prelude.{◌≡◌, [], ◌∷◌, ◌+◌, ◌≤◌, leb, length, take, drop, replicate};
 ghost use Rattle.fields.specs.Field.{spell};
 ghost use Rattle.lent.specs.Wrote.{Wrote};
@@ -10,7 +11,7 @@ mod blocks;
 use refusal::Refusal;
 
 // What a maker answers, a function that writes into lent memory or refuses: the refusal or none, and how many bytes it wrote.
-#[derive(Drop)]
+#[derive(Clone, Copy)]
 pub struct Made {
     pub refusal: Refusal,
     pub count: usize,

@@ -5,7 +5,7 @@ use Prim.Native.Nat.{ℕ, zero, suc, ◌≤◌}
 use native.Mathlib.Omega.{arith}
 use lib.ListN.{length}
 use Rattle.refusal.specs.declared.Refusal.{Refusal}
-use Rattle.refusal.specs.First.{refuse, ◌if◌else◌, pick_zero, ◌orElse◌}
+use Rattle.refusal.specs.First.{refuse, ◌if◌else◌, pick_zero, ◌or_else◌}
 use Rattle.text.specs.Reading.{Walked, stated_length, stated_end, header_rule, head_rule, head_fault, walk, walked, read_fault}
 use Rattle.text.proofs.Walk.{walk_by}
 
@@ -20,7 +20,7 @@ pick_most zero a b h l = l
 pick_most (suc k) a b h l = h
 
 or_else_most : (a b : Refusal) → a.number ≤ 20 → b.number ≤ 20 → (a or_else b).number ≤ 20
-unfolding ◌orElse◌
+unfolding ◌or_else◌
 or_else_most a b h l = pick_most a.number a b h l
 
 header_most : (limit rt received stated : ℕ) → (header_rule limit rt received stated).number ≤ 20

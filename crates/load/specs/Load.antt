@@ -2,7 +2,7 @@
 use Rattle.std.specs.Prelude.{Bool, true, not, ◌&&◌, ◌||◌, List, [], ◌∷◌, map, ℕ, ◌+◌, ◌*◌, ◌/◌, ltb, eqb}
 use Rattle.base.specs.Pick.{some}
 use Rattle.refusal.specs.declared.Refusal.{Refusal}
-use Rattle.refusal.specs.First.{refuse, accept, ◌if◌else◌, ◌orElse◌}
+use Rattle.refusal.specs.First.{refuse, accept, ◌if◌else◌, ◌or_else◌}
 use Rattle.lent.specs.Maker.{Outcome, makes}
 use Rattle.text.specs.Flags.{persistent}
 use Rattle.text.specs.Drive.{Desc, Listed, Drive, bit}

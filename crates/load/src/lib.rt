@@ -1,4 +1,5 @@
 // A medium goes in: the sheet as it leaves it.
+#![tactic(auto)]
 ghost use Rattle.std.specs.Prelude.{◌≡◌, true, not, ◌||◌, ℕ, ◌+◌, ◌*◌, ◌/◌, ◌≤◌, ◌<◌, eqb, length, get_or};
 ghost use Rattle.base.specs.Pick.{some};
 ghost use Rattle.text.specs.Drive.{bit};
@@ -60,7 +61,7 @@ fn number_at(list: &[u16], i: usize) -> u16
 // ---- the walk over the entries beside the list
 
 // Behind an entry: whether it was found in the list, how many are met, and the number that comes next, 0 behind the last.
-#[derive(Drop)]
+#[derive(Clone, Copy)]
 struct Walk {
     found: bool,
     met: usize,

@@ -14,7 +14,7 @@ use Rattle.base.proofs.Pick.{pick_here, pick_past}
 use Rattle.base.proofs.Compare.{le_or_lt}
 use Rattle.fields.specs.Field.{field}
 use Rattle.refusal.specs.declared.Refusal.{Refusal}
-use Rattle.refusal.specs.First.{refuse, accept, ◌orElse◌, first_of}
+use Rattle.refusal.specs.First.{refuse, accept, ◌or_else◌, first_of}
 use Rattle.refusal.proofs.First.{or_else_none, or_else_fault, first_accept}
 use Rattle.refusal.proofs.Numbers.{if_holds, first_holds}
 use Rattle.text.specs.Flags.{newer, persistent}
@@ -27,7 +27,7 @@ use Rattle.legal.specs.declared.Row.{Row}
 use Rattle.legal.specs.Legal.{row_of}
 use Rattle.legal.specs.Bodies.{byte_of, wrong_length, mask_at, reserved_at, cue_rule}
 use Rattle.checks.specs.Rules.{flags_fault, flags_short, flags_barred, row_rule, profile_at, profiles_fault, body_fault, desc_fault}
-use Rattle.checks.specs.Check.{finding, ◌orNext◌, first_finding, checked_all, checked}
+use Rattle.checks.specs.Check.{finding, ◌or_next◌, first_finding, checked_all, checked}
 use Rattle.base.proofs.Bools.{and_true, false_and, not_yes, not_no, true_and}
 use Rattle.refusal.proofs.Calls.{if_yes, if_no}
 use Rattle.checks.proofs.Findings.{next_none, next_fault}
@@ -40,10 +40,10 @@ use Rattle.mend.proofs.Again.{descs_good, flags_mended_here, body_touched, touch
 -- ---- what holds of each number of some rules holds of the number given
 
 module _ (P : ℕ → Type 0) where
-  pub next_is : (a b : Finding) → P a.refusal.number → P b.refusal.number → P (a orNext b).refusal.number
+  pub next_is : (a b : Finding) → P a.refusal.number → P b.refusal.number → P (a or_next b).refusal.number
   next_is a b h l = go a.refusal.number refl
     where
-      go : (n : ℕ) → a.refusal.number ≡ n → P (a orNext b).refusal.number
+      go : (n : ℕ) → a.refusal.number ≡ n → P (a or_next b).refusal.number
       go zero e = rw (next_none a b e) l
       go (suc n) e = rw (next_fault a b (λ z. omega arith)) h
 

@@ -1,4 +1,5 @@
 // A captured response is mended: a copy without the faults that can be mended, and a list of the changes.
+#![tactic(auto)]
 ghost use Rattle.std.specs.Prelude.{◌≡◌, ◌&&◌, [], ◌∷◌, ◌+◌, ◌≤◌, ◌<◌, leb, length, take};
 ghost use Rattle.base.specs.Lists.{flat};
 ghost use Rattle.lent.specs.Wrote.{Wrote};
@@ -17,7 +18,7 @@ use refusal::Refusal;
 use text::{Feature, Flags, Header};
 
 // What a mending answers: the refusal or none, how many bytes the copy has, and how many changes were noted.
-#[derive(Drop)]
+#[derive(Clone, Copy)]
 pub struct Mended {
     pub refusal: Refusal,
     pub length: usize,
@@ -25,7 +26,7 @@ pub struct Mended {
 }
 
 // How a body is mended: by its row's masks, which byte 7 may count, and whether its cue sheet length is cleared.
-#[derive(Drop)]
+#[derive(Clone, Copy)]
 struct Plan {
     row: Row,
     n: u8,

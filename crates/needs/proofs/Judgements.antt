@@ -11,7 +11,7 @@ use Rattle.base.specs.Lists.{All}
 use Rattle.base.specs.Pick.{pick}
 use Rattle.base.proofs.Pick.{pick_here, pick_past}
 use Rattle.refusal.specs.declared.Refusal.{Refusal}
-use Rattle.refusal.specs.First.{refuse, accept, unless, ◌if◌else◌, ◌orElse◌}
+use Rattle.refusal.specs.First.{refuse, accept, unless, ◌if◌else◌, ◌or_else◌}
 use Rattle.refusal.proofs.First.{if_true, if_false, or_else_none, or_else_fault, or_else_zero, unless_none, unless_fault, call_none, call_fault}
 use Rattle.reading.specs.Places.{descs}
 use Rattle.reading.specs.Completed.{complete_fault}

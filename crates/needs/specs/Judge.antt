@@ -3,7 +3,7 @@ use Rattle.std.specs.Prelude.{Bool, true, false, not, ◌&&◌, List, [], ◌∷
 use Rattle.std.specs.Int.Bits.{bit_and}
 use Rattle.base.specs.Pick.{pick}
 use Rattle.refusal.specs.declared.Refusal.{Refusal}
-use Rattle.refusal.specs.First.{refuse, accept, ◌if◌else◌, ◌orElse◌, unless}
+use Rattle.refusal.specs.First.{refuse, accept, ◌if◌else◌, ◌or_else◌, unless}
 use Rattle.text.specs.Drive.{Desc}
 use Rattle.reading.specs.Places.{descs}
 use Rattle.reading.specs.Completed.{complete_fault}

@@ -1,4 +1,5 @@
 // What a profile requires of a response to RT 0 from 0: one rule over one table.
+#![tactic(auto)]
 ghost use Rattle.std.specs.Prelude.{◌≡◌};
 ghost use Rattle.needs.specs.Judge.{wrong_number, said, judged};
 ghost use Rattle.needs.specs.Alone.{judged_of};
@@ -13,7 +14,7 @@ use text::{Feature, Profile};
 
 // What is wrong with a feature that breaks a profile, the first of these: no descriptor has its number; the body is shorter than the profile asks; a bit that it
 // asks for is not set; Current is not set, where it is asked for; the descriptor is longer than the profile lets any be.
-#[derive(Drop)]
+#[derive(Clone, Copy)]
 pub enum Wrong {
     Absent,
     TooShort,
@@ -39,7 +40,7 @@ impl Wrong {
 
 // Whether a response has what a profile requires: it does, or this feature is the lowest that breaks the profile, and what is wrong with it, or this is why it was
 // not judged.
-#[derive(Drop)]
+#[derive(Clone, Copy)]
 pub enum Judgement {
     Conforms,
     Broken(Feature, Wrong),

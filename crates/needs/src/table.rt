@@ -12,12 +12,12 @@ use super::{Judgement, one, walk};
 use text::{Feature, Profile};
 
 // A column: the profile, its mark in the lines, and how long a body may be.
-#[derive(Drop)]
+#[derive(Clone, Copy)]
 pub struct Column(pub Profile, pub u8, pub u8);
 
 // A line: the marks of the columns that it stands in, the feature that they need, the least length of its body, a place in the body, which is the descriptor's byte 4
 // further on, the bits that must be set there, and the flags that must be set.
-#[derive(Drop)]
+#[derive(Clone, Copy)]
 pub struct Need(pub u8, pub Feature, pub u8, pub u8, pub u8, pub u8);
 
 // The columns: profile, mark, longest body. FFFFh, removable disk, CD-ROM, DVD-ROM, DVD-RAM, the archive subset.

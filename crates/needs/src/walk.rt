@@ -14,14 +14,14 @@ use super::{Judgement, Wrong, table};
 use text::{Feature, Flags, Header};
 
 // Whether a descriptor is what a line asks for, or what is wrong with it.
-#[derive(Drop)]
+#[derive(Clone, Copy)]
 pub enum Fit {
     Fits,
     Lacks(Wrong),
 }
 
 // A step of the walk over the descriptors: for the next line it goes on at a place, or this feature breaks the profile.
-#[derive(Drop)]
+#[derive(Clone, Copy)]
 pub enum Step {
     On(usize),
     Stop(Feature, Wrong),

@@ -5,7 +5,7 @@ use Prim.Native.Nat.{ℕ, zero, suc, ◌+◌, ◌/◌, ◌≤◌, ◌<◌, min}
 use native.Mathlib.Omega.{arith}
 use lib.ListN.{length}
 use Rattle.refusal.specs.declared.Refusal.{Refusal}
-use Rattle.refusal.specs.First.{accept, ◌orElse◌, first_of, placed}
+use Rattle.refusal.specs.First.{accept, ◌or_else◌, first_of, placed}
 use Rattle.refusal.proofs.First.{or_else_none, or_else_fault, rest, first_stop, first_go, first_none, placed_none, placed_fault}
 use Rattle.profiles.specs.Profiles.{record_fault, records_fault, stopped}
 

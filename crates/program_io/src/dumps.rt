@@ -78,7 +78,7 @@ fn say_none(named: usize) {
 
 // The bytes that a text spells.
 fn spelt(named: usize, text: &[u8], buf: &mut [u8]) -> Input {
-    let spelt = hex::spell(text, buf);
+    let spelt = hex_text::spell(text, buf);
     if spelt.line != 0 {
         say_line(named, spelt.line);
         return failed();

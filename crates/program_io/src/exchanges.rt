@@ -17,7 +17,7 @@ const COMMAND_DIGITS: usize = 510;
 const RESPONSE_DIGITS: usize = 131071;
 
 // How many bytes command and response have.
-#[derive(Drop)]
+#[derive(Clone, Copy)]
 pub struct Exchange {
     pub command: usize,
     pub response: usize,

@@ -28,7 +28,7 @@ pub fn mark_end() {
 // ---- input and output
 
 // What was read: how many bytes, none where reading failed.
-#[derive(Drop)]
+#[derive(Clone, Copy)]
 pub struct Input {
     pub failed: bool,
     pub count: usize,

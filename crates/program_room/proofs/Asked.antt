@@ -5,7 +5,7 @@ use Prim.Native.Nat.{ℕ, zero, suc, ◌≤◌}
 use native.Mathlib.Omega.{arith}
 use lib.ListN.{length, drop, length-append}
 use Rattle.refusal.specs.declared.Refusal.{Refusal}
-use Rattle.refusal.specs.First.{◌orElse◌, unless}
+use Rattle.refusal.specs.First.{◌or_else◌, unless}
 use Rattle.command.specs.Command.{command_fault, rt_of, sfn_of, allocation_of}
 use Rattle.refusal.proofs.First.{unless_none, unless_fault}
 use Rattle.lent.specs.Maker.{refusing, making}

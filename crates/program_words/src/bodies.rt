@@ -8,7 +8,7 @@ use program_io::streams::{say, say_decimal};
 // A field: the place of its first byte in the descriptor and how many bytes these are, what their number is divided by, the remainder that is then taken (0: none is), and its kind: a
 // number (0) whose values the physical interfaces (1) or the loading mechanisms (2) name, a text (3), which goes to the end where it has no bytes, or a list (4) of numbers with so
 // many bytes each, as many as the byte at the place that stands for the divisor says, or all where that is 0.
-#[derive(Drop)]
+#[derive(Clone, Copy)]
 struct Field {
     at: u32,
     bytes: u32,

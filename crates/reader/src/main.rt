@@ -1,6 +1,7 @@
 // Reads a response, or sense data, from standard input and does with it what is asked, a module for each: it is listed, shown, checked, mended, imported, answered from as an image, or the bytes
 // that it spells are written. Arguments: what is asked (`asked`), and how many bytes a command has (`packets`); whether hexadecimal text is read; whether padding is trimmed; what is done;
 // and what that takes beyond, from the eighth on. With none the response is listed.
+#![tactic(auto)]
 mod checking;
 mod imaging;
 mod importing;

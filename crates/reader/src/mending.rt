@@ -18,7 +18,7 @@ const COPY: i32 = 5;
 const LIST: usize = 8;
 
 // A change: the descriptor it is in begins at this place of the response and has this number, and byte k of it, counted from its start, was old and is new.
-#[derive(Drop)]
+#[derive(Clone, Copy)]
 struct Change {
     feature: Feature,
     place: usize,

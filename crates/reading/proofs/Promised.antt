@@ -21,5 +21,5 @@ holds f fresh kept = record {
 }
 
 -- the part itself lies in the response that it is taken from
-pub held_tied : Promised held.ended (λ M. held.clauses) (λ M. held.spec) (λ x o. Lies x.args.0.0 x.args.1.0 x.args.1.1.0 o.0)
+pub held_tied : Promised held.ended (λ M 𝓤 𝓛. held.clauses 𝓛) (λ M 𝓤 𝓛. held.spec 𝓛) (λ x o. Lies x.args.0.0 x.args.1.0 x.args.1.1.0 o.0)
 held_tied x = promises x.𝓤 (λ o. held_lies _ _ _ _)

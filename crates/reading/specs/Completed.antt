@@ -1,7 +1,7 @@
 -- A response to RT 0 from 0 that has to be complete. Assumes nothing: these are definitions.
 use Rattle.std.specs.Prelude.{not, List, ℕ, eqb, length}
 use Rattle.refusal.specs.declared.Refusal.{Refusal}
-use Rattle.refusal.specs.First.{refuse, accept, ◌if◌else◌, ◌orElse◌, unless}
+use Rattle.refusal.specs.First.{refuse, accept, ◌if◌else◌, ◌or_else◌, unless}
 use Rattle.text.specs.declared.Reading.{Reading}
 use Rattle.text.specs.Response.{return_limit}
 use Rattle.text.specs.Reading.{stated_end, read_fault, nothing_read, reading}

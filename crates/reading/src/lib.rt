@@ -1,4 +1,5 @@
 // The driver reads a response.
+#![tactic(auto)]
 ghost use Rattle.std.specs.Prelude.{◌≡◌, not, ◌&&◌, ◌+◌, ◌≤◌, ltb, leb, eqb, length, drop};
 ghost use Rattle.fields.specs.Part.{PartOf};
 ghost use Rattle.refusal.specs.First.{◌if◌else◌};
@@ -18,35 +19,35 @@ use refusal::Refusal;
 use text::{Feature, Flags, Header, Profile, Reading};
 
 // A reading, and the number of its last whole descriptor.
-#[derive(Drop)]
+#[derive(Clone, Copy)]
 pub struct Scanned {
     pub reading: Reading,
     pub last: Feature,
 }
 
 // Where a reading stops: the place of the first descriptor that is at fault or not whole, and the feature that stands there.
-#[derive(Drop)]
+#[derive(Clone, Copy)]
 pub struct Stop {
     pub at: usize,
     pub feature: Feature,
 }
 
 // The reading of a response to RT 0 from 0 that has to be complete, and how many of its whole descriptors have odd flags.
-#[derive(Drop)]
+#[derive(Clone, Copy)]
 pub struct Judged {
     pub reading: Reading,
     pub odd: u32,
 }
 
 // The header bytes of a descriptor, judged: a refusal, or its number and Additional Length.
-#[derive(Drop)]
+#[derive(Clone, Copy)]
 enum Head {
     Refused(Refusal),
     Stands { number: Feature, len: u8 },
 }
 
 // The walk over the descriptors: a refusal and the place of the descriptor, or how many are whole, the place behind the last and its number.
-#[derive(Drop)]
+#[derive(Clone, Copy)]
 enum Walk {
     Refused {
         fault: Refusal,
@@ -60,21 +61,21 @@ enum Walk {
 }
 
 // A walk, and how many of the whole descriptors have such flags.
-#[derive(Drop)]
+#[derive(Clone, Copy)]
 struct WalkJudged {
     walk: Walk,
     odd: u32,
 }
 
 // A scan, and the same.
-#[derive(Drop)]
+#[derive(Clone, Copy)]
 struct ScanJudged {
     scan: Scanned,
     odd: u32,
 }
 
 // Where the descriptor of a feature stands, or would stand, and how many bytes it has: 0 where the response does not have it whole.
-#[derive(Drop)]
+#[derive(Clone, Copy)]
 struct Spot {
     place: usize,
     size: usize,

@@ -6,7 +6,7 @@ use Prim.Native.Nat.{ℕ, zero, suc, ◌+◌, ◌-◌, ◌≤◌, ◌<◌}
 use native.Mathlib.Numerals.{add-one}
 use native.Mathlib.Omega.{arith}
 use Rattle.refusal.specs.declared.Refusal.{Refusal}
-use Rattle.refusal.specs.First.{refuse, accept, ◌if◌else◌, pick_zero, ◌orElse◌, first_of, unless, placed}
+use Rattle.refusal.specs.First.{refuse, accept, ◌if◌else◌, pick_zero, ◌or_else◌, first_of, unless, placed}
 
 -- ---- a chain of early returns
 
@@ -30,12 +30,12 @@ pick_suc (suc k) a b h = refl
 
 -- no refusal: the next answer counts
 pub or_else_none : (a b : Refusal) → a.number ≡ 0 → a or_else b ≡ b
-unfolding ◌orElse◌
+unfolding ◌or_else◌
 or_else_none a b h = pick_zero_law a.number a b h
 
 -- a refusal: it is the answer
 pub or_else_fault : (a b : Refusal) → (a.number ≡ 0 → ⊥) → a or_else b ≡ a
-unfolding ◌orElse◌
+unfolding ◌or_else◌
 or_else_fault a b h = pick_suc a.number a b h
 
 -- a refusal that has no place is known by its number
@@ -49,7 +49,7 @@ if_plain k true y e = refl
 if_plain k false y e = e
 
 pub or_else_plain : (a b : Refusal) → a.place ≡ 0 → b.place ≡ 0 → (a or_else b).place ≡ 0
-unfolding ◌orElse◌ pick_zero
+unfolding ◌or_else◌ pick_zero
 or_else_plain a b e f = go a.number
   where
     go : (n : ℕ) → (pick_zero n a b).place ≡ 0
@@ -131,7 +131,7 @@ pick_parts zero a b h e = (h, e)
 pick_parts (suc k) a b h e = absurd (omega arith)
 
 pub or_else_zero : (a b : Refusal) → (a or_else b).number ≡ 0 → (a.number ≡ 0) × (b.number ≡ 0)
-unfolding ◌orElse◌
+unfolding ◌or_else◌
 or_else_zero a b e = pick_parts a.number a b refl e
 
 -- what refuses nothing is no refusal at all, if that holds of its end

@@ -6,7 +6,7 @@ use Prim.Native.Nat.{ℕ, zero, suc, ◌+◌, ◌≤◌, ◌<◌}
 use native.Mathlib.Omega.{arith}
 use lib.Dec.{eqb}
 use Rattle.refusal.specs.declared.Refusal.{Refusal}
-use Rattle.refusal.specs.First.{refuse, accept, ◌if◌else◌, ◌orElse◌, first_of, placed}
+use Rattle.refusal.specs.First.{refuse, accept, ◌if◌else◌, ◌or_else◌, first_of, placed}
 use Rattle.refusal.specs.Lines.{of_entry, has_place, old, RightPlace, Names}
 use Rattle.refusal.proofs.First.{or_else_none, or_else_fault, placed_fault, placed_number}
 

@@ -3,7 +3,7 @@ use mathlib.Core.Path.{sym, subst}
 use mathlib.Core.Bool.{Bool, true, false}
 use Prim.Native.Nat.{ℕ, zero, suc}
 use Rattle.refusal.specs.declared.Refusal.{Refusal}
-use Rattle.refusal.specs.First.{◌if◌else◌, pick_zero, ◌orElse◌, first_of, placed}
+use Rattle.refusal.specs.First.{◌if◌else◌, pick_zero, ◌or_else◌, first_of, placed}
 use Rattle.refusal.proofs.First.{placed_number}
 
 module _ (P : ℕ → Type 0) where
@@ -13,7 +13,7 @@ module _ (P : ℕ → Type 0) where
   if_holds x false y p q = q
 
   pub or_else_holds : (a b : Refusal) → P a.number → P b.number → P (a or_else b).number
-  unfolding ◌orElse◌ pick_zero
+  unfolding ◌or_else◌ pick_zero
   or_else_holds a b p q = go a.number
     where
       go : (n : ℕ) → P (pick_zero n a b).number

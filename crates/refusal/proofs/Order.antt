@@ -5,7 +5,7 @@ use mathlib.Core.Bool.{Bool, true, false}
 use Prim.Native.Nat.{ℕ, zero, suc}
 use native.Mathlib.Omega.{arith}
 use Rattle.refusal.specs.declared.Refusal.{Refusal}
-use Rattle.refusal.specs.First.{refuse, accept, ◌if◌else◌, pick_zero, ◌orElse◌}
+use Rattle.refusal.specs.First.{refuse, accept, ◌if◌else◌, pick_zero, ◌or_else◌}
 use Rattle.refusal.proofs.First.{or_else_none, or_else_fault}
 
 -- k is n where the rule is broken; where it holds, the next rules decide
@@ -41,13 +41,13 @@ module _ {holds : Type 0} {next : ℕ → Type 0} where
   -- a test at the front of what comes before z, and the last of them
   pub rule_first : (n : ℕ) (b : Bool) (y z : Refusal) → (b ≡ false → holds) → (b ≡ true → holds → ⊥) → next (y or_else z).number
       → Rule (suc n) holds next ((refuse (suc n) if b else y) or_else z).number
-  unfolding ◌if◌else◌ ◌orElse◌ pick_zero
+  unfolding ◌if◌else◌ ◌or_else◌ pick_zero
   rule_first n true y z f g h = broken refl (g refl)
   rule_first n false y z f g h = kept (f refl) h
 
   pub rule_last : (n : ℕ) (b : Bool) (z : Refusal) → (b ≡ false → holds) → (b ≡ true → holds → ⊥) → next z.number
       → Rule (suc n) holds next ((refuse (suc n) if b else accept) or_else z).number
-  unfolding ◌orElse◌ pick_zero
+  unfolding ◌or_else◌ pick_zero
   rule_last n b z f g h = rule_first n b accept z f g h
 
   -- a check that gives one number, then the rest

@@ -3,7 +3,7 @@ use Rattle.std.specs.Prelude.{Bool, true, false, ℕ, zero, suc}
 use Rattle.refusal.specs.declared.Refusal.{Refusal}
 
 infixr 20 ◌if◌else◌
-infixr 20 ◌orElse◌
+infixr 20 ◌or_else◌
 -- the refusal with this number, which has no place
 abbrev pub refuse : ℕ → Refusal
 refuse k = record { number = k; place = 0 }
@@ -26,7 +26,7 @@ pick_zero zero a b = b
 pick_zero (suc k) a b = a
 
 -- a where it refuses, else b
-unfoldable pub ◌orElse◌ : Refusal → Refusal → Refusal
+unfoldable pub ◌or_else◌ : Refusal → Refusal → Refusal
 a or_else b = pick_zero a.number a b
 
 -- the first refusal of f at i, i + 1, .., k indices

@@ -1,11 +1,12 @@
 // Why something is refused: the number and the place, and a name for each of the numbers. Definitions use the numbers, code uses the names.
+#![tactic(auto)]
 ghost use Rattle.std.specs.Prelude.{◌≡◌};
 ghost use Rattle.refusal.specs.First.{placed};
 
 // Why something was refused: the paper's number, 0 where nothing was, and the place of the profile or entry at fault, counted from 1, 0 where the
 // number has none.
 #[repr(C)]
-#[derive(Drop)]
+#[derive(Clone, Copy)]
 pub struct Refusal {
     pub number: u8,
     pub place: u16,

@@ -1,4 +1,5 @@
 // The box: a sheet, a command and a lent buffer in; the refusal or the count of bytes sent out.
+#![tactic(auto)]
 ghost use Rattle.std.specs.Prelude.{◌≡◌, ◌+◌, ◌-◌, ◌*◌, ◌%◌, ◌^◌, ◌≤◌, ◌<◌, length};
 ghost use Rattle.layout.specs.Layout.{stored};
 ghost use Rattle.layout.specs.declared.Layout.TheVariants.{Rows, Columns};
@@ -170,7 +171,7 @@ fn zero_size(s: &[u8], sfn: Feature) -> usize
     0
 }
 
-#[derive(Drop)]
+#[derive(Clone, Copy)]
 struct Plan {
     rt: u8,
     sfn: Feature,
@@ -271,14 +272,14 @@ fn put_whole(out: &mut [u8], at: usize, s: &[u8], nth: Nth, body: usize, len: us
 }
 
 // How far a writing of entries has come: the next entry, and where its descriptor starts.
-#[derive(Drop)]
+#[derive(Clone, Copy)]
 struct Progress {
     i: u16,
     next: usize,
 }
 
 // What became of one entry: whether the walk stops before it, and where the next descriptor starts.
-#[derive(Drop)]
+#[derive(Clone, Copy)]
 struct Stepped {
     stops: bool,
     next: usize,

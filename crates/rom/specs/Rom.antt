@@ -1,6 +1,6 @@
 -- What a box answers that holds an image in place of a sheet. Assumes nothing: these are definitions.
 use Rattle.std.specs.Prelude.{List, ℕ}
-use Rattle.refusal.specs.First.{◌orElse◌}
+use Rattle.refusal.specs.First.{◌or_else◌}
 use Rattle.lent.specs.Maker.{Outcome, makes}
 use Rattle.command.specs.Command.{command_fault, rt_of, sfn_of, allocation_of}
 use Rattle.text.specs.Response.{sent}

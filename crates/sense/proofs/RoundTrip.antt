@@ -7,7 +7,7 @@ use lib.Dec.{eqb}
 use lib.ListN.{length, take, drop, replicate}
 use lib.Seq.{take-append_seam}
 use borrow.Author.Tests.{eqb-true}
-use Rattle.refusal.specs.First.{◌if◌else◌, ◌orElse◌, pick_zero, unless}
+use Rattle.refusal.specs.First.{◌if◌else◌, ◌or_else◌, pick_zero, unless}
 use Rattle.refusal.proofs.First.{unless_none, unless_fault}
 use Rattle.base.specs.Lists.{All}
 use Rattle.base.specs.Pick.{pick}
@@ -91,7 +91,7 @@ pub record Written (s : List ℕ) : Type 0 where
   pub bytes : s ≡ take (made number buffer).made.count (made number buffer).buffer
 
 each_written : (k : Kind) → Written (sense_of k)
-unfolding key code pointer fixed sense_of bytes_of given kind_of made makes making pick unless ◌if◌else◌ ◌orElse◌ pick_zero
+unfolding key code pointer fixed sense_of bytes_of given kind_of made makes making pick unless ◌if◌else◌ ◌or_else◌ pick_zero
 each_written Nothing = record { number = 0; buffer = replicate 18 0; taken = refl; bytes = refl }
 each_written Operation = record { number = 9; buffer = replicate 18 0; taken = refl; bytes = refl }
 each_written Field = record { number = 11; buffer = replicate 18 0; taken = refl; bytes = refl }

@@ -1,4 +1,5 @@
 // Sense data in fixed format: what the box tells a host that asks after a command, and what the driver makes of it.
+#![tactic(auto)]
 ghost use Rattle.std.specs.Prelude.{◌≡◌, [], ◌∷◌, ◌<◌, length, get_or};
 ghost use Rattle.refusal.specs.First.{accept};
 ghost use Rattle.lent.specs.Maker.{outcome, makes};
@@ -9,7 +10,7 @@ use refusal::Refusal;
 
 // What a number that a command gives means to a host: nothing is wrong, the operation code is not ours, a field of the command is wrong, or the box
 // has trouble of its own.
-#[derive(Drop)]
+#[derive(Clone, Copy)]
 pub enum Kind {
     Nothing,
     Operation,
@@ -18,14 +19,14 @@ pub enum Kind {
 }
 
 // What sense bytes mean, or why they were refused.
-#[derive(Drop)]
+#[derive(Clone, Copy)]
 pub enum Sense {
     Means(Kind),
     Refused(Refusal),
 }
 
 // A line of the table: a number that a command gives, and its kind.
-#[derive(Drop)]
+#[derive(Clone, Copy)]
 struct Line(u8, Kind);
 
 const NOTHING: Kind = Kind::Nothing;

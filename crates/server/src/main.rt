@@ -1,6 +1,7 @@
 // Reads a drive sheet and does with it what is asked, a module for each: it is answered from, laid out anew, loaded, swept, or what a box answered is judged by it.
 // Arguments: what a command asks for (`asked`), and how many bytes it has (`packets`), with none RT 0 from 0, allocation length 65,535; whether the sheet is in columns; whether there is a
 // stack for the longest sheet; what is done; and what that takes beyond, from the eighth on.
+#![tactic(auto)]
 mod answering;
 mod converting;
 mod judging;

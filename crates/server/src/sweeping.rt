@@ -26,7 +26,7 @@ fn say_command(command: &[u8]) {
 }
 
 // How the box is asked: the layout of its sheet, RT, allocation length.
-#[derive(Drop)]
+#[derive(Clone, Copy)]
 struct Asking {
     lay: Layout,
     rt: u8,
@@ -34,7 +34,7 @@ struct Asking {
 }
 
 // Where a sweep has got to: the first entry that is left, and how many bytes of descriptors are.
-#[derive(Drop)]
+#[derive(Clone, Copy)]
 struct Place {
     from: u16,
     left: usize,
@@ -65,7 +65,7 @@ fn tell_command(asking: Asking, start: Feature) {
 }
 
 // What a round is asked for: how many bytes the box sends, and where the sweep has got to behind them.
-#[derive(Drop)]
+#[derive(Clone, Copy)]
 struct Round {
     count: usize,
     place: Place,
@@ -142,7 +142,7 @@ fn say_fewest(commands: u32) {
 }
 
 // A sweep on its way to the round that is refused, and whether that was said.
-#[derive(Drop)]
+#[derive(Clone, Copy)]
 struct Way {
     place: Place,
     sweep: Sweep,

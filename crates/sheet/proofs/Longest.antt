@@ -7,7 +7,7 @@ use lib.ListN.{length, length-append, replicate, length-replicate}
 use Rattle.base.specs.Lists.{each, flat, Bytes}
 use Rattle.base.proofs.Lists.{length_each, each_all}
 use Rattle.fields.proofs.Laws.{length_spell}
-use Rattle.refusal.specs.First.{◌if◌else◌, pick_zero, ◌orElse◌}
+use Rattle.refusal.specs.First.{◌if◌else◌, pick_zero, ◌or_else◌}
 use Rattle.text.specs.Flags as text
 use Rattle.text.specs.Drive.{Desc, Listed, Drive, Good, Asc}
 use Rattle.layout.specs.declared.Layout.{Layout}
@@ -89,7 +89,7 @@ plain_good w i l e h = record {
 }
 
 plain_legal : (w i : ℕ) → (flags_rule (plain_desc w i).flags).number ≡ 0
-unfolding plain_desc flags_rule text.flags_giving ◌if◌else◌ pick_zero ◌orElse◌
+unfolding plain_desc flags_rule text.flags_giving ◌if◌else◌ pick_zero ◌or_else◌
 plain_legal w i = refl
 
 plain_low : (i : ℕ) → i < 65536 → (plain_listed i).number < 65536

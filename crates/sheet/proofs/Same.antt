@@ -9,7 +9,7 @@ use lib.Seq.{drop-drop}
 use Rattle.base.specs.Lists.{each, Bytes}
 use Rattle.base.proofs.Lists.{each_same}
 use Rattle.refusal.specs.declared.Refusal.{Refusal}
-use Rattle.refusal.specs.First.{refuse, accept, ◌if◌else◌, ◌orElse◌, first_of, placed}
+use Rattle.refusal.specs.First.{refuse, accept, ◌if◌else◌, ◌or_else◌, first_of, placed}
 use Rattle.refusal.proofs.First.{first_same}
 use Rattle.profiles.specs.Profiles.{records_fault, profiles_of}
 use Rattle.layout.specs.declared.Layout.{Layout}

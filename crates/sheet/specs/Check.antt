@@ -1,7 +1,7 @@
 -- The number that the check of a drive sheet gives, in the paper's order. Assumes nothing: these are definitions.
 use Rattle.std.specs.Prelude.{not, ℕ, zero, suc, ◌+◌, ◌%◌, ltb, leb, eqb}
 use Rattle.refusal.specs.declared.Refusal.{Refusal}
-use Rattle.refusal.specs.First.{refuse, accept, ◌if◌else◌, ◌orElse◌, first_of, placed}
+use Rattle.refusal.specs.First.{refuse, accept, ◌if◌else◌, ◌or_else◌, first_of, placed}
 use Rattle.profiles.specs.Profiles.{records_fault}
 use Rattle.text.specs.Flags as text
 use Rattle.layout.specs.Layout.{Sheet, sheet_size, feature_count, profile_count, bodies_at, number, flags, body_length, offset, profiles_part}

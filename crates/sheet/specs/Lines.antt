@@ -1,7 +1,7 @@
 -- The profile or entry that a refusal of a sheet names, and the check as document 01 has it. Assumes nothing: these are definitions.
 use Rattle.std.specs.Prelude.{◌≡◌, not, ℕ, ◌%◌, ◌<◌, ltb, leb, eqb}
 use Rattle.refusal.specs.declared.Refusal.{Refusal}
-use Rattle.refusal.specs.First.{refuse, accept, ◌if◌else◌, ◌orElse◌, first_of}
+use Rattle.refusal.specs.First.{refuse, accept, ◌if◌else◌, ◌or_else◌, first_of}
 use Rattle.profiles.specs.Profiles.{records_fault}
 use Rattle.profiles.specs.Lines.{Located}
 use Rattle.text.specs.Flags as text

@@ -1,4 +1,5 @@
 // The check of a drive sheet, and the search for an entry.
+#![tactic(auto)]
 ghost use Rattle.std.specs.Prelude.{◌≡◌, ◌-◌, ◌<◌, ltb, eqb};
 ghost use Rattle.layout.specs.declared.Layout.TheVariants.{Columns};
 ghost use Rattle.layout.specs.Layout.{stored, profiles};
@@ -235,7 +236,7 @@ pub fn check(lay: Layout, s: &[u8]) -> Refusal
 // ---- the search for an entry
 
 // Both ends are words, of which the compiler leaves branches: a processor foretells them where starts repeat or ascend, and no look waits for the one before.
-#[derive(Drop)]
+#[derive(Clone, Copy)]
 struct Range {
     low: usize,
     high: usize,

@@ -9,7 +9,7 @@ use lib.ListN.{length}
 use borrow.Author.Tests.{ltb-false, eqb-false}
 use Rattle.base.specs.Lists.{flat}
 use Rattle.refusal.specs.declared.Refusal.{Refusal}
-use Rattle.refusal.specs.First.{refuse, accept, ◌if◌else◌, ◌orElse◌}
+use Rattle.refusal.specs.First.{refuse, accept, ◌if◌else◌, ◌or_else◌}
 use Rattle.text.specs.Response.{bytes, header_length, most}
 use Rattle.text.specs.Reading.{read_fault, last_number}
 use Rattle.refusal.proofs.First.{if_zero, or_else_none, or_else_fault, or_else_assoc, or_else_zero, unless_none, unless_fault, or_else_accepts, rule_accepts}

@@ -10,7 +10,7 @@ use lib.ListN.{length}
 use borrow.Author.Tests.{not-false, ne_eqb}
 use Rattle.base.specs.Lists.{All, Bytes}
 use Rattle.refusal.specs.declared.Refusal.{Refusal}
-use Rattle.refusal.specs.First.{refuse, accept, ◌if◌else◌, pick_zero, ◌orElse◌}
+use Rattle.refusal.specs.First.{refuse, accept, ◌if◌else◌, pick_zero, ◌or_else◌}
 use Rattle.text.specs.Drive.{Desc, bit, Good, Asc}
 use Rattle.text.specs.Reading.{last_number}
 use Rattle.refusal.proofs.First.{if_true, or_else_fault}
@@ -121,7 +121,7 @@ module _ (rt a : ℕ) (os : List Offer) (r : All Received os) where
 ended_numbers : (a b : Bool)
     → (((refuse 21 if a else refuse 22 if b else accept) or_else refuse 26).number ≡ 0 → ⊥)
     × (ends_sweep ((refuse 21 if a else refuse 22 if b else accept) or_else refuse 26) ≡ false)
-unfolding ◌if◌else◌ ◌orElse◌ pick_zero ends_sweep
+unfolding ◌if◌else◌ ◌or_else◌ pick_zero ends_sweep
 ended_numbers true b = (λ e. omega arith, refl)
 ended_numbers false true = (λ e. omega arith, refl)
 ended_numbers false false = (λ e. omega arith, refl)

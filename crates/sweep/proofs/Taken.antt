@@ -11,7 +11,7 @@ use Rattle.base.specs.Lists.{flat, Bytes}
 use Rattle.lent.specs.Wrote.{Wrote}
 use Rattle.lent.proofs.Laws.{placed}
 use Rattle.refusal.specs.declared.Refusal.{Refusal}
-use Rattle.refusal.specs.First.{refuse, accept, ◌if◌else◌, ◌orElse◌}
+use Rattle.refusal.specs.First.{refuse, accept, ◌if◌else◌, ◌or_else◌}
 use Rattle.text.specs.Drive.{Desc}
 use Rattle.text.specs.Response.{bytes, most}
 use Rattle.text.specs.Reading.{stated_end, stated_profile, nothing_read, taken, read_fault, last_number}

@@ -1,4 +1,5 @@
 // The driver's sweep: one response at a time.
+#![tactic(auto)]
 ghost use Rattle.std.specs.Prelude.{◌≡◌, false, not, ◌-◌, ◌<◌};
 ghost use Rattle.text.specs.Response.{header_length};
 ghost use Rattle.sweep.specs.Sweep.{step, start_rule, started, ends_sweep, left_by, held_profile, advanced, turn, stepped};
@@ -10,7 +11,7 @@ use text::{Feature, Header, Profile};
 
 // A sweep so far. Any record may be handed in, one that no sweep reaches too.
 #[repr(C)]
-#[derive(Drop)]
+#[derive(Clone, Copy)]
 pub struct Sweep {
     pub rt: u8,
     pub allocation: u16,
@@ -23,7 +24,7 @@ pub struct Sweep {
 
 // What starting a sweep, or taking a response, answers: the refusal or none, and the record from then on.
 #[repr(C)]
-#[derive(Drop)]
+#[derive(Clone, Copy)]
 pub struct Step {
     pub refusal: Refusal,
     pub sweep: Sweep,

@@ -1,7 +1,7 @@
 -- The flags byte of a descriptor: bits 7-6 reserved, 5-2 Version, 1 Persistent, 0 Current. Assumes nothing: these are definitions.
 use Rattle.std.specs.Prelude.{Bool, not, ◌&&◌, ◌||◌, ℕ, ◌/◌, ◌%◌, eqb}
 use Rattle.refusal.specs.declared.Refusal.{Refusal}
-use Rattle.refusal.specs.First.{accept, ◌if◌else◌, ◌orElse◌}
+use Rattle.refusal.specs.First.{accept, ◌if◌else◌, ◌or_else◌}
 
 abbrev pub reserved : ℕ → ℕ
 reserved f = f / 64

@@ -4,7 +4,7 @@ use Rattle.base.specs.Lists.{flat}
 use Rattle.fields.specs.Field.{field}
 use Rattle.refusal.specs.declared.Refusal.{Refusal}
 use Rattle.text.specs.declared.Reading.{Reading}
-use Rattle.refusal.specs.First.{refuse, accept, ◌if◌else◌, ◌orElse◌, unless}
+use Rattle.refusal.specs.First.{refuse, accept, ◌if◌else◌, ◌or_else◌, unless}
 use Rattle.text.specs.Flags.{current}
 use Rattle.text.specs.Drive.{Desc}
 use Rattle.text.specs.Response.{bytes, header_length, return_limit}

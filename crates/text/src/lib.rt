@@ -1,4 +1,5 @@
 // The words of the T10 text that the code of every layer above shares.
+#![tactic(auto)]
 ghost use Rattle.std.specs.Prelude.{◌≡◌, not, eqb};
 ghost use Rattle.refusal.specs.First.{accept, ◌if◌else◌};
 ghost use Rattle.text.specs.Flags.{reserved, version, persistent, current, alone, odd, flags_giving};
@@ -8,16 +9,16 @@ use refusal::Refusal;
 
 // A feature number. C takes it as a struct of one number (include/gcf.h).
 #[repr(C)]
-#[derive(Drop)]
+#[derive(Clone, Copy)]
 pub struct Feature(pub u16);
 
 // A profile number. No function takes one for the other.
 #[repr(C)]
-#[derive(Drop)]
+#[derive(Clone, Copy)]
 pub struct Profile(pub u16);
 
 // The flags byte of a descriptor.
-#[derive(Drop)]
+#[derive(Clone, Copy)]
 pub struct Flags(pub u8);
 
 impl Flags {
@@ -98,7 +99,7 @@ impl Flags {
 }
 
 // What a driver reads off a response: all 0 but the refusal where it is refused.
-#[derive(Drop)]
+#[derive(Clone, Copy)]
 pub struct Reading {
     pub refusal: Refusal,
     pub profile: Profile,
@@ -109,7 +110,7 @@ pub struct Reading {
 }
 
 // The header of a response.
-#[derive(Drop)]
+#[derive(Clone, Copy)]
 pub struct Header {
     pub data_length: u32,
     pub profile: Profile,

@@ -1,5 +1,6 @@
 // Compares what no other test can, since no function exports it: each step of a sweep whose record is lent, a line each of standard input. tests/cases compares all
 // else over the exported functions.
+#![tactic(auto)]
 ghost use Rattle.std.specs.Prelude.{◌≡◌};
 ghost use Rattle.sweep.specs.Sweep.{turn, stepped};
 

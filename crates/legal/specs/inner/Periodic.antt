@@ -2,7 +2,7 @@
 use Rattle.std.specs.Prelude.{List, ℕ, ◌+◌, ◌%◌, length, take, drop, get_or}
 use Rattle.fields.specs.Field.{field}
 use Rattle.refusal.specs.declared.Refusal.{Refusal}
-use Rattle.refusal.specs.First.{◌orElse◌, first_of}
+use Rattle.refusal.specs.First.{◌or_else◌, first_of}
 use Rattle.legal.specs.declared.Masks.{Masks}
 use Rattle.legal.specs.Legal.{mask_bytes}
 use Rattle.legal.specs.Bodies.{reserved_rule}

@@ -1,7 +1,7 @@
 -- What refuses a judgement, by the profile's column. Assumes nothing: these are definitions.
 use Rattle.std.specs.Prelude.{List, ℕ, eqb}
 use Rattle.refusal.specs.declared.Refusal.{Refusal}
-use Rattle.refusal.specs.First.{refuse, accept, ◌if◌else◌, ◌orElse◌}
+use Rattle.refusal.specs.First.{refuse, accept, ◌if◌else◌, ◌or_else◌}
 use Rattle.reading.specs.Completed.{complete_fault}
 use Rattle.needs.specs.declared.table.Column.{Column}
 

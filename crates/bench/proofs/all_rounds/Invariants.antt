@@ -1,0 +1,24 @@
+-- `bench::all_rounds` meets its contract: the loop carries the run from where it stands, the first entry and the bytes that are left, and how many of the
+-- response buffer can be dirty; a refused round, or the mark that it has ended, ends it.
+use mathlib.Core.Path.{◌≡◌, sym, ◌∙◌}
+use mathlib.Core.Bool.{false}
+use Prim.Native.Nat.{◌-◌}
+use native.Mathlib.Omega.{arith}
+use borrow.Author.Tests.{not-true}
+use Rattle.base.specs.Lists.{Bytes}
+use Rattle.layout.specs.Layout.{stored}
+use Rattle.sheet.specs.Meaning.{meaning}
+use Rattle.sheet.proofs.Meaning.{meaning_fine}
+use Rattle.responder.specs.inner.Index.{taken_from}
+use Rattle.bench.specs.Bench.{buffers, state}
+use Rattle.bench.proofs.Carried.{Carried, clean_all, taken_wanted, first_left}
+use Rattle.bench.proofs.Loop.{Standing, standing_start, standing_room, standing_kept, standing_fault, standing_again, standing_less, standing_ended, along_gains, along_within, along_forward, along_again}
+use borrow.Author.Rules.{rules}
+use Rattle.bench.proofs.all_rounds.Given as goal
+
+abbrev pub invariant-loop-sweep : goal.invariant-loop-sweep
+invariant-loop-sweep l = Standing (meaning (stored l.lay l.s)) (state l.initial.starts (buffers l.most l.n l.initial.response)) (state l.sweep (buffers l.response l.collected l.starts)) × Carried (meaning (stored l.lay l.s)) (state l.sweep (buffers l.response l.collected l.starts)) l.left l.dirty
+    × (l.sweep.ended ≡ false → l.from ≡ taken_from (stored l.lay l.s) l.sweep.next.0)
+
+abbrev pub decreases-loop-sweep : goal.decreases-loop-sweep
+decreases-loop-sweep l = 65537 - l.sweep.commands

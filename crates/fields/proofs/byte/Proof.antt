@@ -1,9 +1,0 @@
--- `fields::byte` meets its contract: behind the end `get_or` gives its default.
-use mathlib.Core.Path.{sym}
-use lib.ListN.{get_or-eq_default}
-use borrow.Author.Rules.{rules}
-use Rattle.fields.proofs.byte.Statement.{statement}
-use Rattle.fields.proofs.byte.Tie as tie
-
-pub byte-spec : {M : Type 1} → statement M
-byte-spec = tie.close (tie.spec (λ c. search rules) (λ c. search rules) (λ c. sym (get_or-eq_default c.before.args.s.now 0 c.if1.false)))

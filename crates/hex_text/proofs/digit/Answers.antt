@@ -1,0 +1,13 @@
+-- `hex_text::digit` meets its contract: each early return is a case of the definition. Assumes nothing.
+use Rattle.hex_text.proofs.Cases.{tests}
+use Rattle.hex_text.specs.Steps.{digit}
+use borrow.Author.Rules.{rules}
+use Rattle.hex_text.proofs.digit.Goals as goal
+
+pub returns-then-half-lt16 : goal.returns-then-half-lt16
+unfolding digit
+returns-then-half-lt16 c = search tests
+
+pub returns : goal.returns
+unfolding digit
+returns c = search tests

@@ -1,0 +1,8 @@
+-- `layout::feature_at` meets its contract: it reads the field where the layout has it.
+use Rattle.layout.specs.Layout.{number}
+use borrow.Author.Rules.{rules}
+use Rattle.layout.proofs.feature_at.Goals as goal
+
+pub returns : goal.returns
+unfolding number
+returns c = cc (c.nth_of.ensures.0, c.nth_of.ensures.1, c.nth_of.ensures.2)

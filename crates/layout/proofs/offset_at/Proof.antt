@@ -1,9 +1,0 @@
--- `layout::offset_at` meets its contract: it reads the field where the layout has it.
-use Rattle.layout.specs.Layout.{offset}
-use borrow.Author.Rules.{rules}
-use Rattle.layout.proofs.offset_at.Statement.{statement}
-use Rattle.layout.proofs.offset_at.Tie as tie
-
-pub offset-at-spec : {M : Type 1} → statement M
-unfolding offset
-offset-at-spec = tie.close (tie.spec (λ c κs. search rules) (λ c κs. search rules) (λ c κs. search rules) (λ c. cc (c.before.before.nth_of.ensures.0, c.before.before.nth_of.ensures.1, c.before.before.nth_of.ensures.2)))

@@ -1,0 +1,19 @@
+-- `layout::put_pieces` meets its contract: the loop has written the entries passed.
+use mathlib.Core.Path.{◌≡◌}
+use Prim.Native.Nat.{◌-◌, ◌≤◌}
+use native.Mathlib.Omega.{arith}
+use borrow.Author.Rules.{rules}
+use Rattle.base.specs.Lists.{each, flat}
+use Rattle.lent.specs.Wrote.{Wrote}
+use Rattle.lent.proofs.Laws.{nothing, then, kept}
+use Rattle.layout.specs.Layout.{stored}
+use Rattle.layout.specs.Contents.{entry_of}
+use Rattle.layout.specs.inner.Piece.{piece_bytes}
+use Rattle.layout.proofs.Contents.{pieces_more}
+use Rattle.layout.proofs.put_pieces.Given as goal
+
+abbrev pub invariant-loop-i : goal.invariant-loop-i
+invariant-loop-i l = (l.i ≤ l.initial.out) × Wrote l.at l.piece (flat (piece_bytes l.lay) (each (entry_of (stored l.s l.n)) 0 l.i)) l.next l.out
+
+abbrev pub decreases-loop-i : goal.decreases-loop-i
+decreases-loop-i l = l.initial.out - l.i

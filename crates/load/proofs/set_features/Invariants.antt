@@ -1,0 +1,21 @@
+-- `load::set_features` meets its contract: the loop carries how many the entries passed meet, and their flags are set.
+use Prim.Native.Nat.{ℕ, ◌-◌, ◌≤◌}
+use mathlib.Core.Path.{◌≡◌, refl, ap, ◌∙◌}
+use native.Mathlib.Omega.{arith}
+use lib.ListN.{length, get_or}
+use Rattle.layout.specs.declared.Entry.{Entry}
+use Rattle.layout.specs.Layout.{stored, flags_place}
+use Rattle.layout.specs.Contents.{entry_of}
+use Rattle.load.specs.inner.Beside.{met, flags_met}
+use Rattle.load.specs.Load.{flags_with}
+use Rattle.load.specs.inner.Patch.{patched}
+use Rattle.load.proofs.Beside.{met_le, met_more, flags_met_law}
+use Rattle.load.proofs.Patch.{length_patched, patched_more}
+use borrow.Author.Rules.{rules}
+use Rattle.load.proofs.set_features.Given as goal
+
+abbrev pub invariant-loop-i : goal.invariant-loop-i
+invariant-loop-i l = (l.i ≤ l.list) × (l.j ≡ met (stored l.s l.n) l.initial.out l.i) × (l.next ≡ get_or l.initial.out l.j 0) × (l.out ≡ patched (flags_place l.s l.list) (flags_met (stored l.s l.n) l.initial.out) l.i l.lay)
+
+abbrev pub decreases-loop-i : goal.decreases-loop-i
+decreases-loop-i l = l.list - l.i

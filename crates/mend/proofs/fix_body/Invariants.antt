@@ -1,0 +1,15 @@
+-- `mend::fix_body` meets its contract: the loop carries what the first bytes did.
+use borrow.Author.Rules.{rules}
+use Prim.Native.Nat.{◌-◌}
+use mathlib.Core.Path.{◌≡◌, refl, ◌∙◌}
+use native.Mathlib.Omega.{arith}
+use lib.ListN.{length}
+use Rattle.lent.proofs.Laws.{kept}
+use Rattle.mend.proofs.Fixing.{Put, put_start, put_more, put_end, fixes_length}
+use Rattle.mend.proofs.fix_body.Given as goal
+
+abbrev pub invariant-loop-k : goal.invariant-loop-k
+invariant-loop-k l = Put l.initial.copy l.initial.list l.n l.place l.plan l.body l.copy l.list l.next l.k × (length l.copy ≡ length l.n) × (length l.list ≡ length l.place)
+
+abbrev pub decreases-loop-k : goal.decreases-loop-k
+decreases-loop-k l = length l.initial.list - l.k

@@ -1,0 +1,6 @@
+-- `mend::plan_of` meets its contract: each field is what a call gave.
+use borrow.Author.Rules.{rules}
+use Rattle.mend.proofs.plan_of.Goals as goal
+
+pub returns : goal.returns
+returns c = cc

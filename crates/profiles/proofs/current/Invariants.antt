@@ -1,0 +1,16 @@
+-- `profiles::current` meets its contract: the loop carries what is left of the search.
+use borrow.Author.Rules.{rules}
+use Prim.Native.Nat.{ℕ, ◌≤◌, ◌-◌}
+use mathlib.Core.Path.{◌≡◌, ap}
+use native.Mathlib.Omega.{arith}
+use Rattle.base.specs.Lists.{each}
+use Rattle.text.specs.Response.{current_profile}
+use Rattle.profiles.specs.Profiles.{listed, profiles_of}
+use Rattle.profiles.proofs.Loops.{current_stop, current_go, current_none}
+use Rattle.profiles.proofs.current.Given as goal
+
+abbrev pub invariant-loop-i : goal.invariant-loop-i
+invariant-loop-i l = (l.i ≤ l.n) × (current_profile (profiles_of l.b) ≡ current_profile (each (listed l.b) l.i (l.n - l.i)))
+
+abbrev pub decreases-loop-i : goal.decreases-loop-i
+decreases-loop-i l = l.n - l.i

@@ -1,0 +1,14 @@
+-- `profiles::listed` meets its contract: the loop carries what is left of the search.
+use borrow.Author.Rules.{rules}
+use Prim.Native.Nat.{◌≤◌, ◌-◌}
+use mathlib.Core.Path.{◌≡◌, ap}
+use native.Mathlib.Omega.{arith}
+use Rattle.profiles.specs.Profiles.{lists}
+use Rattle.profiles.proofs.Loops.{lists_stop, lists_go, lists_none}
+use Rattle.profiles.proofs.listed.Given as goal
+
+abbrev pub invariant-loop-i : goal.invariant-loop-i
+invariant-loop-i l = (l.i ≤ l.n) × (lists l.number.0 l.b 0 l.n ≡ lists l.number.0 l.b l.i (l.n - l.i))
+
+abbrev pub decreases-loop-i : goal.decreases-loop-i
+decreases-loop-i l = l.n - l.i

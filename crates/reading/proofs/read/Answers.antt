@@ -1,0 +1,8 @@
+-- `reading::read` meets its contract: the reading of a scan.
+use Rattle.reading.specs.Scan.{scanned}
+use borrow.Author.Rules.{rules}
+use Rattle.reading.proofs.read.Goals as goal
+
+pub returns : goal.returns
+unfolding scanned
+returns c = cc c.scan-scan.ensures

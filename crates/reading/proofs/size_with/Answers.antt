@@ -1,0 +1,9 @@
+-- `reading::size_with` meets its contract: either answer is a case of the test.
+use Rattle.refusal.proofs.First.{tests}
+use Rattle.reading.proofs.size_with.Goals as goal
+
+pub returns-then-number-feature : goal.returns-then-number-feature
+returns-then-number-feature c = search tests
+
+pub returns : goal.returns
+returns c = search tests

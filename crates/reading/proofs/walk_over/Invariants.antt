@@ -1,0 +1,16 @@
+-- `reading::walk_over` meets its contract: the loop carries what is left of the walk.
+use borrow.Author.Rules.{rules}
+use Prim.Native.Nat.{◌+◌, ◌*◌, ◌-◌, ◌≤◌}
+use mathlib.Core.Path.{◌≡◌}
+use native.Mathlib.Omega.{arith}
+use lib.ListN.{length, drop}
+use Rattle.text.specs.Reading.{walk}
+use Rattle.reading.specs.inner.Tally.{tally}
+use Rattle.reading.proofs.Tally.{lengths_cut, left, loop_start, loop_end, loop_fault, loop_cut, loop_more}
+use Rattle.reading.proofs.walk_over.Given as goal
+
+abbrev pub invariant-loop-at : goal.invariant-loop-at
+invariant-loop-at l = (l.lengths ≡ drop 3 l.s) × (l.at ≤ length l.s) × (4 * l.count + 8 ≤ l.at) × (tally 0 8 0 (walk (length l.s) l.rt l.sfn.0 l.end l.s l.sfn.0 8) ≡ left l.rt l.sfn.0 l.end l.s l.at l.lo l.count l.last.0)
+
+abbrev pub decreases-loop-at : goal.decreases-loop-at
+decreases-loop-at l = length l.s - l.at

@@ -1,0 +1,14 @@
+-- `responder::pieces_in` meets its contract: the loop adds up the entries passed.
+use Prim.Native.Nat.{◌-◌}
+use mathlib.Core.Path.{◌∙◌}
+use native.Mathlib.Omega.{arith}
+use Rattle.layout.specs.Layout.{stored}
+use Rattle.responder.proofs.Laws.{Summed, summed_start, summed_more, summed_end, found_size_law}
+use borrow.Author.Rules.{rules}
+use Rattle.responder.proofs.pieces_in.Given as goal
+
+abbrev pub invariant-loop-i : goal.invariant-loop-i
+invariant-loop-i l = Summed l.rt (stored l.lay l.s) l.from l.to l.i l.size
+
+abbrev pub decreases-loop-i : goal.decreases-loop-i
+decreases-loop-i l = l.to - l.i

@@ -1,0 +1,14 @@
+-- `rom::put_currents` meets its contract: the loop carries what was written and what is left; a full buffer takes no more.
+use borrow.Author.Rules.{rules}
+use Prim.Native.Nat.{◌-◌}
+use native.Mathlib.Omega.{arith}
+use lib.ListN.{length}
+use Rattle.lent.proofs.Laws.{kept}
+use Rattle.rom.proofs.Runs.{Copied, copied_start, copied_more, copied_full, copied_end, turn, run_further}
+use Rattle.rom.proofs.put_currents.Given as goal
+
+abbrev pub invariant-loop-place : goal.invariant-loop-place
+invariant-loop-place l = Copied l.at l.image l.from l.initial.out l.out l.next l.place
+
+abbrev pub decreases-loop-place : goal.decreases-loop-place
+decreases-loop-place l = length l.from - l.place

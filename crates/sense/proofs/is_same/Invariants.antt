@@ -1,0 +1,14 @@
+-- `sense::is_same` meets its contract: the loop carries what is left to compare.
+use borrow.Author.Rules.{rules}
+use Prim.Native.Nat.{◌-◌}
+use mathlib.Core.Path.{◌≡◌, refl}
+use lib.ListN.{length, drop}
+use Rattle.sense.specs.Sense.{same}
+use Rattle.sense.proofs.Same.{same_lengths, same_differs, same_next, same_end}
+use Rattle.sense.proofs.is_same.Given as goal
+
+abbrev pub invariant-loop-i : goal.invariant-loop-i
+invariant-loop-i l = (length l.a ≡ length l.b) × (same l.a l.b ≡ same (drop l.i l.a) (drop l.i l.b))
+
+abbrev pub decreases-loop-i : goal.decreases-loop-i
+decreases-loop-i l = length l.a - l.i

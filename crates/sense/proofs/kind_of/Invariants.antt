@@ -1,0 +1,19 @@
+-- `sense::kind_of` meets its contract: the loop carries what is left of the walk over the table.
+use borrow.Author.Rules.{rules}
+use borrow.Author.Tests.{eq-eqb, ne_eqb}
+use Prim.Native.Nat.{◌≤◌, ◌-◌}
+use mathlib.Core.Path.{◌≡◌, refl}
+use native.Mathlib.Omega.{arith}
+use lib.Dec.{eqb}
+use lib.ListN.{length}
+use Rattle.base.proofs.Pick.{left, pick_found, pick_next, pick_none}
+use Rattle.refusal.specs.First.{refuse}
+use Rattle.sense.specs.Sense.{given, heard, kind_of}
+use Rattle.sense.specs.declared.Sense.TheVariants.{Means, Refused}
+use Rattle.sense.proofs.kind_of.Given as goal
+
+abbrev pub invariant-loop-i : goal.invariant-loop-i
+invariant-loop-i l = (l.i ≤ length given) × (kind_of l.number ≡ left (λ l. eqb l.0 l.number) (λ l. heard (Means l.1)) (heard (Refused (refuse 54))) given l.i)
+
+abbrev pub decreases-loop-i : goal.decreases-loop-i
+decreases-loop-i l = length given - l.i

@@ -1,0 +1,11 @@
+-- `text::Flags::alone` meets its contract: each way is a case of the conjunction.
+use borrow.Author.Rules.{rules}
+use borrow.Author.Tests.{not-true, not-false}
+use mathlib.Core.Path.{sym, ◌∙◌}
+use Rattle.text.proofs.Flags.alone.Goals as goal
+
+pub returns-then-not-persistent : goal.returns-then-not-persistent
+returns-then-not-persistent c = rw (sym c.persistent.ensures ∙ c.if-not-persistent.true)
+
+pub returns : goal.returns
+returns c = rw (sym c.persistent.ensures ∙ c.if-not-persistent.false, ← c.current.ensures)
