@@ -24,14 +24,11 @@ length_head e = simp (length-append, length_spell)
 
 -- what is copied over a local array of n
 pub copied : (s b : List ℕ) (at n : ℕ) → at + n ≤ length s
-    → b ≡ take (length (take (at + n - at) (drop at s))) (take (at + n - at) (drop at s)) ++ drop (length (take (at + n - at) (drop at s))) (replicate n 0)
+    → b ≡ take (at + n - at) (drop at s)
     → b ≡ take n (drop at s)
 copied s b at n h e =
     let m : at + n - at ≡ n = omega arith in
-    let lx : length (take n (drop at s)) ≡ n = omega (arith, length-take n (drop at s), length-drop at s) in
-    let none : List ℕ = replicate n 0 in
-    let lz : length none ≤ length (take n (drop at s)) = omega (arith, lx, length-replicate {A = ℕ} n 0) in
-    e ∙ rw (m, take-length, drop_of_length-le none lz) (append-nil (take n (drop at s)))
+    e ∙ rw m
 
 -- two bytes set behind two that are copied
 pub two_set : (x : List ℕ) (v w : ℕ) → length x ≡ 2 → set (set (x ++ (0 ∷ 0 ∷ [])) 2 v) 3 w ≡ x ++ (v ∷ w ∷ [])

@@ -17,7 +17,7 @@ use borrow.Author.Rules.{rules}
 use Rattle.bench.proofs.all_rounds.Given as goal
 
 abbrev pub invariant-loop-sweep : goal.invariant-loop-sweep
-invariant-loop-sweep l = Standing (meaning (stored l.lay l.s)) (state l.initial.starts (buffers l.most l.n l.initial.response)) (state l.sweep (buffers l.response l.collected l.starts)) × Carried (meaning (stored l.lay l.s)) (state l.sweep (buffers l.response l.collected l.starts)) l.left l.dirty
+invariant-loop-sweep l = Standing (meaning (stored l.lay l.s)) (state l.initial.sweep (buffers l.initial.response l.initial.collected l.initial.starts)) (state l.sweep (buffers l.response l.collected l.starts)) × Carried (meaning (stored l.lay l.s)) (state l.sweep (buffers l.response l.collected l.starts)) l.left l.dirty
     × (l.sweep.ended ≡ false → l.from ≡ taken_from (stored l.lay l.s) l.sweep.next.0)
 
 abbrev pub decreases-loop-sweep : goal.decreases-loop-sweep

@@ -3,8 +3,6 @@ use Rattle.capture.proofs.Faults.{capture_refused, capture_own, own_there, own_m
 use borrow.Author.Rules.{rules}
 use Rattle.capture.proofs.capture_fault.Goals as goal
 
-)
-
 pub returns-then-refused-ne0 : goal.returns-then-refused-ne0
 returns-then-refused-ne0 c = search capture_refused
 
@@ -16,6 +14,7 @@ sheet_fault-requires c = (
   own_there c.args.s.now c.args.read c.requires.0 c.if-refused-ne0.false _ c.own_fault-own.ensures c.if-own-ne0.false,
   own_most c.args.s.now c.args.read c.requires.0 c.if-refused-ne0.false _ c.own_fault-own.ensures,
   own_odd c.args.s.now c.args.read c.requires.0 c.if-refused-ne0.false _ c.own_fault-own.ensures _ c.requires.1,
+)
 
 pub returns : goal.returns
 returns c = search capture_sheet

@@ -1,8 +1,12 @@
--- `hex_text::at` meets its contract: the character, or the end of a line behind the text. Assumes nothing.
+-- `hex::at` meets its contract: the character, or the end of a line behind the text. Assumes nothing.
 use Rattle.hex_text.proofs.Cases.{tests}
 use Rattle.hex_text.specs.Chars.{at}
 use borrow.Author.Rules.{rules}
 use Rattle.hex_text.proofs.at.Goals as goal
+
+pub bounds-s-i : goal.bounds-s-i
+unfolding at
+bounds-s-i c = search rules
 
 pub returns-then-i-s : goal.returns-then-i-s
 unfolding at

@@ -1,4 +1,4 @@
--- `hex_text::between` meets its contract: each early return is a case of the definition. Assumes nothing.
+-- `hex::between` meets its contract: each early return is a case of the definition. Assumes nothing.
 use borrow.Author.Tests.{eq-eqb, ne_eqb}
 use mathlib.Core.Path.{sym, ◌∙◌}
 use Rattle.hex_text.proofs.Cases.{Y, N}

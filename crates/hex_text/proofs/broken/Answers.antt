@@ -1,4 +1,4 @@
--- `hex_text::broken` meets its contract: the state goes on, and the line is none. Assumes nothing.
+-- `hex::broken` meets its contract: the state goes on, and the line is none. Assumes nothing.
 use borrow.Author.Rules.{rules}
 use mathlib.Core.Bool.{true}
 use mathlib.Core.Path.{ap}
@@ -6,4 +6,4 @@ use Rattle.hex_text.specs.declared.Effect.{Effect}
 use Rattle.hex_text.proofs.broken.Goals as goal
 
 pub returns : goal.returns
-returns c = record { fault = true; spells = x.spells; byte = x.byte; state = x.state }) c.on-none.ensures
+returns c = ap (λ (x : Effect). record { fault = true; spells = x.spells; byte = x.byte; state = x.state }) c.on-none.ensures

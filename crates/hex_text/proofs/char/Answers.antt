@@ -1,4 +1,4 @@
--- `hex_text::char` meets its contract: each early return is a case of the definition. Assumes nothing.
+-- `hex::char` meets its contract: each early return is a case of the definition. Assumes nothing.
 use borrow.Author.Tests.{eq-eqb, ne_eqb}
 use mathlib.Core.Path.{ap, ◌∙◌}
 use Rattle.hex_text.proofs.Cases.{Y, N, call_lt, call_le}

@@ -1,4 +1,4 @@
--- `hex_text::finish` meets its contract: half a byte is none. Assumes nothing.
+-- `hex::finish` meets its contract: half a byte is none. Assumes nothing.
 use Rattle.hex_text.proofs.Puts.{finish_half, finish_whole}
 use borrow.Author.Rules.{rules}
 use Rattle.hex_text.proofs.finish.Goals as goal

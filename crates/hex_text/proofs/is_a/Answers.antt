@@ -1,4 +1,4 @@
--- `hex_text::is_a` meets its contract: the test of each class. Assumes nothing.
+-- `hex::is_a` meets its contract: the test of each class. Assumes nothing.
 use Prim.Native.Nat.{ℕ}
 use lib.Dec.{ltb}
 use mathlib.Core.Path.{sym, ap, ◌∙◌}

@@ -1,4 +1,4 @@
--- `hex_text::is_end` meets its contract: each early return is a case of the definition. Assumes nothing.
+-- `hex::is_end` meets its contract: each early return is a case of the definition. Assumes nothing.
 use Prim.Native.Nat.{ℕ}
 use borrow.Author.Tests.{le-leb, lt-leb, not-true, not-false}
 use lib.Dec.{eqb}

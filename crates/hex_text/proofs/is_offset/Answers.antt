@@ -1,4 +1,4 @@
--- `hex_text::is_offset` meets its contract: each early return is a case of the definition. Assumes nothing.
+-- `hex::is_offset` meets its contract: each early return is a case of the definition. Assumes nothing.
 use Prim.Native.Nat.{ℕ}
 use borrow.Author.Tests.{lt-leb}
 use lib.Dec.{ltb}
@@ -17,9 +17,21 @@ pub returns-then-e-b : goal.returns-then-e-b
 unfolding is_offset
 returns-then-e-b c = search tests
 
+pub overflow_add-b : goal.overflow_add-b
+unfolding is_offset
+overflow_add-b c = search rules
+
 pub returns-then-e-b-2 : goal.returns-then-e-b-2
 unfolding is_offset
 returns-then-e-b-2 c = search tests
+
+pub at-c-requires : goal.at-c-requires
+unfolding is_offset
+at-c-requires c = search rules
+
+pub value-requires : goal.value-requires
+unfolding is_offset
+value-requires c = search rules
 
 pub returns : goal.returns
 unfolding is_offset

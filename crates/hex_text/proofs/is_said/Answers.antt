@@ -1,4 +1,4 @@
--- `hex_text::is_said` meets its contract: each early return is a case of the definition. Assumes nothing.
+-- `hex::is_said` meets its contract: each early return is a case of the definition. Assumes nothing.
 use Prim.Native.Nat.{ℕ}
 use borrow.Author.Tests.{eq-eqb, ne_eqb}
 use lib.Dec.{eqb}

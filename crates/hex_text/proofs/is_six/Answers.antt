@@ -1,4 +1,4 @@
--- `hex_text::is_six` meets its contract: each early return is a case of the definition. Assumes nothing.
+-- `hex::is_six` meets its contract: each early return is a case of the definition. Assumes nothing.
 use Prim.Native.Nat.{ℕ, ◌+◌}
 use borrow.Author.Tests.{not-true, not-false}
 use lib.Dec.{leb, eqb}

@@ -1,4 +1,4 @@
--- `hex_text::is_words` meets its contract: each early return is a case of the definition. Assumes nothing.
+-- `hex::is_words` meets its contract: each early return is a case of the definition. Assumes nothing.
 use mathlib.Core.Path.{refl, sym, ap, ◌∙◌}
 use Rattle.hex_text.proofs.Cases.{Y, N, call_lt, call_le}
 use Rattle.hex_text.specs.Chars.{at, value, parts}

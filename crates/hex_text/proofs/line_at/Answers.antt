@@ -1,4 +1,4 @@
--- `hex_text::line_at` meets its contract: the loop has counted the lines passed. Assumes nothing.
+-- `hex::line_at` meets its contract: the loop has counted the lines passed. Assumes nothing.
 use Prim.Native.Nat.{◌+◌, ◌-◌, ◌≤◌}
 use mathlib.Core.Path.{◌≡◌, sym}
 use Rattle.hex_text.proofs.Lines.{line_first, line_more, line_at_end}

@@ -1,4 +1,4 @@
--- `hex_text::newline` meets its contract: each early return is a case of the definition. Assumes nothing.
+-- `hex::newline` meets its contract: each early return is a case of the definition. Assumes nothing.
 use borrow.Author.Tests.{lt-ltb, le-ltb}
 use mathlib.Core.Path.{ap, ◌∙◌}
 use Rattle.hex_text.proofs.Cases.{Y, N}

@@ -1,4 +1,4 @@
--- `hex_text::opened_at` meets its contract: each early return is a case of the definition. Assumes nothing.
+-- `hex::opened_at` meets its contract: each early return is a case of the definition. Assumes nothing.
 use Prim.Native.Nat.{ℕ}
 use mathlib.Core.Bool.{true}
 use mathlib.Core.Path.{sym, ap, ◌∙◌}

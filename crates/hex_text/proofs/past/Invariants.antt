@@ -1,4 +1,4 @@
--- `hex_text::past` meets its contract: the loop carries what is left to look at. Assumes nothing.
+-- `hex::past` meets its contract: the loop carries what is left to look at. Assumes nothing.
 use Prim.Native.Nat.{◌-◌}
 use lib.ListN.{length}
 use mathlib.Core.Path.{◌≡◌, refl}

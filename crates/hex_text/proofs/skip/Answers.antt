@@ -1,4 +1,4 @@
--- `hex_text::skip` meets its contract: each early return is a case of the definition. Assumes nothing.
+-- `hex::skip` meets its contract: each early return is a case of the definition. Assumes nothing.
 use Prim.Native.Nat.{ℕ}
 use mathlib.Core.Path.{ap, ◌∙◌}
 use Rattle.hex_text.specs.Chars.{past}

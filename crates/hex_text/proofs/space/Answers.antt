@@ -1,4 +1,4 @@
--- `hex_text::space` meets its contract: each early return is a case of the definition. Assumes nothing.
+-- `hex::space` meets its contract: each early return is a case of the definition. Assumes nothing.
 use borrow.Author.Tests.{eq-eqb, ne_eqb}
 use Rattle.hex_text.proofs.Cases.{Y, N}
 use Rattle.hex_text.specs.Steps.{on, space}

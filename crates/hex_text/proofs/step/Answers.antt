@@ -1,4 +1,4 @@
--- `hex_text::step` meets its contract: each early return is a case of the definition. Assumes nothing.
+-- `hex::step` meets its contract: each early return is a case of the definition. Assumes nothing.
 use Prim.Native.Nat.{ℕ}
 use borrow.Author.Tests.{lt-ltb, le-ltb}
 use mathlib.Core.Path.{ap, ◌∙◌}

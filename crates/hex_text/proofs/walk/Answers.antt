@@ -1,4 +1,4 @@
--- `hex_text::walk` meets its contract: the loop has put the bytes passed, and carries what is left to spell. Assumes nothing.
+-- `hex::walk` meets its contract: the loop has put the bytes passed, and carries what is left to spell. Assumes nothing.
 use Prim.Native.Nat.{◌-◌}
 use lib.ListN.{length}
 use native.Mathlib.Omega.{arith}
@@ -16,7 +16,7 @@ pub returns-then-x : goal.returns-then-x
 returns-then-x c = search going_fault
 
 pub overflow_add-count : goal.overflow_add-count
-overflow_add-count c = omega (arith, going_fits c.loop-i.invariant _ _ c.loop-i-test.true c.put_some_lem.ensures)
+overflow_add-count c = omega (arith, going_fits c.loop-i.invariant _ _ c.loop-i-test.true c.put_some-count.ensures)
 
 pub loop-i-preserved : goal.loop-i-preserved
 loop-i-preserved c = search going_more

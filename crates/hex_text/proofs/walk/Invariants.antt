@@ -1,4 +1,4 @@
--- `hex_text::walk` meets its contract: the loop has put the bytes passed, and carries what is left to spell. Assumes nothing.
+-- `hex::walk` meets its contract: the loop has put the bytes passed, and carries what is left to spell. Assumes nothing.
 use Prim.Native.Nat.{◌-◌}
 use lib.ListN.{length}
 use native.Mathlib.Omega.{arith}

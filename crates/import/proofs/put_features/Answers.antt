@@ -11,8 +11,6 @@ use Rattle.import.specs.inner.Pieces.{rows, bodies}
 use Rattle.import.proofs.Beside.{Passed, passed_start, here_whole, here_entry, here_body, passed_more, passed_end}
 use Rattle.import.proofs.put_features.Goals as goal
 
-)
-
 pub loop-place-init : goal.loop-place-init
 loop-place-init c = (passed_start c.requires, refl)
 
@@ -42,6 +40,7 @@ pub loop-place-preserved : goal.loop-place-preserved
 loop-place-preserved c = (
   passed_more c.loop-place.invariant.0 c.loop-place-test.true c.put_entry-entry.ensures c.put_body-next.ensures (omega (arith, c.length_in-len.ensures)),
   kept c.put_body-next.ensures ∙ kept c.put_entry-entry.ensures ∙ c.loop-place.invariant.1,
+)
 
 pub shape_of-sheet : goal.shape_of-sheet
 shape_of-sheet c = c.loop-place.invariant.1

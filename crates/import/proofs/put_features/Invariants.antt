@@ -12,8 +12,8 @@ use Rattle.import.proofs.Beside.{Passed, passed_start, here_whole, here_entry, h
 use Rattle.import.proofs.put_features.Given as goal
 
 abbrev pub invariant-loop-place : goal.invariant-loop-place
-invariant-loop-place l = Passed l.first (l.s + length (bodies (from l.first l.initial.sheet))) (sets (sets l.entries l.body (rows l.s (from l.first l.initial.sheet))) l.s (bodies (from l.first l.initial.sheet))) l.entry l.next l.place l.sheet
-    × (length l.sheet ≡ length l.entries)
+invariant-loop-place l = Passed l.s (l.body + length (bodies (from l.s l.first))) (sets (sets l.initial.sheet l.entries (rows l.body (from l.s l.first))) l.body (bodies (from l.s l.first))) l.entry l.next l.place l.sheet
+    × (length l.sheet ≡ length l.initial.sheet)
 
 abbrev pub decreases-loop-place : goal.decreases-loop-place
-decreases-loop-place l = length l.first - l.place
+decreases-loop-place l = length l.s - l.place

@@ -12,6 +12,82 @@ use Rattle.judge.proofs.box_of.Goals as goal
 boxed : (rt sfn a : ℕ) (m : Drive) {w v : Mistake} {r : Stated} → w ≡ v → r ≡ box_of v rt sfn a m → r ≡ box_of w rt sfn a m
 boxed rt sfn a m e q = q ∙ ap (λ (w : Mistake). box_of w rt sfn a m) (sym e)
 
+pub enum_told-1 : goal.enum_told-1
+unfolding box_of
+enum_told-1 c = search rules
+
+pub above-requires : goal.above-requires
+unfolding box_of
+above-requires c = search rules
+
+pub right-requires : goal.right-requires
+unfolding box_of
+right-requires c = search rules
+
+pub enum_told-in-LengthCut : goal.enum_told-in-LengthCut
+unfolding box_of
+enum_told-in-LengthCut c = search rules
+
+pub cut_box-requires : goal.cut_box-requires
+unfolding box_of
+cut_box-requires c = search rules
+
+pub enum_told-in-LengthOfAll : goal.enum_told-in-LengthOfAll
+unfolding box_of
+enum_told-in-LengthOfAll c = search rules
+
+pub all_box-requires : goal.all_box-requires
+unfolding box_of
+all_box-requires c = search rules
+
+pub enum_told-in-HighestCurrent : goal.enum_told-in-HighestCurrent
+unfolding box_of
+enum_told-in-HighestCurrent c = search rules
+
+pub highest_box-requires : goal.highest_box-requires
+unfolding box_of
+highest_box-requires c = search rules
+
+pub enum_told-in-HighestListed : goal.enum_told-in-HighestListed
+unfolding box_of
+enum_told-in-HighestListed c = search rules
+
+pub highest_box-requires-in-HighestListed : goal.highest_box-requires-in-HighestListed
+unfolding box_of
+highest_box-requires-in-HighestListed c = search rules
+
+pub enum_told-in-NotOnlyCurrent : goal.enum_told-in-NotOnlyCurrent
+unfolding box_of
+enum_told-in-NotOnlyCurrent c = search rules
+
+pub zero_for-requires : goal.zero_for-requires
+unfolding box_of
+zero_for-requires c = search rules
+
+pub right-requires-in-NotOnlyCurrent : goal.right-requires-in-NotOnlyCurrent
+unfolding box_of
+right-requires-in-NotOnlyCurrent c = search rules
+
+pub enum_told-in-NotOnlyOne : goal.enum_told-in-NotOnlyOne
+unfolding box_of
+enum_told-in-NotOnlyOne c = search rules
+
+pub zero_for-requires-in-NotOnlyOne : goal.zero_for-requires-in-NotOnlyOne
+unfolding box_of
+zero_for-requires-in-NotOnlyOne c = search rules
+
+pub right-requires-in-NotOnlyOne : goal.right-requires-in-NotOnlyOne
+unfolding box_of
+right-requires-in-NotOnlyOne c = search rules
+
+pub enum_told-in-Unexplained : goal.enum_told-in-Unexplained
+unfolding box_of
+enum_told-in-Unexplained c = search rules
+
+pub right-requires-in-Unexplained : goal.right-requires-in-Unexplained
+unfolding box_of
+right-requires-in-Unexplained c = search rules
+
 pub returns-in-OnlyAbove : goal.returns-in-OnlyAbove
 unfolding box_of
 returns-in-OnlyAbove c = boxed _ _ _ _ c.in-OnlyAbove.is (rw (← c.above.ensures) c.right.ensures)

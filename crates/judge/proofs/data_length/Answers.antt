@@ -9,10 +9,10 @@ use borrow.Author.Rules.{rules}
 use Rattle.judge.proofs.data_length.Goals as goal
 
 pub overflow_add-result : goal.overflow_add-result
-overflow_add-result c = omega (arith, c.type_inv.s i)) c.requires _ _ _ c.size-size.ensures in search rules
+overflow_add-result c = let l : 4 + c.size-size.result < 4294967296 = size_low (stored c.args.lay c.args.s.now) (λ i. omega (arith, c.type_inv.s i)) c.requires _ _ _ c.size-size.ensures in search rules
 
 pub overflow_cast-result : goal.overflow_cast-result
-overflow_cast-result c = omega (arith, c.type_inv.s i)) c.requires _ _ _ c.size-size.ensures in search rules
+overflow_cast-result c = let l : 4 + c.size-size.result < 4294967296 = size_low (stored c.args.lay c.args.s.now) (λ i. omega (arith, c.type_inv.s i)) c.requires _ _ _ c.size-size.ensures in search rules
 
 pub returns : goal.returns
 returns c = let a = c.args in

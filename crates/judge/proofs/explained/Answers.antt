@@ -15,6 +15,10 @@ pub loop-i-init : goal.loop-i-init
 loop-i-init c = let a = c.args in
     (omega arith, refl, explained_start a.c.rt a.c.sfn.0 a.c.allocation (meaning (stored a.lay a.s.now)) a.response.now)
 
+pub mistake_at-why-requires : goal.mistake_at-why-requires
+unfolding mistakes
+mistake_at-why-requires c = search rules
+
 pub is_box-requires : goal.is_box-requires
 is_box-requires c = (c.requires.0, omega (arith, c.requires.1, c.loop-i.invariant.1))
 
@@ -28,6 +32,14 @@ returns-then-is_box c = let a = c.args in
       c.is_box.ensures.0 ∙ c.loop-i.invariant.1,
       explained_here a.c.rt a.c.sfn.0 a.c.allocation (meaning (stored a.lay a.s.now)) a.response.now _ c.loop-i.invariant.2 _ _ h c.mistake_at-why.ensures c.is_box.ensures.1 c.if-is_box.true,
     )
+
+pub overflow_add-i : goal.overflow_add-i
+unfolding mistakes
+overflow_add-i c = search rules
+
+pub loop-i-smaller : goal.loop-i-smaller
+unfolding mistakes
+loop-i-smaller c = search rules
 
 pub loop-i-preserved : goal.loop-i-preserved
 loop-i-preserved c = let a = c.args in

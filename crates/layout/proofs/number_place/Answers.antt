@@ -4,6 +4,38 @@ use Rattle.layout.specs.Layout.{number_place}
 use borrow.Author.Rules.{rules}
 use Rattle.layout.proofs.number_place.Goals as goal
 
+pub enum_told-1 : goal.enum_told-1
+unfolding number_place
+enum_told-1 c = search rules
+
+pub overflow_cast-result : goal.overflow_cast-result
+unfolding number_place
+overflow_cast-result c = search rules
+
+pub overflow_mul-result : goal.overflow_mul-result
+unfolding number_place
+overflow_mul-result c = search rules
+
+pub overflow_add-result : goal.overflow_add-result
+unfolding number_place
+overflow_add-result c = search rules
+
+pub enum_told-in-Columns : goal.enum_told-in-Columns
+unfolding number_place
+enum_told-in-Columns c = search rules
+
+pub overflow_cast-result-in-Columns : goal.overflow_cast-result-in-Columns
+unfolding number_place
+overflow_cast-result-in-Columns c = search rules
+
+pub overflow_mul-result-in-Columns : goal.overflow_mul-result-in-Columns
+unfolding number_place
+overflow_mul-result-in-Columns c = search rules
+
+pub overflow_add-result-in-Columns : goal.overflow_add-result-in-Columns
+unfolding number_place
+overflow_add-result-in-Columns c = search rules
+
 pub returns-in-Rows : goal.returns-in-Rows
 unfolding number_place
 returns-in-Rows c = rw (c.in-Rows.is, number_place) (omega arith)

@@ -13,7 +13,7 @@ use Rattle.layout.proofs.Contents.{pieces_more}
 use Rattle.layout.proofs.put_pieces.Given as goal
 
 abbrev pub invariant-loop-i : goal.invariant-loop-i
-invariant-loop-i l = (l.i ≤ l.initial.out) × Wrote l.at l.piece (flat (piece_bytes l.lay) (each (entry_of (stored l.s l.n)) 0 l.i)) l.next l.out
+invariant-loop-i l = (l.i ≤ l.n) × Wrote l.initial.out l.at (flat (piece_bytes l.piece) (each (entry_of (stored l.lay l.s)) 0 l.i)) l.next l.out
 
 abbrev pub decreases-loop-i : goal.decreases-loop-i
-decreases-loop-i l = l.initial.out - l.i
+decreases-loop-i l = l.n - l.i

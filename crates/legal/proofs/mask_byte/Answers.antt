@@ -54,4 +54,4 @@ unfolding mask_bytes spell
 returns-in-11 c = rw c.in-11.is
 
 pub returns-in_default : goal.returns-in_default
-returns-in_default c = mask_behind _ _ c.in_default.rest
+returns-in_default c = mask_behind _ _ c.in_default.in_default-own.rest

@@ -12,7 +12,7 @@ use borrow.Author.Rules.{rules}
 use Rattle.legal.proofs.periodic_fault.Goals as goal
 
 pub loop-k-init : goal.loop-k-init
-loop-k-init c = (c.type_inv.body i).fits, search first_start)
+loop-k-init c = (omega arith, omega arith, λ i. (c.type_inv.body i).fits, search first_start)
 
 pub returns-then-fault-ne0 : goal.returns-then-fault-ne0
 returns-then-fault-ne0 c = search twelve_stop

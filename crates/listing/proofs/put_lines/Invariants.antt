@@ -9,7 +9,7 @@ use borrow.Author.Rules.{rules}
 use Rattle.listing.proofs.put_lines.Given as goal
 
 abbrev pub invariant-loop-place : goal.invariant-loop-place
-invariant-loop-place l = (l.initial.out ≤ length l.end) × Passed l.end l.at l.s l.place l.next l.out (between l.end l.place l.initial.out)
+invariant-loop-place l = (l.end ≤ length l.s) × Passed l.s l.initial.out l.at l.place l.next l.out (between l.s l.place l.end)
 
 abbrev pub decreases-loop-place : goal.decreases-loop-place
-decreases-loop-place l = l.initial.out - l.place
+decreases-loop-place l = l.end - l.place

@@ -3,6 +3,7 @@ use Prim.Native.Nat.{ℕ, ◌-◌, ◌/◌}
 use mathlib.Core.Path.{◌≡◌, refl, sym, ap, ◌∙◌}
 use mathlib.Core.Bool.{not}
 use lib.ListN.{length, drop}
+use Rattle.std.proofs.lemmas.Bool.{not_from_true, not_from_false}
 use Rattle.base.specs.Pick.{some}
 use Rattle.profiles.specs.Profiles.{lists}
 use Rattle.load.proofs.Numbers.{some_found, some_more, some_over}
@@ -13,10 +14,10 @@ pub loop-i-init : goal.loop-i-init
 loop-i-init c = refl
 
 pub returns-then-not-has : goal.returns-then-not-has
-returns-then-not-has c = some_found _ _ _ _ c.loop-i.invariant c.loop-i-test.true (ap not (sym c.has.ensures) ∙ c.if-not-has.true)
+returns-then-not-has c = some_found _ _ _ _ c.loop-i.invariant c.loop-i-test.true (ap not (sym c.has.ensures) ∙ (not_from_false _ c.if-not-has.true))
 
 pub loop-i-preserved : goal.loop-i-preserved
-loop-i-preserved c = some_more _ _ _ _ c.loop-i.invariant c.loop-i-test.true (ap not (sym c.has.ensures) ∙ c.if-not-has.false)
+loop-i-preserved c = some_more _ _ _ _ c.loop-i.invariant c.loop-i-test.true (ap not (sym c.has.ensures) ∙ (not_from_true _ c.if-not-has.false))
 
 pub returns : goal.returns
 returns c = some_over _ _ _ _ c.loop-i.invariant c.loop-i-test.false

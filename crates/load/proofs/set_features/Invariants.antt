@@ -15,7 +15,7 @@ use borrow.Author.Rules.{rules}
 use Rattle.load.proofs.set_features.Given as goal
 
 abbrev pub invariant-loop-i : goal.invariant-loop-i
-invariant-loop-i l = (l.i ≤ l.list) × (l.j ≡ met (stored l.s l.n) l.initial.out l.i) × (l.next ≡ get_or l.initial.out l.j 0) × (l.out ≡ patched (flags_place l.s l.list) (flags_met (stored l.s l.n) l.initial.out) l.i l.lay)
+invariant-loop-i l = (l.i ≤ l.n) × (l.j ≡ met (stored l.lay l.s) l.list l.i) × (l.next ≡ get_or l.list l.j 0) × (l.out ≡ patched (flags_place l.lay l.n) (flags_met (stored l.lay l.s) l.list) l.i l.initial.out)
 
 abbrev pub decreases-loop-i : goal.decreases-loop-i
-decreases-loop-i l = l.list - l.i
+decreases-loop-i l = l.n - l.i

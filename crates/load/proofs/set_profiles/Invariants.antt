@@ -14,7 +14,7 @@ use borrow.Author.Rules.{rules}
 use Rattle.load.proofs.set_profiles.Given as goal
 
 abbrev pub invariant-loop-i : goal.invariant-loop-i
-invariant-loop-i l = (l.i ≤ l.initial.out) × (l.out ≡ patched (λ (k : ℕ). l.b + 4 * k + 2) (λ (k : ℕ). bit (is_in l.n (profile_number l.list k))) l.i l.at)
+invariant-loop-i l = (l.i ≤ l.n) × (l.out ≡ patched (λ (k : ℕ). l.at + 4 * k + 2) (λ (k : ℕ). bit (is_in l.list (profile_number l.b k))) l.i l.initial.out)
 
 abbrev pub decreases-loop-i : goal.decreases-loop-i
-decreases-loop-i l = l.initial.out - l.i
+decreases-loop-i l = l.n - l.i

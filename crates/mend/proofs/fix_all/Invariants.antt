@@ -12,7 +12,7 @@ use Rattle.mend.proofs.Walking.{Putting, putting_start, putting_stands, putting_
 use Rattle.mend.proofs.fix_all.Given as goal
 
 abbrev pub invariant-loop-at : goal.invariant-loop-at
-invariant-loop-at l = Putting l.initial.copy l.initial.list l.removable l.s l.copy l.list l.n l.at × (length l.copy ≡ length l.removable) × (length l.list ≡ length l.s)
+invariant-loop-at l = Putting l.removable l.s l.initial.copy l.initial.list l.copy l.list l.n l.at × (length l.copy ≡ length l.initial.copy) × (length l.list ≡ length l.initial.list)
 
 abbrev pub decreases-loop-at : goal.decreases-loop-at
-decreases-loop-at l = length l.initial.list - l.at
+decreases-loop-at l = length l.s - l.at

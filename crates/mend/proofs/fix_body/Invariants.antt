@@ -9,7 +9,7 @@ use Rattle.mend.proofs.Fixing.{Put, put_start, put_more, put_end, fixes_length}
 use Rattle.mend.proofs.fix_body.Given as goal
 
 abbrev pub invariant-loop-k : goal.invariant-loop-k
-invariant-loop-k l = Put l.initial.copy l.initial.list l.n l.place l.plan l.body l.copy l.list l.next l.k × (length l.copy ≡ length l.n) × (length l.list ≡ length l.place)
+invariant-loop-k l = Put l.plan l.body l.initial.copy l.initial.list l.n l.place l.copy l.list l.next l.k × (length l.copy ≡ length l.initial.copy) × (length l.list ≡ length l.initial.list)
 
 abbrev pub decreases-loop-k : goal.decreases-loop-k
-decreases-loop-k l = length l.initial.list - l.k
+decreases-loop-k l = length l.body - l.k

@@ -11,8 +11,6 @@ use Rattle.profiles.proofs.Stopped.{at, records_stop, records_go, records_none}
 use Rattle.profiles.proofs.Loops.{within_none, within_more}
 use Rattle.profiles.proofs.fault.Goals as goal
 
-)
-
 pub loop-i-init : goal.loop-i-init
 loop-i-init c = (omega arith, within_none _ _ _, search first_start)
 
@@ -25,6 +23,7 @@ loop-i-preserved c = (
   omega arith,
   within_more _ _ _ _ _ _ _ c.loop-i.invariant.1 c.inside2.ensures c.lower-low.ensures c.higher-high.ensures,
   records_go _ _ _ c.loop-i.invariant.2 _ c.loop-i-test.true c.record_fault-fault.ensures c.if-fault-ne0.false,
+)
 
 pub returns : goal.returns
 unfolding records_fault

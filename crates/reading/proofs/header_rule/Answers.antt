@@ -24,6 +24,10 @@ pub returns-then-stated-ne0 : goal.returns-then-stated-ne0
 unfolding header_rule
 returns-then-stated-ne0 c = search tests
 
+pub overflow_add-stated : goal.overflow_add-stated
+unfolding header_rule
+overflow_add-stated c = search rules
+
 pub returns-then-stated-received : goal.returns-then-stated-received
 unfolding header_rule
 returns-then-stated-received c = search tests

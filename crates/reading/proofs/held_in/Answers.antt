@@ -4,4 +4,4 @@ use borrow.Author.Rules.{rules}
 use Rattle.reading.proofs.held_in.Goals as goal
 
 pub returns : goal.returns
-returns c = part_held _ _ _ _ (λ i. (c.type_inv.s i).fits) c.spot_of_lem.ensures c.part.ensures
+returns c = part_held _ _ _ _ (λ i. (c.type_inv.s i).fits) c.spot_of-spot.ensures c.part.ensures

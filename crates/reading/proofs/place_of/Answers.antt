@@ -5,4 +5,4 @@ use Rattle.reading.proofs.place_of.Goals as goal
 
 pub returns : goal.returns
 unfolding spot_in
-returns c = cc c.spot_of_lem.ensures
+returns c = cc c.spot_of-spot.ensures

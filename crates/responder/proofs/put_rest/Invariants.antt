@@ -11,7 +11,7 @@ use Rattle.responder.proofs.Laws.{pieces_start, pieces_more, full_stop}
 use Rattle.responder.proofs.put_rest.Given as goal
 
 abbrev pub invariant-loop-i : goal.invariant-loop-i
-invariant-loop-i l = (l.to ≤ l.i) × (l.i - l.to ≤ l.initial.out - l.to) × Wrote l.at l.lay (pieces l.from (stored l.s l.rt) l.to (l.i - l.to)) l.next l.out
+invariant-loop-i l = (l.from ≤ l.i) × (l.i - l.from ≤ l.to - l.from) × Wrote l.initial.out l.at (pieces l.rt (stored l.lay l.s) l.from (l.i - l.from)) l.next l.out
 
 abbrev pub decreases-loop-i : goal.decreases-loop-i
-decreases-loop-i l = l.initial.out - l.i
+decreases-loop-i l = l.to - l.i

@@ -10,7 +10,7 @@ use borrow.Author.Rules.{rules}
 use Rattle.responder.proofs.put_rows.Given as goal
 
 abbrev pub invariant-loop-i : goal.invariant-loop-i
-invariant-loop-i l = Walked l.n (stored Rows l.rt) l.to l.initial.out l.at l.s l.out l.next l.i
+invariant-loop-i l = Walked l.rt (stored Rows l.s) l.from l.to l.initial.out l.at l.out l.next l.i
 
 abbrev pub decreases-loop-i : goal.decreases-loop-i
-decreases-loop-i l = l.initial.out - l.i
+decreases-loop-i l = l.to - l.i

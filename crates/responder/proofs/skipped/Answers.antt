@@ -8,6 +8,10 @@ pub returns-then-rt-ne1 : goal.returns-then-rt-ne1
 unfolding skips
 returns-then-rt-ne1 c = search tests
 
+pub current-requires : goal.current-requires
+unfolding skips
+current-requires c = search rules
+
 pub returns : goal.returns
 unfolding skips
 returns c = search (tests, ← c.current.ensures)

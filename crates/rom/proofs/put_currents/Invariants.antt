@@ -8,7 +8,7 @@ use Rattle.rom.proofs.Runs.{Copied, copied_start, copied_more, copied_full, copi
 use Rattle.rom.proofs.put_currents.Given as goal
 
 abbrev pub invariant-loop-place : goal.invariant-loop-place
-invariant-loop-place l = Copied l.at l.image l.from l.initial.out l.out l.next l.place
+invariant-loop-place l = Copied l.initial.out l.at l.image l.from l.out l.next l.place
 
 abbrev pub decreases-loop-place : goal.decreases-loop-place
-decreases-loop-place l = length l.from - l.place
+decreases-loop-place l = length l.image - l.place

@@ -8,6 +8,10 @@ pub returns-then-s-ne-LENGTH : goal.returns-then-s-ne-LENGTH
 unfolding form_fault
 returns-then-s-ne-LENGTH c = search tests
 
+pub byte-requires : goal.byte-requires
+unfolding form_fault
+byte-requires c = search rules
+
 pub returns-then-byte-ne-RESPONSE_CODE : goal.returns-then-byte-ne-RESPONSE_CODE
 unfolding form_fault
 returns-then-byte-ne-RESPONSE_CODE c = search (tests, ← c.byte.ensures)

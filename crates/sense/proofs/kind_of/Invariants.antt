@@ -13,7 +13,7 @@ use Rattle.sense.specs.declared.Sense.TheVariants.{Means, Refused}
 use Rattle.sense.proofs.kind_of.Given as goal
 
 abbrev pub invariant-loop-i : goal.invariant-loop-i
-invariant-loop-i l = (l.i ≤ length given) × (kind_of l.number ≡ left (λ l. eqb l.0 l.number) (λ l. heard (Means l.1)) (heard (Refused (refuse 54))) given l.i)
+invariant-loop-i l = (l.i ≤ length given) × (kind_of l.number ≡ left (λ v. eqb v.0 l.number) (λ v. heard (Means v.1)) (heard (Refused (refuse 54))) given l.i)
 
 abbrev pub decreases-loop-i : goal.decreases-loop-i
 decreases-loop-i l = length given - l.i

@@ -12,6 +12,10 @@ pub returns-then-number-before : goal.returns-then-number-before
 unfolding entry_rule
 returns-then-number-before c = search tests
 
+pub flags_rule-fault-requires : goal.flags_rule-fault-requires
+unfolding entry_rule
+flags_rule-fault-requires c = search rules
+
 pub returns-then-fault-ne0 : goal.returns-then-fault-ne0
 unfolding entry_rule
 returns-then-fault-ne0 c = search (tests, ← c.flags_rule-fault.ensures)
