@@ -115,6 +115,7 @@ module _ (f : ℕ) where
 
   of_reports : (ds : List Desc) → Reports f ds → reported f ds ≡ true
   unfolding reported
+  of_reports [] x = elim x [ ]
   of_reports (d ∷ ds) (inl e) = pick_here (λ (x : Desc). eqb x.number f) (λ x. true) false d ds (eq-eqb _ _ e)
   of_reports (d ∷ ds) (inr h) = go (eqb d.number f) refl (of_reports ds h)
     where

@@ -273,9 +273,9 @@ module _ (d : Desc) (low : d.number < 65536) (t : List ℕ) where
   unfolding desc_line line_of
   length_read = ap (spelt 0) (word_four _ _ _ _ t (hex_solid _) (marks_solid _) (decimal_solid _) (decimal_solid _)) ∙ spelt_decimal (length d.body)
 
-  line_read : line_read (desc_line d ++ t) ≡ shown_of d
+  line_read_here : line_read (desc_line d ++ t) ≡ shown_of d
   unfolding line_read
-  line_read = λ i. record {
+  line_read_here = λ i. record {
     digits = digits_read i;
     number = number_read i;
     persistent = persistent_read i;
@@ -297,7 +297,7 @@ module _ (t : List ℕ) where
   lines_read_here (d ∷ ds) g =
       let q : (desc_line d ++ flat desc_line ds) ++ t ≡ desc_line d ++ (flat desc_line ds ++ t) = append_assoc (desc_line d) (flat desc_line ds) t in
       let x : behind 10 ((desc_line d ++ flat desc_line ds) ++ t) ≡ flat desc_line ds ++ t = ap (behind 10) q ∙ line_behind d g.0.number_low _ in
-      λ i. (ap line_read q ∙ line_read d g.0.number_low _) i ∷ (ap (lines_read (length ds)) x ∙ lines_read_here ds g.1) i
+      λ i. (ap line_read q ∙ line_read_here d g.0.number_low _) i ∷ (ap (lines_read (length ds)) x ∙ lines_read_here ds g.1) i
 
   lines_behind_here : (ds : List Desc) → All Good ds → lines_behind (length ds) (flat desc_line ds ++ t) ≡ t
   unfolding flat

@@ -128,7 +128,7 @@ module _ (lay : Layout) {m : Drive} (f : Fine m) where
         profiles = λ i h. rw part_is (kept_written m.profiles f.sound.profiles_low f.distinct i (omega (arith, profile_count_here, length_profiles m.profiles)));
         above = λ i h. above_before i (n i h);
         legal = λ i h.
-            ap (λ (k : ℕ). (flags_rule k).number) (entry_at i (n i h)).flags-is
+            ap (λ (k : ℕ). (flags_rule k).number) (entry_at i (n i h)).flags_is
             ∙ all_get_d (λ (d : Desc). (flags_rule d.flags).number ≡ 0) m.features no_desc f.legal i (n i h);
         four = λ i h. ap (λ (k : ℕ). k % 4) (entry_at i (n i h)).length_is ∙ (good_at i (n i h)).four;
         short = λ i h. omega (arith, (entry_at i (n i h)).length_is, (good_at i (n i h)).short);
@@ -145,7 +145,7 @@ module _ (lay : Layout) {m : Drive} (f : Fine m) where
       ∙ ap (λ (k : ℕ). take (length (get_or m.features i no_desc).body) (drop k (sheet_of lay m).bytes)) (entry_at i l).offset_is
       ∙ ap (take (length (get_or m.features i no_desc).body)) (at_body lay m i l)
       ∙ take-append_seam (get_or m.features i no_desc).body (flat body (drop (suc i) m.features)) in
-      λ k. record { number = (entry_at i l).number_is k; flags = (entry_at i l).flags-is k; body = e k }
+      λ k. record { number = (entry_at i l).number_is k; flags = (entry_at i l).flags_is k; body = e k }
 
 pub sheet_accepted : (lay : Layout) (m : Drive) → Fine m → Accepted (sheet_of lay m)
 sheet_accepted lay m f = ap (λ (r : Refusal). r.number) (accept_of (sheet_of lay m) (sheet_facts lay f))

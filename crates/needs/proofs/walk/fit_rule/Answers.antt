@@ -1,12 +1,7 @@
 -- `needs::walk::fit_rule` meets its contract: each early return is a case of the rule.
-use borrow.Author.Rules.{rules}
 use Rattle.needs.specs.Judge.{line_wrong}
 use Rattle.needs.proofs.Rules.{rules}
 use Rattle.needs.proofs.walk.fit_rule.Goals as goal
-
-pub overflow_cast-least : goal.overflow_cast-least
-unfolding line_wrong
-overflow_cast-least c = search rules
 
 pub returns-then-len-least : goal.returns-then-len-least
 unfolding line_wrong
