@@ -189,7 +189,7 @@ module _ (removable : Bool) where
 whole_all : (room : ℕ) (ds : List Desc) → total ds ≤ room → whole room ds ≡ ds
 unfolding total whole
 whole_all room [] h = refl
-whole_all room (d ∷ ds) h = whole_fit room d ds (omega arith) ∙ ap (λ (es : List Desc). d ∷ es) (whole_all _ ds (omega arith))
+whole_all room (d ∷ ds) h = whole_fit room d ds (omega arith) ∙ ap (λ (es : List Desc). d ∷ es) (whole_all (room - size d) ds (omega arith))
 
 -- a header that states what follows, and good ascending descriptors behind it: a complete response with these descriptors
 module _ (h : List ℕ) (ds : List Desc) (l : length h ≡ 8) (good : All Good ds) (asc : Asc 0 ds) (stated : stated_length (h ++ flat bytes ds) + 4 ≡ 8 + length (flat bytes ds))

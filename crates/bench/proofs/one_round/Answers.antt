@@ -29,7 +29,7 @@ slice_bounds-take-end-2 c = let early = c in
     let o = early in
     let a = o.args in
     let bytes : Bytes a.s.now = λ i. omega (arith, early.type_inv.s i) in
-    sym (length-take-le c.send_sized-reply.result.count c.send_sized-reply.new.1.1.1.1.1.1.1.0 (asked_room (stored a.lay a.s.now) bytes o.requires.0 a.w.rt a.w.next.0 a.w.allocation a.response.now o.requires.1 (clean_cleared o.requires.3 c.clear.ensures) o.requires.4 (o.requires.2 ∙ taken_wanted (stored a.lay a.s.now) bytes o.requires.0 a.w) c.send_sized-reply.ensures))
+    sym (length-take-le c.send_sized-reply.result.count c.send_sized-reply.new.out (asked_room (stored a.lay a.s.now) bytes o.requires.0 a.w.rt a.w.next.0 a.w.allocation a.response.now o.requires.1 (clean_cleared o.requires.3 c.clear.ensures) o.requires.4 (o.requires.2 ∙ taken_wanted (stored a.lay a.s.now) bytes o.requires.0 a.w) c.send_sized-reply.ensures))
 
 pub returns : goal.returns
 returns c = let early = c in
@@ -37,5 +37,5 @@ returns c = let early = c in
     let o = origin in
     let a = o.args in
     let bytes : Bytes a.s.now = λ i. omega (arith, origin.type_inv.s i) in
-    let l : length c.take.new.1.1.0 ≡ length a.collected.now = search rules in
+    let l : length c.take.new.out ≡ length a.collected.now = search rules in
     round_asked (stored a.lay a.s.now) a.w (buffers a.response.now a.collected.now a.starts.now) bytes o.requires.0 o.requires.1 origin.if-starts-at.false early.note.ensures (clean_cleared o.requires.3 early.clear.ensures) o.requires.4 (o.requires.2 ∙ taken_wanted (stored a.lay a.s.now) bytes o.requires.0 a.w) c.send_sized-reply.ensures c.take.ensures l

@@ -21,4 +21,4 @@ pub returns : goal.returns
 unfolding trusting plan_of
 returns c = let a = c.args in
     sized_sent (stored a.lay a.s.now) a.rt a.sfn.0 a.a (taken_from (stored a.lay a.s.now) a.sfn.0) (taken_size (stored a.lay a.s.now) a.rt a.sfn.0) a.out.now _ (c.due-limit.ensures ∙ ap (λ (p : Plan). limit a.a p.size) c.planned-plan.ensures)
-    c.planned-plan.result c.put_full-count.result c.put_full-count.new.0 c.written.result c.planned-plan.ensures c.if-out-limit.false c.put_full-count.ensures c.written.ensures
+    c.planned-plan.result c.put_full-count.result c.put_full-count.new.out c.written.result c.planned-plan.ensures c.if-out-limit.false c.put_full-count.ensures c.written.ensures

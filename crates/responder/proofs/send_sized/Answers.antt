@@ -16,4 +16,4 @@ slice_bounds-put_full-end-2 c = sym (length-take-le c.due-cut.result c.args.out.
 pub returns : goal.returns
 returns c = let a = c.args in
     sized_sent (stored a.lay a.s.now) a.rt a.sfn.0 a.a a.from a.size a.out.now _ c.due-cut.ensures
-    c.taken-told.result c.put_full-count.result c.put_full-count.new.0 c.written.result c.taken-told.ensures c.if-out-cut.false c.put_full-count.ensures c.written.ensures
+    c.taken-told.result c.put_full-count.result c.put_full-count.new.out c.written.result c.taken-told.ensures c.if-out-cut.false c.put_full-count.ensures c.written.ensures
