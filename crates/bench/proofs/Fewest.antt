@@ -1,6 +1,6 @@
 -- No list of starts receives every wanted descriptor whole in fewer commands than a sweep. The starts up to the first wanted descriptor bring nothing beyond
 -- what the sweep's first command brings, so what that leaves is up to the others, and one of the former is there. Assumes nothing.
-use mathlib.Core.Path.{◌≡◌, refl, sym, ap, ◌∙◌}
+use mathlib.Core.Path.{◌≡◌, refl, sym, ap, subst, ◌∙◌}
 use mathlib.Core.Logic.{inl, inr, ⊎_elim}
 use mathlib.Core.Bool.{Bool, true, false, false≢true, true≢false}
 use mathlib.Core.List.{List, [], ◌∷◌, ◌++◌, map, append_assoc}
@@ -208,7 +208,7 @@ module _ (space : ℕ) where
           (x ∷ xs) high covered in
           let more : cuts space space ys ≡ suc (cuts space space (x ∷ xs)) = cuts_more space space ys x xs f e in
           let r : cuts space space (x ∷ xs) < length us =
-          ih us (front ++ gs) (x ∷ xs) (omega arith) (rw together a) (rw e at (rest_all (Fits space) space ys f)) (omega arith) (rw together onward) in
+          ih us (front ++ gs) (x ∷ xs) (omega arith) (rw together a) (rw e at (rest_all (Fits space) space ys f)) (omega arith) (subst (λ (w : List Desc). Covers w us (x ∷ xs)) (sym together) onward) in
           omega arith
 
   least : (n : ℕ) → Least n

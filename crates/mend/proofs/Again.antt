@@ -3,7 +3,7 @@ use borrow.Author.Tests.{leb-true}
 use mathlib.Core.Path.{◌≡◌, refl, sym, ap, ◌∙◌}
 use mathlib.Core.Bool.{Bool, true, false, not, ◌&&◌}
 use mathlib.Core.List.{List, [], ◌∷◌, ◌++◌}
-use Prim.Native.Nat.{ℕ, zero, suc, ◌+◌, ◌%◌, ◌≤◌, ◌<◌}
+use Prim.Native.Nat.{ℕ, zero, suc, ◌+◌, ◌-◌, ◌%◌, ◌≤◌, ◌<◌}
 use native.Mathlib.Omega.{arith}
 use lib.Dec.{leb, eqb}
 use lib.ListN.{length, take, length-append}
@@ -22,7 +22,7 @@ use Rattle.text.specs.Flags.{version, newer}
 use Rattle.text.specs.Drive.{Desc, Good, Asc}
 use Rattle.text.specs.Response.{bytes}
 use Rattle.text.specs.Reading.{Walked, stated_length, stated_end, walked, read_fault}
-use Rattle.text.specs.Packing.{total, whole}
+use Rattle.text.specs.Packing.{size, total, whole}
 use Rattle.text.proofs.Packing.{length_flat_bytes, whole_fit}
 use Rattle.text.proofs.Own.{Fit, walk_front}
 use Rattle.text.proofs.Walk.{read_fault_header, read_fault_accept, wholes_accepted, wholes_refused}

@@ -12,7 +12,9 @@ slice_bounds-put_front-end c = let o = c in
     sent_inside (stored a.lay a.s.now) (λ i. (c.type_inv.s i).fits) o.requires.0 a.b.rt a.b.sfn.0 a.a a.scratch.now o.requires.1 _ _ c.send-made.ensures
 
 pub slice_bounds-put_front-end-2 : goal.slice_bounds-put_front-end-2
-slice_bounds-put_front-end-2 c = sym (length-take-le _ _ (slice-relend-prefix-put-front c))
+slice_bounds-put_front-end-2 c = let o = c in
+    let a = o.args in
+    sym (length-take-le _ _ (sent_inside (stored a.lay a.s.now) (λ i. (c.type_inv.s i).fits) o.requires.0 a.b.rt a.b.sfn.0 a.a a.scratch.now o.requires.1 _ _ c.send-made.ensures))
 
 pub returns : goal.returns
 returns c = let o = c in

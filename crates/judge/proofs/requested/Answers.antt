@@ -53,4 +53,4 @@ pub returns-in_default : goal.returns-in_default
 returns-in_default c = let d = c in
     let a = d.args in
     let p = d.put_due-count.ensures in
-    requested_as a.c.rt a.c.sfn.0 a.c.allocation (meaning (stored a.lay a.s.now)) a.response.now a.scratch.now _ p.2 _ c.compared-found.ensures _ p.3 _ _ refl (stood _ _ c.in_default.keys2)
+    requested_as a.c.rt a.c.sfn.0 a.c.allocation (meaning (stored a.lay a.s.now)) a.response.now a.scratch.now _ p.2 _ c.compared-found.ensures _ p.3 _ _ refl (stood _ _ c.in_default.in_default-own.keys2)
