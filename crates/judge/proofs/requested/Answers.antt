@@ -1,13 +1,8 @@
 -- `judge::requested` meets its contract: what is due is compared with what came, and where they differ the mistakes are tried.
 use mathlib.Core.Path.{◌≡◌, refl, sym, ap, ◌∙◌}
-use mathlib.Core.Logic.{inl, inr}
-use mathlib.Core.List.{[], ◌∷◌}
 use Prim.Native.Nat.{ℕ}
-use native.Mathlib.Omega.{arith}
 use lib.ListN.{length}
 use lib.Seq.{length-take-le}
-use denote.Enum.Declared.{tag_of}
-use types.Run.{OneOf}
 use Rattle.text.specs.Response.{sent}
 use Rattle.layout.specs.Layout.{stored}
 use Rattle.sheet.specs.Meaning.{meaning}
@@ -15,25 +10,17 @@ use Rattle.judge.specs.declared.Mistake.{Mistake}
 use Rattle.judge.specs.declared.Verdict.{Verdict}
 use Rattle.judge.specs.declared.Verdict.TheVariants.{Exact, Padded, Short, Wrong, Answered, Refused}
 use Rattle.judge.specs.Verdict.{because, alone}
-use Rattle.judge.specs.contracts.Verdict.{the_type}
 use Rattle.judge.proofs.Search.{requested_as, requested_wrong}
 use borrow.Author.Rules.{rules}
 use Rattle.judge.proofs.requested.Goals as goal
 
 -- a mistake changes no verdict but one
-stood : (v : Verdict) (w : Mistake) → OneOf (0 ∷ 1 ∷ 2 ∷ 4 ∷ 5 ∷ []) (tag_of the_type v) → because v w ≡ v
+stood : (v : Verdict) (w : Mistake) → ((k : ℕ) (o : Mistake) → v ≡ Wrong k o → ⊥) → because v w ≡ v
 unfolding because
 stood Exact w h = refl
 stood (Padded k) w h = refl
 stood (Short k) w h = refl
-stood (Wrong k o) w h = absurd (none h)
-  where
-    none : OneOf (0 ∷ 1 ∷ 2 ∷ 4 ∷ 5 ∷ []) 3 → ⊥
-    none (inl e) = omega (arith, e)
-    none (inr (inl e)) = omega (arith, e)
-    none (inr (inr (inl e))) = omega (arith, e)
-    none (inr (inr (inr (inl e)))) = omega (arith, e)
-    none (inr (inr (inr (inr e)))) = omega (arith, e)
+stood (Wrong k o) w h = absurd (h k o refl)
 stood (Answered r) w h = refl
 stood (Refused r) w h = refl
 
@@ -53,4 +40,4 @@ pub returns-in_default : goal.returns-in_default
 returns-in_default c = let d = c in
     let a = d.args in
     let p = d.put_due-count.ensures in
-    requested_as a.c.rt a.c.sfn.0 a.c.allocation (meaning (stored a.lay a.s.now)) a.response.now a.scratch.now _ p.2 _ c.compared-found.ensures _ p.3 _ _ refl (stood _ _ c.in_default.in_default-own.keys2)
+    requested_as a.c.rt a.c.sfn.0 a.c.allocation (meaning (stored a.lay a.s.now)) a.response.now a.scratch.now _ p.2 _ c.compared-found.ensures _ p.3 _ _ refl (stood _ _ c.in_default.not-Wrong)
