@@ -47,7 +47,7 @@ use Rattle.demands.proofs.Named.{named, met}
 abbrev pub DecidedAsking : (T : Ended) (c : Contract T) → Stated T → ((x : Call T c) → Type 0) → {S : Lfts T.signature.lifetimes → Type 0} → ((κs : Lfts T.signature.lifetimes) → Res T.signature κs → S κs) → Type 2
 DecidedAsking T c s q see =
     (x : Call T c) →
-    (closing x T (c x.M x.𝓤 x x.mem x.run) ≡ s x.M x.𝓤 x x.mem x.run)
+    (closing x.𝓛 T (c x.M x.𝓤 x.𝓛 x.mem x.run) ≡ s x.M x.𝓤 x.𝓛 x.mem x.run)
     × ent x.𝓤 (fact x.𝓤 (q x)) (asked T c x)
     × ((o o' : Outcome T c x) → ent x.𝓤 (conj x.𝓤 (allowed T c x o) (allowed T c x o')) (fact x.𝓤 ((see x.κs o.0 ≡ see x.κs o'.0) × (o.1 ≡ o'.1))))
 
@@ -55,7 +55,7 @@ DecidedAsking T c s q see =
 abbrev pub PromisedAsking : (T : Ended) (c : Contract T) → Stated T → ((x : Call T c) → Type 0) → ((x : Call T c) → Outcome T c x → Type 0) → Type 2
 PromisedAsking T c s q φ =
     (x : Call T c) →
-    (closing x T (c x.M x.𝓤 x x.mem x.run) ≡ s x.M x.𝓤 x x.mem x.run)
+    (closing x.𝓛 T (c x.M x.𝓤 x.𝓛 x.mem x.run) ≡ s x.M x.𝓤 x.𝓛 x.mem x.run)
     × ent x.𝓤 (fact x.𝓤 (q x)) (asked T c x)
     × ((o : Outcome T c x) → ent x.𝓤 (allowed T c x o) (fact x.𝓤 (φ x o)))
 

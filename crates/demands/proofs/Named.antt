@@ -55,7 +55,7 @@ module _ {T : Ended} {c : Contract T} where
 -- φ holds of every two outcomes that a call of one function and a call of another allow
 abbrev pub Both : (T : Ended) (c : Contract T) (T₂ : Ended) (c₂ : Contract T₂) → ((x : Call T c) → Outcome T c x → (y : Call T₂ c₂) → Outcome T₂ c₂ y → Type 0) → Type 2
 Both T c T₂ c₂ φ =
-    (x : Call T c) (κs : Lfts T₂.signature.lifetimes) (args : Args T₂.signature κs) (g : (c₂ x.M x.𝓤 x x.mem x.run κs args).ghost)
+    (x : Call T c) (κs : Lfts T₂.signature.lifetimes) (args : Args T₂.signature κs) (g : (c₂ x.M x.𝓤 x.𝓛 x.mem x.run κs args).ghost)
     (o : Outcome T c x) (p : Outcome T₂ c₂ (beside x κs args g))
     → ent x.𝓤 (conj x.𝓤 (allowed T c x o) (allowed T₂ c₂ (beside x κs args g) p)) (fact x.𝓤 (φ x o (beside x κs args g) p))
 
@@ -63,8 +63,8 @@ Both T c T₂ c₂ φ =
 abbrev pub AllThree : (T : Ended) (c : Contract T) (T₂ : Ended) (c₂ : Contract T₂) (T₃ : Ended) (c₃ : Contract T₃)
     → ((x : Call T c) → Outcome T c x → (y : Call T₂ c₂) → Outcome T₂ c₂ y → (z : Call T₃ c₃) → Outcome T₃ c₃ z → Type 0) → Type 2
 AllThree T c T₂ c₂ T₃ c₃ φ =
-    (x : Call T c) (κs : Lfts T₂.signature.lifetimes) (args : Args T₂.signature κs) (g : (c₂ x.M x.𝓤 x x.mem x.run κs args).ghost)
-    (κs₂ : Lfts T₃.signature.lifetimes) (args₂ : Args T₃.signature κs₂) (g₂ : (c₃ x.M x.𝓤 x x.mem x.run κs₂ args₂).ghost)
+    (x : Call T c) (κs : Lfts T₂.signature.lifetimes) (args : Args T₂.signature κs) (g : (c₂ x.M x.𝓤 x.𝓛 x.mem x.run κs args).ghost)
+    (κs₂ : Lfts T₃.signature.lifetimes) (args₂ : Args T₃.signature κs₂) (g₂ : (c₃ x.M x.𝓤 x.𝓛 x.mem x.run κs₂ args₂).ghost)
     (o : Outcome T c x) (p : Outcome T₂ c₂ (beside x κs args g)) (q : Outcome T₃ c₃ (beside x κs₂ args₂ g₂))
     → ent x.𝓤 (conj x.𝓤 (allowed T c x o) (conj x.𝓤 (allowed T₂ c₂ (beside x κs args g) p) (allowed T₃ c₃ (beside x κs₂ args₂ g₂) q)))
     (fact x.𝓤 (φ x o (beside x κs args g) p (beside x κs₂ args₂ g₂) q))
