@@ -2,6 +2,7 @@
 // where nothing can be refused. Further results go to a lent array that has a place for each: to C a struct of as many uint64_t with names. The two of a sweep take its
 // record and give a step, by value.
 #![tactic(auto)]
+
 ghost use Rattle.std.specs.Prelude.{◌≡◌};
 ghost use Rattle.lent.specs.Wrote.{Wrote};
 ghost use Rattle.text.specs.Reading.{reading};

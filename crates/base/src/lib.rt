@@ -1,5 +1,6 @@
 // Two sums that several layers need. Beside them the crate holds the definitions and laws that every layer above shares (specs/, proofs/).
 #![tactic(auto)]
+
 ghost use Rattle.std.specs.Prelude.{◌≡◌, ◌-◌, min};
 
 // The lesser of two numbers.

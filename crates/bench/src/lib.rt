@@ -1,5 +1,6 @@
 // The bench sweep: the driver's sweep run against the box of one sheet.
 #![tactic(auto)]
+
 ghost use Rattle.std.specs.Prelude.{◌≡◌, ◌≤◌, length};
 ghost use Rattle.layout.specs.Layout.{stored};
 ghost use Rattle.sheet.specs.Check.{Accepted};

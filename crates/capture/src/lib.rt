@@ -1,5 +1,6 @@
 // A captured response to RT 0 from 0: whether a drive sheet can describe its drive and give it back, and how many features that drive has.
 #![tactic(auto)]
+
 ghost use Rattle.std.specs.Prelude.{◌≡◌, ◌≤◌, ◌<◌, length};
 ghost use Rattle.text.specs.Response.{header_length, return_limit};
 ghost use Rattle.reading.specs.inner.Between.{from};

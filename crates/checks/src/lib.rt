@@ -1,5 +1,6 @@
 // The driver's check of the descriptors of a response to RT 0 from 0.
 #![tactic(auto)]
+
 ghost use Rattle.std.specs.Prelude.{◌≡◌};
 ghost use Rattle.text.specs.Reading.{desc_at};
 ghost use Rattle.reading.specs.Places.{descs};

@@ -1,5 +1,6 @@
 // GET CONFIGURATION as bytes, 10 of them, or 12 in an ATAPI packet: what is refused of it, what it asks for, and how a driver makes one.
 #![tactic(auto)]
+
 ghost use Rattle.std.specs.Prelude.{◌≡◌};
 ghost use Rattle.lent.specs.Maker.{outcome};
 ghost use Rattle.lent.specs.Wrote.{Wrote};

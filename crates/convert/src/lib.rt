@@ -1,5 +1,6 @@
 // A drive sheet laid out anew: rows become columns, columns become rows.
 #![tactic(auto)]
+
 ghost use Rattle.std.specs.Prelude.{◌≡◌};
 ghost use Rattle.lent.specs.Wrote.{Wrote};
 ghost use Rattle.lent.specs.Maker.{outcome};

@@ -9,7 +9,6 @@ use native.Mathlib.Omega.{arith}
 use lib.Dec.{ltb}
 use lib.ListN.{length, take}
 use Rattle.base.specs.Lists.{Bytes}
-use Rattle.base.proofs.Decided.{Outcome}
 use Rattle.base.proofs.Promise.{by, all_three}
 use Rattle.lent.specs.Maker as maker
 use Rattle.lent.proofs.Maker.{makes_fault}

@@ -9,7 +9,6 @@ use lib.ListN.{length, take, drop}
 use lib.Seq.{take-append_seam}
 use borrow.Author.Tests.{eqb-false}
 use Rattle.base.specs.Lists.{Bytes}
-use Rattle.base.proofs.Decided.{Outcome}
 use Rattle.text.specs.declared.Reading.{Reading}
 use Rattle.command.specs.Command.{rt_of, sfn_of, allocation_of, command_fault}
 use Rattle.refusal.specs.declared.Refusal.{Refusal}

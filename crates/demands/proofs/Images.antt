@@ -9,7 +9,6 @@ use native.Mathlib.Omega.{arith}
 use lib.Dec.{ltb}
 use lib.ListN.{length, take}
 use Rattle.base.specs.Lists.{Bytes}
-use Rattle.base.proofs.Decided.{Outcome}
 use Rattle.base.proofs.Promise.{all_three}
 use Rattle.refusal.specs.declared.Refusal.{Refusal}
 use Rattle.refusal.specs.First.{refuse, accept, ◌if◌else◌, ◌or_else◌}

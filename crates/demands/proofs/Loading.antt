@@ -11,7 +11,6 @@ use lib.Dec.{ltb, eqb}
 use lib.ListN.{length, get_or, take, replicate}
 use Rattle.base.specs.Lists.{each, flat, keep, Bytes}
 use Rattle.base.specs.Pick.{pick}
-use Rattle.base.proofs.Decided.{Outcome}
 use Rattle.base.proofs.Promise.{Promised, promises, by, both, all_three}
 use Rattle.fields.specs.Field.{field, spell}
 use Rattle.refusal.specs.declared.Refusal.{Refusal}

@@ -15,7 +15,6 @@ use lib.Seq.{take_at}
 use Rattle.base.specs.Lists.{flat, All, Bytes}
 use Rattle.base.specs.Pick.{pick}
 use Rattle.base.proofs.Bits.{below, below_all}
-use Rattle.base.proofs.Decided.{Outcome}
 use Rattle.base.proofs.Promise.{Promised, promises, by, both, all_three, Twice}
 use Rattle.fields.specs.Field.{field, spell}
 use Rattle.fields.proofs.Laws.{field_take}

@@ -6,7 +6,6 @@ use mathlib.Core.List.{List}
 use Prim.Native.Nat.{ℕ, ◌≤◌, ◌<◌}
 use lib.ListN.{take}
 use Rattle.base.specs.Lists.{Bytes}
-use Rattle.base.proofs.Decided.{Outcome}
 use Rattle.base.proofs.Promise.{Promised, promises, by, both, all_three, Twice}
 use Rattle.refusal.specs.declared.Refusal.{Refusal}
 use Rattle.refusal.specs.First.{accept, unless, ◌or_else◌}

@@ -13,7 +13,7 @@ use Rattle.base.proofs.Compare.{le_or_lt}
 use Rattle.text.specs.Drive.{Desc}
 use Rattle.text.specs.Response.{bytes}
 use Rattle.text.specs.Reading.{Walked, stated_end, number_at, length_at, desc_at, head_fault, walk, walked, read_fault, wholes}
-use Rattle.text.proofs.Walk.{walk_none, walk_few, walk_bad, walk_short, walk_step, read_fault_header, read_fault_walk, wholes_accepted}
+use Rattle.text.proofs.Walk.{walk_none, walk_few, walk_bad, walk_short, walk_step, read_fault_walk, wholes_accepted}
 use Rattle.text.proofs.Received.{Stand, length_desc_at, wholes_stand}
 use Rattle.descriptor.specs.declared.Standing.{Standing}
 use Rattle.descriptor.specs.Standing.{nothing_stands, whole_at, stands_at}

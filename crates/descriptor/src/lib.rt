@@ -1,5 +1,6 @@
 // One descriptor of received bytes: whether it stands whole at a place, its fields, and where the next one stands.
 #![tactic(auto)]
+
 ghost use Rattle.std.specs.Prelude.{◌≡◌};
 ghost use Rattle.descriptor.specs.Standing.{nothing_stands, stands_at};
 

@@ -1,5 +1,6 @@
 // Big-endian fields of a slice, read. A byte behind the end reads as 0; the accessors named `inside` are for a slice that has the bytes, and look at no end.
 #![tactic(auto)]
+
 ghost use Rattle.std.specs.Prelude.{◌≡◌, ◌+◌, ◌-◌, ◌≤◌, ◌<◌, leb, length, get_or, take, drop};
 ghost use Rattle.fields.specs.Field.{field};
 ghost use Rattle.fields.specs.Part.{PartOf};

@@ -1,5 +1,6 @@
 // Which bytes a text in hexadecimal spells, as `xxd`, `hexdump -C`, `od -A x -t x1`, `sg_raw`, `sg_get_config --hex` and C have it.
 #![tactic(auto)]
+
 ghost use Rattle.std.specs.Prelude.{◌≡◌, ◌+◌, ◌≤◌, ◌<◌, eqb, length};
 ghost use Rattle.std.proofs.lemmas.List.Edits.{sets};
 ghost use Rattle.hex_text.specs.Chars.{is_a, line_at, at as Chars·at, value as Chars·value, blank as Chars·blank, parts as Chars·parts, past as Chars·past, ends as Chars·ends};

@@ -1,28 +1,27 @@
 -- The boxes: what each states, and what comes of a header that is put over another. Assumes nothing.
 use mathlib.Core.Path.{◌≡◌, refl, sym, ap, ap₂, ◌∙◌}
-use mathlib.Core.Bool.{Bool, true, false, ◌&&◌, ◌||◌}
+use mathlib.Core.Bool.{Bool, true, false}
 use mathlib.Core.List.{List, [], ◌∷◌, ◌++◌}
-use Prim.Native.Nat.{ℕ, zero, suc, ◌+◌, ◌-◌, ◌*◌, ◌%◌, ◌^◌, ◌≤◌, ◌<◌, min}
+use Prim.Native.Nat.{ℕ, zero, suc, ◌+◌, ◌-◌, ◌*◌, ◌%◌, ◌≤◌, ◌<◌}
 use native.Mathlib.Numerals.{add-one}
 use native.Mathlib.Omega.{arith}
-use lib.Dec.{eqb, ltb}
+use lib.Dec.{eqb}
 use lib.ListN.{length, get_or, take, drop, replicate, length-append, length-drop, length-replicate}
-use lib.Seq.{sets, length-sets, length-take-le, take-append_seam, drop_at, take_at}
+use lib.Seq.{sets, length-take-le, take-append_seam, take_at}
 use borrow.Author.Tests.{eq-eqb, ne_eqb, lt-ltb, le-ltb}
 use Rattle.base.specs.Lists.{flat, each, Bytes}
 use Rattle.fields.specs.Field.{field}
 use Rattle.lent.specs.Wrote.{Wrote}
 use Rattle.lent.specs.declared.Made.{Made}
-use Rattle.lent.specs.Maker.{Outcome, outcome, written, making, makes}
+use Rattle.lent.specs.Maker.{Outcome, outcome, making}
 use Rattle.lent.proofs.Laws.{kept}
 use Rattle.lent.proofs.Maker.{makes_made}
 use Rattle.lent.proofs.Sets.{sets_out}
 use Rattle.refusal.specs.First.{accept, ◌if◌else◌}
-use Rattle.text.specs.Drive.{Listed, Drive}
 use Rattle.text.specs.Response.{bytes, selected, current_profile, header, data_length, full, most, sent}
-use Rattle.text.proofs.Sizes.{length_header, length_full, full_low, data_length_low}
+use Rattle.text.proofs.Sizes.{length_header, length_full, data_length_low}
 use Rattle.text.proofs.Sent.{length_sent}
-use Rattle.profiles.specs.Profiles.{listed, profiles_of, profile_number, profile_current}
+use Rattle.profiles.specs.Profiles.{listed, profile_number, profile_current}
 use Rattle.layout.specs.Layout.{Sheet}
 use Rattle.sheet.specs.Check.{Accepted}
 use Rattle.sheet.specs.Meaning.{meaning}
@@ -33,7 +32,7 @@ use Rattle.responder.specs.Trusting.{trusting}
 use Rattle.responder.proofs.Full.{found_length}
 use Rattle.responder.proofs.Trusting.{trusting_accepted}
 use Rattle.judge.specs.declared.Stated.{Stated}
-use Rattle.judge.specs.Boxes.{stating, sent_by, right, above, zero_for, raised, highest}
+use Rattle.judge.specs.Boxes.{stating, sent_by, above, zero_for, raised, highest}
 use Rattle.judge.specs.Verdict.{alone}
 
 -- ---- Data Length

@@ -6,15 +6,14 @@ use mathlib.Core.List.{List, [], ◌∷◌, ◌++◌, append-nil}
 use Prim.Native.Nat.{ℕ, zero, suc, ◌+◌, ◌-◌, ◌≤◌, ◌<◌, min}
 use native.Mathlib.Omega.{arith}
 use lib.Dec.{eqb}
-use lib.ListN.{length, take, drop, replicate, length-append, length-replicate, take-append-drop}
-use lib.Seq.{take_all, take-append_seam, drop_at}
-use borrow.Author.Tests.{eq-eqb, ne_eqb, eqb-true, eqb-false}
+use lib.ListN.{length, take, drop, replicate, length-append, take-append-drop}
+use lib.Seq.{take_all, drop_at}
+use borrow.Author.Tests.{eq-eqb, eqb-true, eqb-false}
 use Rattle.base.specs.Pick.{pick}
 use Rattle.base.proofs.Compare.{le_or_lt}
 use Rattle.base.specs.Lists.{All, flat}
 use Rattle.base.proofs.Lists.{all_map}
 use Rattle.fields.specs.Field.{spell}
-use Rattle.refusal.specs.declared.Refusal.{Refusal}
 use Rattle.refusal.specs.First.{refuse, ◌if◌else◌}
 use Rattle.command.specs.Command.{command_fault, command_of, rt_of, sfn_of, allocation_of}
 use Rattle.text.specs.Drive.{Drive}

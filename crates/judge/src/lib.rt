@@ -1,6 +1,7 @@
 // The judge of other people's boxes: a sheet, a recorded command and the response that a box gave to it, and the verdict. The right box makes its response in a scratch buffer,
 // and the two are compared; where they differ, boxes that get one thing wrong make theirs.
 #![tactic(auto)]
+
 ghost use Rattle.std.specs.Prelude.{◌≡◌, ◌≤◌, ◌<◌, ◌-◌, min, length, get_or, take, drop};
 ghost use Rattle.lent.specs.Wrote.{Wrote};
 ghost use Rattle.text.specs.Response.{selected, header, data_length, most, sent};

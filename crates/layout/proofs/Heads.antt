@@ -1,11 +1,10 @@
 -- The head of a descriptor, put together from where an entry's fields stand, and where its offset stands: with Laws and Contents the only laws that know the layouts. Assumes
 -- nothing.
 use mathlib.Core.Path.{◌≡◌, refl, sym, ap, ◌∙◌}
-use mathlib.Core.List.{List, [], ◌∷◌, ◌++◌, append-nil, append_assoc}
+use mathlib.Core.List.{List, [], ◌∷◌, ◌++◌, append_assoc}
 use Prim.Native.Nat.{ℕ, ◌+◌, ◌*◌, ◌-◌, ◌≤◌, ◌<◌}
 use native.Mathlib.Omega.{arith}
-use lib.ListN.{length, length-append, get_or, set, take, drop, replicate, length-take, length-drop, length-replicate, drop_of_length-le}
-use lib.Seq.{take-length}
+use lib.ListN.{length, length-append, get_or, set, take, drop}
 use Rattle.base.specs.Lists.{Bytes}
 use Rattle.base.proofs.Lists.{take_two, take_more}
 use Rattle.fields.specs.Field.{field, spell}

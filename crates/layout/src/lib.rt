@@ -1,5 +1,6 @@
 // Where a drive sheet's fields stand, read and written: nothing above this crate knows the layout of the contents. A field behind the sheet's end reads as 0.
 #![tactic(auto)]
+
 ghost use Rattle.std.specs.Prelude.{◌≡◌, ◌+◌, ◌*◌, ◌≤◌, ◌<◌, [], ◌∷◌, ◌++◌, length, get_or, set, take, drop};
 ghost use Rattle.fields.specs.Field.{spell};
 ghost use Rattle.fields.specs.Part.{PartOf};

@@ -1,5 +1,6 @@
 // What may stand in a body: the table of legal lengths and body bits, and the rules that check and mender share.
 #![tactic(auto)]
+
 ghost use Rattle.std.specs.Prelude.{◌≡◌, ◌||◌, ◌+◌, ◌≤◌, length, get_or};
 ghost use Rattle.fields.specs.Field.{field};
 ghost use Rattle.refusal.specs.First.{first_of};

@@ -1,6 +1,7 @@
 // Writing into lent memory. Every writer writes from an index on as far as the buffer has room, changes nothing else, and returns the
 // index behind what it wrote.
 #![tactic(auto)]
+
 ghost use Rattle.std.specs.Prelude.{◌≡◌, [], ◌∷◌, ◌+◌, ◌≤◌, leb, length, take, drop, replicate};
 ghost use Rattle.fields.specs.Field.{spell};
 ghost use Rattle.lent.specs.Wrote.{Wrote};

@@ -14,7 +14,6 @@ use Rattle.base.specs.Lists.{flat, All, Bytes}
 use Rattle.base.proofs.Compare.{le_or_lt}
 use Rattle.fields.specs.Field.{field}
 use Rattle.fields.proofs.Laws.{field_lt}
-use Rattle.text.specs.Flags.{version, persistent, current}
 use Rattle.text.specs.Drive.{Desc, Good}
 use Rattle.text.specs.Reading.{stated_length, stated_profile, stated_end, walked, read_fault}
 use Rattle.text.proofs.Walk.{wholes_accepted}

@@ -1,5 +1,6 @@
 // The listing of a response, as text in lent memory.
 #![tactic(auto)]
+
 ghost use Rattle.std.specs.Prelude.{◌≡◌, [], ◌∷◌, ◌<◌};
 ghost use Rattle.base.specs.Lists.{flat};
 ghost use Rattle.lent.specs.Wrote.{Wrote};

@@ -1,5 +1,6 @@
 // A medium goes in: the sheet as it leaves it.
 #![tactic(auto)]
+
 ghost use Rattle.std.specs.Prelude.{◌≡◌, true, not, ◌||◌, ℕ, ◌+◌, ◌*◌, ◌/◌, ◌≤◌, ◌<◌, eqb, length, get_or};
 ghost use Rattle.base.specs.Pick.{some};
 ghost use Rattle.text.specs.Drive.{bit};

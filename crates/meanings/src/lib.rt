@@ -1,6 +1,7 @@
 // What each number means, in words: the one table, from which the programs and `gcf_words` take them. A line for each number, from 0 on; one that is not given has
 // an empty line. It is a literal that is lent to a walk, so that it is read-only data.
 #![tactic(auto)]
+
 ghost use Rattle.std.specs.Prelude.{◌≡◌, ◌≤◌, length, drop};
 ghost use Rattle.lent.specs.Wrote.{Wrote};
 ghost use Rattle.meanings.specs.Lines.{lines_left, behind_lines, up_to_end, text_line};

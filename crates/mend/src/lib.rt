@@ -1,5 +1,6 @@
 // A captured response is mended: a copy without the faults that can be mended, and a list of the changes.
 #![tactic(auto)]
+
 ghost use Rattle.std.specs.Prelude.{◌≡◌, ◌&&◌, [], ◌∷◌, ◌+◌, ◌≤◌, ◌<◌, leb, length, take};
 ghost use Rattle.base.specs.Lists.{flat};
 ghost use Rattle.lent.specs.Wrote.{Wrote};

@@ -30,7 +30,7 @@ use Rattle.needs.specs.Judge.{Said, says_conforms, says_broken, wrong_number, is
 use Rattle.needs.specs.Alone.{judged_of}
 use Rattle.needs.specs.inner.Walk.{fit_number}
 use Rattle.needs.specs.inner.Refused.{column_fault}
-use Rattle.needs.specs.inner.Table.{line_at, lines_in}
+use Rattle.needs.specs.inner.Table.{line_at}
 use Rattle.needs.specs.inner.Alone.{no_need, line_in, line_list, says_one}
 use Rattle.needs.proofs.Rules.{and_true}
 use Rattle.needs.proofs.Judgements.{judge_passed}

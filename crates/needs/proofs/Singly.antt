@@ -1,20 +1,18 @@
 -- What is said of one feature, in other terms than the definition: that it breaks the profile, and for which reason, or that it does not. Assumes nothing.
-use mathlib.Core.Path.{◌≡◌, refl, sym, ap, subst, ◌∙◌}
+use mathlib.Core.Path.{◌≡◌, refl, sym, ap, ◌∙◌}
 use mathlib.Core.Bool.{false, true≢false}
 use mathlib.Core.List.{[], ◌∷◌, List}
-use Prim.Native.Nat.{ℕ, zero, suc, ◌+◌, ◌≤◌, ◌<◌}
+use Prim.Native.Nat.{ℕ, zero, suc}
 use native.Mathlib.Omega.{arith}
-use Rattle.refusal.specs.declared.Refusal.{Refusal}
 use Rattle.refusal.proofs.First.{unless_none}
 use Rattle.text.proofs.Received.{wholes_asc}
 use Rattle.reading.specs.Places.{descs}
 use Rattle.reading.specs.Completed.{complete_fault}
 use Rattle.needs.specs.declared.Wrong.{Wrong}
-use Rattle.needs.specs.declared.Judgement.TheVariants.{Refused}
 use Rattle.needs.specs.Required.{required, column_of}
-use Rattle.needs.specs.Judge.{Said, says, says_conforms, says_broken, said, wrong_number, wrong_in, lowest_from, judge_fault}
+use Rattle.needs.specs.Judge.{Said, says, says_conforms, says_broken, wrong_number, wrong_in, lowest_from, judge_fault}
 use Rattle.needs.specs.Alone.{judged_of}
-use Rattle.needs.proofs.Lowest.{Lowest, none_lowest, found_lowest, lowest_past, lowest_here}
+use Rattle.needs.proofs.Lowest.{none_lowest, found_lowest, lowest_past, lowest_here}
 use Rattle.needs.proofs.Judgements.{column_ascends}
 use Rattle.needs.proofs.Judgements.{judge_input}
 use Rattle.needs.proofs.Judged.{unrefused}

@@ -1,5 +1,6 @@
 // What a profile requires of a response to RT 0 from 0: one rule over one table.
 #![tactic(auto)]
+
 ghost use Rattle.std.specs.Prelude.{◌≡◌};
 ghost use Rattle.needs.specs.Judge.{wrong_number, said, judged};
 ghost use Rattle.needs.specs.Alone.{judged_of};

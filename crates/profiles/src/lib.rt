@@ -1,5 +1,6 @@
 // A list of profiles as bytes, four each: a sheet's profile part and the body of feature 0 are such a list.
 #![tactic(auto)]
+
 ghost use Rattle.std.specs.Prelude.{◌≡◌, ◌||◌, ◌+◌, ◌-◌, ◌*◌, ◌/◌, ◌%◌, ◌≤◌, ◌<◌, min, length, get_or};
 ghost use Rattle.text.specs.Response.{current_profile};
 ghost use Rattle.profiles.specs.Profiles.{profiles_of, lists, record_rule, record_fault, records_fault, stopped};

@@ -12,7 +12,7 @@ use Rattle.refusal.specs.declared.Refusal.{Refusal}
 use Rattle.refusal.specs.First.{accept}
 use Rattle.text.specs.declared.Feature.{Feature}
 use Rattle.text.specs.Response.{bytes}
-use Rattle.text.specs.Reading.{number_at, stated_length, stated_profile, header_rule, walk, walked, read_fault, taken, reading, wholes, last_number}
+use Rattle.text.specs.Reading.{number_at, stated_length, stated_profile, header_rule, walk, walked, read_fault, taken, wholes, last_number}
 use Rattle.refusal.proofs.First.{or_else_none, or_else_fault, unless_none, unless_fault}
 use Rattle.text.proofs.Walk.{header_rule_zero, wholes_refused, wholes_accepted}
 use Rattle.text.proofs.Received.{reading_fault, reading_none}

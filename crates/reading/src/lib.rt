@@ -1,5 +1,6 @@
 // The driver reads a response.
 #![tactic(auto)]
+
 ghost use Rattle.std.specs.Prelude.{◌≡◌, not, ◌&&◌, ◌+◌, ◌≤◌, ltb, leb, eqb, length, drop};
 ghost use Rattle.fields.specs.Part.{PartOf};
 ghost use Rattle.refusal.specs.First.{◌if◌else◌};

@@ -1,5 +1,6 @@
 // Why something is refused: the number and the place, and a name for each of the numbers. Definitions use the numbers, code uses the names.
 #![tactic(auto)]
+
 ghost use Rattle.std.specs.Prelude.{◌≡◌};
 ghost use Rattle.refusal.specs.First.{placed};
 

@@ -1,5 +1,6 @@
 // The box: a sheet, a command and a lent buffer in; the refusal or the count of bytes sent out.
 #![tactic(auto)]
+
 ghost use Rattle.std.specs.Prelude.{◌≡◌, ◌+◌, ◌-◌, ◌*◌, ◌%◌, ◌^◌, ◌≤◌, ◌<◌, length};
 ghost use Rattle.layout.specs.Layout.{stored};
 ghost use Rattle.layout.specs.declared.Layout.TheVariants.{Rows, Columns};

@@ -1,6 +1,7 @@
 // The ROM engine: a box that holds the complete response to RT 0 from 0 as an image, and no sheet. It walks to the first wanted feature, takes what it
 // passed over off Data Length, and copies what stands there.
 #![tactic(auto)]
+
 ghost use Rattle.std.specs.Prelude.{◌≡◌, ◌++◌, ◌+◌, ◌-◌, ◌≤◌, min, length};
 ghost use Rattle.fields.specs.Part.{PartOf};
 ghost use Rattle.lent.specs.Wrote.{Wrote};

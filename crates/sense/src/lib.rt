@@ -1,5 +1,6 @@
 // Sense data in fixed format: what the box tells a host that asks after a command, and what the driver makes of it.
 #![tactic(auto)]
+
 ghost use Rattle.std.specs.Prelude.{◌≡◌, [], ◌∷◌, ◌<◌, length, get_or};
 ghost use Rattle.refusal.specs.First.{accept};
 ghost use Rattle.lent.specs.Maker.{outcome, makes};

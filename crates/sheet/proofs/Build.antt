@@ -13,7 +13,7 @@ use Rattle.fields.proofs.Laws.{length_spell, bytes_spell, spell_field, field_her
 use Rattle.refusal.specs.declared.Refusal.{Refusal}
 use Rattle.text.specs.Drive.{Desc, Drive, Good, profile_bytes}
 use Rattle.layout.specs.declared.Layout.{Layout}
-use Rattle.layout.specs.Layout.{Sheet, sheet_size, features, profiles, feature_count, profile_count, number, flags, body_length, offset, profiles_in, profiles_part}
+use Rattle.layout.specs.Layout.{Sheet, sheet_size, features, profiles, feature_count, profile_count, number, body_length, offset, profiles_in, profiles_part}
 use Rattle.layout.specs.Contents.{entry_of, contents, Fits}
 use Rattle.layout.proofs.Contents.{length_contents, bytes_contents, entry_written, contents_back}
 use Rattle.sheet.specs.Check.{number_before, end_before_entry, flags_rule, Accepted}

@@ -8,7 +8,7 @@ use Rattle.base.specs.Lists.{each, Bytes}
 use Rattle.base.proofs.Lists.{bytes_drop, bytes_take, each_all}
 use Rattle.text.specs.Drive.{Desc, Good, Asc}
 use Rattle.profiles.proofs.Kept.{length_profiles_of, low_of, kept_distinct}
-use Rattle.layout.specs.Layout.{Sheet, feature_count, profile_count, number, flags, body_length, offset, profiles_part}
+use Rattle.layout.specs.Layout.{Sheet, feature_count, profile_count, number, body_length, offset, profiles_part}
 use Rattle.sheet.specs.Check.{number_before, flags_rule, Accepted}
 use Rattle.sheet.specs.Facts.{Facts}
 use Rattle.sheet.specs.Meaning.{desc, meaning, Fine}

@@ -14,7 +14,7 @@ use Rattle.refusal.proofs.First.{first_same}
 use Rattle.profiles.specs.Profiles.{records_fault, profiles_of}
 use Rattle.layout.specs.declared.Layout.{Layout}
 use Rattle.layout.specs.declared.Entry.{Entry}
-use Rattle.layout.specs.Layout.{Sheet, sheet_size, profiles, feature_count, profiles_at, number, flags, body_length, offset, profiles_in, profiles_part}
+use Rattle.layout.specs.Layout.{Sheet, sheet_size, feature_count, profiles_at, number, flags, body_length, offset, profiles_in, profiles_part}
 use Rattle.layout.specs.Contents.{entry_of, laid}
 use Rattle.layout.specs.Same.{SameSheet}
 use Rattle.layout.proofs.Laid.{laid_same, laid_back, laid_bytes}

@@ -1,5 +1,6 @@
 // The check of a drive sheet, and the search for an entry.
 #![tactic(auto)]
+
 ghost use Rattle.std.specs.Prelude.{◌≡◌, ◌-◌, ◌<◌, ltb, eqb};
 ghost use Rattle.layout.specs.declared.Layout.TheVariants.{Columns};
 ghost use Rattle.layout.specs.Layout.{stored, profiles};

@@ -1,5 +1,6 @@
 // The driver's sweep: one response at a time.
 #![tactic(auto)]
+
 ghost use Rattle.std.specs.Prelude.{◌≡◌, false, not, ◌-◌, ◌<◌};
 ghost use Rattle.text.specs.Response.{header_length};
 ghost use Rattle.sweep.specs.Sweep.{step, start_rule, started, ends_sweep, left_by, held_profile, advanced, turn, stepped};

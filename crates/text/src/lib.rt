@@ -1,5 +1,6 @@
 // The words of the T10 text that the code of every layer above shares.
 #![tactic(auto)]
+
 ghost use Rattle.std.specs.Prelude.{◌≡◌, not, eqb};
 ghost use Rattle.refusal.specs.First.{accept, ◌if◌else◌};
 ghost use Rattle.text.specs.Flags.{reserved, version, persistent, current, alone, odd, flags_giving};

@@ -1,7 +1,6 @@
 -- `abi::gcf_bench` meets its contract: what the bench sweep answers, and its two counts and its place told. Assumes nothing.
 use Rattle.abi.specs.Left.{show_benched}
 use mathlib.Core.Path.{ap}
-use borrow.Author.Rules.{rules}
 use Rattle.abi.proofs.gcf_bench.Goals as goal
 
 pub returns : goal.returns

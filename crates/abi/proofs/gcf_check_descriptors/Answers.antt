@@ -1,7 +1,6 @@
 -- `abi::gcf_check_descriptors` meets its contract: what the check finds, and the feature told. Assumes nothing.
 use Rattle.abi.specs.Left.{show_finding}
 use mathlib.Core.Path.{ap}
-use borrow.Author.Rules.{rules}
 use Rattle.abi.proofs.gcf_check_descriptors.Goals as goal
 
 pub returns : goal.returns

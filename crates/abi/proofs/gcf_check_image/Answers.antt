@@ -2,7 +2,6 @@
 use Rattle.abi.specs.Left.{show_verdict}
 use mathlib.Core.Path.{ap}
 use Rattle.capture.proofs.Checked.{capture_refusal}
-use borrow.Author.Rules.{rules}
 use Rattle.abi.proofs.gcf_check_image.Goals as goal
 
 pub returns : goal.returns

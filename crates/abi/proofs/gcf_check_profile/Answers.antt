@@ -2,7 +2,6 @@
 use Rattle.abi.specs.Left.{show_judged}
 use Rattle.needs.specs.Judge.{said}
 use mathlib.Core.Path.{ap, sym, ◌∙◌}
-use borrow.Author.Rules.{rules}
 use Rattle.abi.proofs.gcf_check_profile.Goals as goal
 
 pub returns-in-Conforms : goal.returns-in-Conforms

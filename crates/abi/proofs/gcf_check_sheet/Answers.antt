@@ -1,7 +1,6 @@
 -- `abi::gcf_check_sheet` meets its contract: what the check answers, and its place told. Assumes nothing.
 use Rattle.abi.specs.Left.{show_verdict}
 use mathlib.Core.Path.{ap}
-use borrow.Author.Rules.{rules}
 use Rattle.abi.proofs.gcf_check_sheet.Goals as goal
 
 pub returns : goal.returns

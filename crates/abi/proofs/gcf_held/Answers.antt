@@ -1,5 +1,4 @@
 -- `abi::gcf_held` meets its contract: the part that is held, copied. Assumes nothing.
-use borrow.Author.Rules.{rules}
 use Rattle.abi.proofs.gcf_held.Goals as goal
 
 pub returns : goal.returns

@@ -6,7 +6,6 @@ use Rattle.judge.specs.Verdict.{Judgement, judgement}
 use Rattle.judge.specs.declared.Verdict.{Verdict}
 use Rattle.abi.specs.declared.Telling.{Telling}
 use Rattle.abi.specs.Left.{telling, show_telling, show_judgement}
-use borrow.Author.Rules.{rules}
 use Rattle.abi.proofs.gcf_judge.Goals as goal
 
 -- a verdict v that is told, and the buffer d

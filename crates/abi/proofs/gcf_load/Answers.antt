@@ -1,7 +1,6 @@
 -- `abi::gcf_load` meets its contract: what loading answers, its count and its place told. Assumes nothing.
 use Rattle.abi.specs.Left.{show_made}
 use mathlib.Core.Path.{ap}
-use borrow.Author.Rules.{rules}
 use Rattle.abi.proofs.gcf_load.Goals as goal
 
 pub returns : goal.returns

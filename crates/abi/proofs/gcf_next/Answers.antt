@@ -1,7 +1,6 @@
 -- `abi::gcf_next` meets its contract: what stands at the place, and its fields told. Assumes nothing.
 use Rattle.abi.specs.Left.{show_next}
 use mathlib.Core.Path.{ap}
-use borrow.Author.Rules.{rules}
 use Rattle.abi.proofs.gcf_next.Goals as goal
 
 pub returns : goal.returns

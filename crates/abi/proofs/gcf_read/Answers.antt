@@ -1,7 +1,6 @@
 -- `abi::gcf_read` meets its contract: what the reading gives, told. Assumes nothing.
 use Rattle.abi.specs.Left.{show_read}
 use mathlib.Core.Path.{ap}
-use borrow.Author.Rules.{rules}
 use Rattle.abi.proofs.gcf_read.Goals as goal
 
 pub returns : goal.returns

@@ -3,7 +3,6 @@ use Rattle.abi.specs.Left.{left, kind_told, show_sensed}
 use Rattle.sense.specs.Sense.{heard}
 use mathlib.Core.List.{[], ◌∷◌}
 use mathlib.Core.Path.{ap, sym, ◌∙◌}
-use borrow.Author.Rules.{rules}
 use Rattle.abi.proofs.gcf_read_sense.Goals as goal
 
 pub returns-in-Means : goal.returns-in-Means

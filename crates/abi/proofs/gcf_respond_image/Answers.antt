@@ -1,7 +1,6 @@
 -- `abi::gcf_respond_image` meets its contract: what the box with an image answers, its count and its place told. Assumes nothing.
 use Rattle.abi.specs.Left.{show_made}
 use mathlib.Core.Path.{ap}
-use borrow.Author.Rules.{rules}
 use Rattle.abi.proofs.gcf_respond_image.Goals as goal
 
 pub returns : goal.returns

@@ -1,7 +1,6 @@
 -- `abi::gcf_respond_image_accepted` meets its contract: what the box answers that does not check its image, its count and its place told. Assumes nothing.
 use Rattle.abi.specs.Left.{show_made}
 use mathlib.Core.Path.{ap}
-use borrow.Author.Rules.{rules}
 use Rattle.abi.proofs.gcf_respond_image_accepted.Goals as goal
 
 pub returns : goal.returns

@@ -1,7 +1,6 @@
 -- `abi::gcf_stops` meets its contract: where the reading stops, told. Assumes nothing.
 use Rattle.abi.specs.Left.{show_stop}
 use mathlib.Core.Path.{ap}
-use borrow.Author.Rules.{rules}
 use Rattle.abi.proofs.gcf_stops.Goals as goal
 
 pub returns : goal.returns

@@ -2,7 +2,6 @@
 use mathlib.Core.Path.{◌≡◌, sym, ap, ◌∙◌}
 use Prim.Native.Nat.{ℕ}
 use Rattle.abi.specs.Left.{tells, telling}
-use borrow.Author.Rules.{rules}
 use Rattle.abi.proofs.tell.Goals as goal
 
 same-mistake : {k n m : ℕ} → n ≡ m → tells 0 4 k n 0 0 ≡ tells 0 4 k m 0 0

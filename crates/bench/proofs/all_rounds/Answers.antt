@@ -1,19 +1,14 @@
 -- `bench::all_rounds` meets its contract: the loop carries the run from where it stands, the first entry and the bytes that are left, and how many of the
 -- response buffer can be dirty; a refused round, or the mark that it has ended, ends it.
-use mathlib.Core.Path.{◌≡◌, sym, ◌∙◌}
-use mathlib.Core.Bool.{false}
-use Prim.Native.Nat.{◌-◌}
+use mathlib.Core.Path.{sym, ◌∙◌}
 use native.Mathlib.Omega.{arith}
 use borrow.Author.Tests.{not-true}
 use Rattle.base.specs.Lists.{Bytes}
 use Rattle.layout.specs.Layout.{stored}
-use Rattle.sheet.specs.Meaning.{meaning}
 use Rattle.sheet.proofs.Meaning.{meaning_fine}
 use Rattle.responder.specs.inner.Index.{taken_from}
-use Rattle.bench.specs.Bench.{buffers, state}
-use Rattle.bench.proofs.Carried.{Carried, clean_all, taken_wanted, first_left}
-use Rattle.bench.proofs.Loop.{Standing, standing_start, standing_room, standing_kept, standing_fault, standing_again, standing_less, standing_ended, along_gains, along_within, along_forward, along_again}
-use borrow.Author.Rules.{rules}
+use Rattle.bench.proofs.Carried.{clean_all, taken_wanted, first_left}
+use Rattle.bench.proofs.Loop.{standing_start, standing_room, standing_kept, standing_fault, standing_again, standing_less, standing_ended, along_gains, along_within, along_forward, along_again}
 use Rattle.bench.proofs.all_rounds.Goals as goal
 
 pub loop-sweep-init : goal.loop-sweep-init

@@ -2,7 +2,6 @@
 use Rattle.layout.specs.Layout.{stored}
 use Rattle.bench.specs.Bench.{buffers}
 use Rattle.bench.proofs.Loop.{bench_first, bench_ready, bench_later, bench_done}
-use borrow.Author.Rules.{rules}
 use Rattle.bench.proofs.bench.Goals as goal
 
 pub returns-then-fault-ne0 : goal.returns-then-fault-ne0

@@ -4,7 +4,6 @@ use Rattle.refusal.proofs.First.{tests}
 use Rattle.sweep.specs.declared.Step.{Step}
 use Rattle.sweep.proofs.Numbers.{start_refusal}
 use Rattle.bench.specs.Bench.{first_fault}
-use borrow.Author.Rules.{rules}
 use Rattle.bench.proofs.first_fault.Goals as goal
 
 pub returns-then-fault-ne0 : goal.returns-then-fault-ne0

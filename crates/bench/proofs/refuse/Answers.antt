@@ -1,6 +1,5 @@
 -- `bench::refuse` meets its contract: all three buffers are set to zero.
 use Rattle.bench.specs.Bench.{zeros, failing}
-use borrow.Author.Rules.{rules}
 use Rattle.bench.proofs.refuse.Goals as goal
 
 pub returns : goal.returns

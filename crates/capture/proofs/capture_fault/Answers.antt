@@ -1,6 +1,5 @@
 -- `capture::capture_fault` meets its contract: each early return is a case of the definition.
 use Rattle.capture.proofs.Faults.{capture_refused, capture_own, own_there, own_most, own_odd, capture_sheet}
-use borrow.Author.Rules.{rules}
 use Rattle.capture.proofs.capture_fault.Goals as goal
 
 pub returns-then-refused-ne0 : goal.returns-then-refused-ne0

@@ -1,7 +1,6 @@
 -- `capture::check` meets its contract: the refusal, or the count of what was read.
 use native.Mathlib.Omega.{arith}
 use Rattle.capture.proofs.Checked.{judged_parts, check_refused, check_count, check_accepted}
-use borrow.Author.Rules.{rules}
 use Rattle.capture.proofs.check.Goals as goal
 
 pub capture_fault-fault-requires : goal.capture_fault-fault-requires

@@ -1,11 +1,6 @@
 -- `capture::flags_fault` meets its contract: the loop carries what is left of the search.
-use borrow.Author.Rules.{rules}
-use Prim.Native.Nat.{◌+◌, ◌-◌, ◌*◌, ◌≤◌}
 use native.Mathlib.Omega.{arith}
-use mathlib.Core.Path.{◌≡◌, refl}
-use lib.ListN.{length}
-use Rattle.capture.specs.Capture.{flags_faults}
-use Rattle.reading.specs.inner.Between.{from}
+use mathlib.Core.Path.{refl}
 use Rattle.reading.proofs.Places.{from_less}
 use Rattle.capture.proofs.Faults.{flags_stop, flags_go, flags_none, place_next}
 use Rattle.capture.proofs.flags_fault.Goals as goal

@@ -1,13 +1,9 @@
 -- `capture::flags_fault` meets its contract: the loop carries what is left of the search.
-use borrow.Author.Rules.{rules}
 use Prim.Native.Nat.{◌+◌, ◌-◌, ◌*◌, ◌≤◌}
-use native.Mathlib.Omega.{arith}
-use mathlib.Core.Path.{◌≡◌, refl}
+use mathlib.Core.Path.{◌≡◌}
 use lib.ListN.{length}
 use Rattle.capture.specs.Capture.{flags_faults}
 use Rattle.reading.specs.inner.Between.{from}
-use Rattle.reading.proofs.Places.{from_less}
-use Rattle.capture.proofs.Faults.{flags_stop, flags_go, flags_none, place_next}
 use Rattle.capture.proofs.flags_fault.Given as goal
 
 abbrev pub invariant-loop-at : goal.invariant-loop-at

@@ -1,7 +1,6 @@
 -- `capture::own_fault` meets its contract: each early return is a case of the rule.
 use Rattle.refusal.proofs.First.{tests}
 use Rattle.capture.proofs.Faults.{own_none, own_some}
-use borrow.Author.Rules.{rules}
 use Rattle.capture.proofs.own_fault.Goals as goal
 
 pub returns-then-s-le-LENGTH : goal.returns-then-s-le-LENGTH

@@ -1,6 +1,5 @@
 -- `capture::sheet_fault` meets its contract: the profiles' refusal, none where no flags are odd, or the flags'.
 use Rattle.capture.proofs.Faults.{sheet_profiles, sheet_clean, sheet_flags, body_records}
-use borrow.Author.Rules.{rules}
 use native.Mathlib.Omega.{arith}
 use Rattle.capture.proofs.sheet_fault.Goals as goal
 

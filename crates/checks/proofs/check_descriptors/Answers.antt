@@ -2,7 +2,6 @@
 use Rattle.checks.specs.Check.{checked}
 use Rattle.reading.proofs.Completed.{complete_numbered, number_zero}
 use Rattle.checks.proofs.Findings.{next_none, next_call}
-use borrow.Author.Rules.{rules}
 use Rattle.checks.proofs.check_descriptors.Goals as goal
 
 pub returns-then-number-ne0 : goal.returns-then-number-ne0

@@ -1,6 +1,5 @@
 -- `checks::fault_at` meets its contract: the rules at what stands there.
 use Rattle.text.specs.Reading.{desc_at}
-use borrow.Author.Rules.{rules}
 use Rattle.checks.proofs.fault_at.Goals as goal
 
 pub returns : goal.returns

@@ -1,5 +1,4 @@
 -- `checks::first_fault` meets its contract: the loop carries what is left of the search.
-use borrow.Author.Rules.{rules}
 use Prim.Native.Nat.{◌-◌}
 use mathlib.Core.Bool.{not}
 use mathlib.Core.Path.{◌≡◌}
@@ -8,14 +7,10 @@ use lib.ListN.{length}
 use Rattle.base.specs.Pick.{pick}
 use Rattle.reading.specs.Places.{descs}
 use Rattle.reading.specs.inner.Between.{from}
-use Rattle.reading.proofs.Places.{from_less}
-use Rattle.reading.proofs.Loops.{Here, four_in, here_start, here_next, here_end, walk_start, walk_found, walk_next, walk_end}
-use Rattle.refusal.proofs.Calls.{call_some, call_zero}
+use Rattle.reading.proofs.Loops.{Here}
 use Rattle.refusal.specs.First.{accept}
-use Rattle.text.specs.Reading.{desc_at}
 use Rattle.checks.specs.Rules.{desc_fault}
 use Rattle.checks.specs.Check.{finding, first_finding}
-use Rattle.checks.proofs.Findings.{finding_eq}
 use Rattle.checks.proofs.first_fault.Given as goal
 
 abbrev pub invariant-loop-at : goal.invariant-loop-at

@@ -2,7 +2,6 @@
 use mathlib.Core.Path.{refl}
 use Rattle.layout.specs.Layout.{stored}
 use Rattle.convert.proofs.Converted.{refused_first, refused_short, laid_out, has_room}
-use borrow.Author.Rules.{rules}
 use Rattle.convert.proofs.convert.Goals as goal
 
 pub returns-then-fault-ne0 : goal.returns-then-fault-ne0

@@ -7,7 +7,6 @@ use lib.Seq.{take_all}
 use Rattle.lent.proofs.Laws.{then}
 use Rattle.layout.specs.Layout.{features, profiles_behind}
 use Rattle.layout.specs.Contents.{laid}
-use borrow.Author.Rules.{rules}
 use Rattle.convert.proofs.put_laid.Goals as goal
 
 pub returns : goal.returns

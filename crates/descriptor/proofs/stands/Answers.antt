@@ -1,6 +1,5 @@
 -- `descriptor::stands` meets its contract: too few bytes, or the four fields. Assumes nothing.
 use Rattle.descriptor.proofs.Laws.{short_response, short_head, short_body, whole_body}
-use borrow.Author.Rules.{rules}
 use Rattle.descriptor.proofs.stands.Goals as goal
 
 pub returns-then-s-lt4 : goal.returns-then-s-lt4

@@ -1,7 +1,6 @@
 -- `fields::get3` meets its contract: byte by byte where the slice has all of them, else by the law of a field whose last byte lies behind the end.
 use Rattle.fields.proofs.Laws.{field_one, field_last, field_short}
 use native.Mathlib.Omega.{arith}
-use borrow.Author.Rules.{rules}
 use Rattle.fields.proofs.get3.Goals as goal
 
 pub returns-then-left-ge3 : goal.returns-then-left-ge3

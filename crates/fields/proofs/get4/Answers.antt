@@ -1,7 +1,6 @@
 -- `fields::get4` meets its contract: where the slice has not all of the bytes, by the law of a field whose last byte lies behind the end.
 use Rattle.fields.proofs.Laws.{field_short, field_lt}
 use native.Mathlib.Omega.{arith}
-use borrow.Author.Rules.{rules}
 use Rattle.fields.proofs.get4.Goals as goal
 
 pub overflow_mul-result : goal.overflow_mul-result

@@ -1,7 +1,6 @@
 -- `fields::inside2` meets its contract: byte by byte.
 use Rattle.fields.proofs.Laws.{field_one, field_last}
 use native.Mathlib.Omega.{arith}
-use borrow.Author.Rules.{rules}
 use Rattle.fields.proofs.inside2.Goals as goal
 
 pub returns : goal.returns

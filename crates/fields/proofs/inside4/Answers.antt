@@ -1,7 +1,6 @@
 -- `fields::inside4` meets its contract: byte by byte.
 use Rattle.fields.proofs.Laws.{field_one, field_last}
 use native.Mathlib.Omega.{arith}
-use borrow.Author.Rules.{rules}
 use Rattle.fields.proofs.inside4.Goals as goal
 
 pub returns : goal.returns

@@ -3,7 +3,6 @@ use native.Mathlib.Nat.{add-sub_cancel_left}
 use native.Mathlib.Omega.{arith}
 use mathlib.Core.Path.{refl}
 use Rattle.fields.proofs.Laws.{part_none, part_rest}
-use borrow.Author.Rules.{rules}
 use Rattle.fields.proofs.part.Goals as goal
 
 pub returns-then-s-at : goal.returns-then-s-at

@@ -1,4 +1,4 @@
--- `hex::at` meets its contract: the character, or the end of a line behind the text. Assumes nothing.
+-- `hex_text::at` meets its contract: the character, or the end of a line behind the text. Assumes nothing.
 use Rattle.hex_text.proofs.Cases.{tests}
 use Rattle.hex_text.specs.Chars.{at}
 use borrow.Author.Rules.{rules}

@@ -1,7 +1,7 @@
--- `hex::bar` meets its contract: each early return is a case of the definition. Assumes nothing.
+-- `hex_text::bar` meets its contract: each early return is a case of the definition. Assumes nothing.
 use borrow.Author.Tests.{eq-eqb, ne_eqb}
 use Rattle.hex_text.proofs.Cases.{Y, N}
-use Rattle.hex_text.specs.Steps.{broken, bar}
+use Rattle.hex_text.specs.Steps.{bar}
 use borrow.Author.Rules.{rules}
 use Rattle.hex_text.proofs.bar.Goals as goal
 

@@ -1,9 +1,8 @@
--- `hex::between` meets its contract: each early return is a case of the definition. Assumes nothing.
+-- `hex_text::between` meets its contract: each early return is a case of the definition. Assumes nothing.
 use borrow.Author.Tests.{eq-eqb, ne_eqb}
 use mathlib.Core.Path.{sym, ◌∙◌}
 use Rattle.hex_text.proofs.Cases.{Y, N}
-use Rattle.hex_text.specs.Steps.{on, broken, space, bar, between}
-use borrow.Author.Rules.{rules}
+use Rattle.hex_text.specs.Steps.{between}
 use Rattle.hex_text.proofs.between.Goals as goal
 
 pub returns-then-blank : goal.returns-then-blank

@@ -1,4 +1,4 @@
--- `hex::blank` meets its contract: each early return is a case of the definition. Assumes nothing.
+-- `hex_text::blank` meets its contract: each early return is a case of the definition. Assumes nothing.
 use Rattle.hex_text.proofs.Cases.{tests}
 use Rattle.hex_text.specs.Chars.{blank}
 use Rattle.hex_text.proofs.blank.Goals as goal

@@ -1,5 +1,4 @@
--- `hex::broken` meets its contract: the state goes on, and the line is none. Assumes nothing.
-use borrow.Author.Rules.{rules}
+-- `hex_text::broken` meets its contract: the state goes on, and the line is none. Assumes nothing.
 use mathlib.Core.Bool.{true}
 use mathlib.Core.Path.{ap}
 use Rattle.hex_text.specs.declared.Effect.{Effect}

@@ -1,9 +1,8 @@
--- `hex::char` meets its contract: each early return is a case of the definition. Assumes nothing.
+-- `hex_text::char` meets its contract: each early return is a case of the definition. Assumes nothing.
 use borrow.Author.Tests.{eq-eqb, ne_eqb}
 use mathlib.Core.Path.{ap, ◌∙◌}
 use Rattle.hex_text.proofs.Cases.{Y, N, call_lt, call_le}
-use Rattle.hex_text.specs.Steps.{digit, newline, other, char}
-use borrow.Author.Rules.{rules}
+use Rattle.hex_text.specs.Steps.{digit, char}
 use Rattle.hex_text.proofs.char.Goals as goal
 
 pub returns-then-c-eq10 : goal.returns-then-c-eq10

@@ -1,4 +1,4 @@
--- `hex::digit` meets its contract: each early return is a case of the definition. Assumes nothing.
+-- `hex_text::digit` meets its contract: each early return is a case of the definition. Assumes nothing.
 use Rattle.hex_text.proofs.Cases.{tests}
 use Rattle.hex_text.specs.Steps.{digit}
 use borrow.Author.Rules.{rules}

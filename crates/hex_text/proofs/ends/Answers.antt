@@ -1,4 +1,4 @@
--- `hex::ends` meets its contract: each early return is a case of the definition. Assumes nothing.
+-- `hex_text::ends` meets its contract: each early return is a case of the definition. Assumes nothing.
 use Rattle.hex_text.proofs.Cases.{tests}
 use Rattle.hex_text.specs.Chars.{ends}
 use borrow.Author.Rules.{rules}

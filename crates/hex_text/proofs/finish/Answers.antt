@@ -1,6 +1,5 @@
--- `hex::finish` meets its contract: half a byte is none. Assumes nothing.
+-- `hex_text::finish` meets its contract: half a byte is none. Assumes nothing.
 use Rattle.hex_text.proofs.Puts.{finish_half, finish_whole}
-use borrow.Author.Rules.{rules}
 use Rattle.hex_text.proofs.finish.Goals as goal
 
 pub returns-then-q-lt16 : goal.returns-then-q-lt16

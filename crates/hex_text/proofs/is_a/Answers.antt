@@ -1,10 +1,9 @@
--- `hex::is_a` meets its contract: the test of each class. Assumes nothing.
+-- `hex_text::is_a` meets its contract: the test of each class. Assumes nothing.
 use Prim.Native.Nat.{ℕ}
 use lib.Dec.{ltb}
 use mathlib.Core.Path.{sym, ap, ◌∙◌}
-use Rattle.hex_text.specs.Chars.{is_a, value, blank}
+use Rattle.hex_text.specs.Chars.{is_a}
 use Rattle.hex_text.specs.declared.Class.{Class}
-use borrow.Author.Rules.{rules}
 use Rattle.hex_text.proofs.is_a.Goals as goal
 
 pub returns-in-Blank : goal.returns-in-Blank

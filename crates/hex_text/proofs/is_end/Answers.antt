@@ -1,12 +1,10 @@
--- `hex::is_end` meets its contract: each early return is a case of the definition. Assumes nothing.
+-- `hex_text::is_end` meets its contract: each early return is a case of the definition. Assumes nothing.
 use Prim.Native.Nat.{ℕ}
-use borrow.Author.Tests.{le-leb, lt-leb, not-true, not-false}
+use borrow.Author.Tests.{le-leb, lt-leb}
 use lib.Dec.{eqb}
 use mathlib.Core.Path.{refl, ap}
 use Rattle.hex_text.proofs.Cases.{Y, N}
-use Rattle.hex_text.specs.Chars.{at}
 use Rattle.hex_text.specs.Front.{is_end}
-use borrow.Author.Rules.{rules}
 use Rattle.hex_text.proofs.is_end.Goals as goal
 
 pub returns-then-not-dump : goal.returns-then-not-dump

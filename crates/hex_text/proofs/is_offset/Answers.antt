@@ -1,10 +1,10 @@
--- `hex::is_offset` meets its contract: each early return is a case of the definition. Assumes nothing.
+-- `hex_text::is_offset` meets its contract: each early return is a case of the definition. Assumes nothing.
 use Prim.Native.Nat.{ℕ}
 use borrow.Author.Tests.{lt-leb}
 use lib.Dec.{ltb}
 use mathlib.Core.Path.{ap, ◌∙◌}
 use Rattle.hex_text.proofs.Cases.{N, tests}
-use Rattle.hex_text.specs.Chars.{at, value}
+use Rattle.hex_text.specs.Chars.{value}
 use Rattle.hex_text.specs.Front.{is_offset}
 use borrow.Author.Rules.{rules}
 use Rattle.hex_text.proofs.is_offset.Goals as goal

@@ -1,12 +1,11 @@
--- `hex::is_said` meets its contract: each early return is a case of the definition. Assumes nothing.
+-- `hex_text::is_said` meets its contract: each early return is a case of the definition. Assumes nothing.
 use Prim.Native.Nat.{ℕ}
 use borrow.Author.Tests.{eq-eqb, ne_eqb}
 use lib.Dec.{eqb}
 use mathlib.Core.Path.{refl, sym, ap, ◌∙◌}
 use Rattle.hex_text.proofs.Cases.{Y, N}
-use Rattle.hex_text.specs.Chars.{at, blank, past}
+use Rattle.hex_text.specs.Chars.{at, blank}
 use Rattle.hex_text.specs.Front.{is_said}
-use borrow.Author.Rules.{rules}
 use Rattle.hex_text.proofs.is_said.Goals as goal
 
 pub returns-then-c-eq125 : goal.returns-then-c-eq125

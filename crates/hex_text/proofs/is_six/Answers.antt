@@ -1,11 +1,9 @@
--- `hex::is_six` meets its contract: each early return is a case of the definition. Assumes nothing.
+-- `hex_text::is_six` meets its contract: each early return is a case of the definition. Assumes nothing.
 use Prim.Native.Nat.{ℕ, ◌+◌}
-use borrow.Author.Tests.{not-true, not-false}
 use lib.Dec.{leb, eqb}
 use mathlib.Core.Path.{refl, sym, ap, ◌∙◌}
 use Rattle.hex_text.proofs.Cases.{Y, N}
 use Rattle.hex_text.specs.Front.{is_six}
-use borrow.Author.Rules.{rules}
 use Rattle.hex_text.proofs.is_six.Goals as goal
 
 pub returns-then-not-is_sum : goal.returns-then-not-is_sum

@@ -1,4 +1,4 @@
--- `hex::is_sum` meets its contract: the difference is what the sum has more. Assumes nothing.
+-- `hex_text::is_sum` meets its contract: the difference is what the sum has more. Assumes nothing.
 use mathlib.Core.Path.{◌≡◌, refl, sym, ◌∙◌}
 use mathlib.Core.Bool.{Bool, true, false}
 use Prim.Native.Nat.{ℕ, ◌+◌, ◌-◌, ◌≤◌, ◌<◌}

@@ -1,9 +1,8 @@
--- `hex::is_words` meets its contract: each early return is a case of the definition. Assumes nothing.
+-- `hex_text::is_words` meets its contract: each early return is a case of the definition. Assumes nothing.
 use mathlib.Core.Path.{refl, sym, ap, ◌∙◌}
 use Rattle.hex_text.proofs.Cases.{Y, N, call_lt, call_le}
-use Rattle.hex_text.specs.Chars.{at, value, parts}
+use Rattle.hex_text.specs.Chars.{value, parts}
 use Rattle.hex_text.specs.Front.{is_words}
-use borrow.Author.Rules.{rules}
 use Rattle.hex_text.proofs.is_words.Goals as goal
 
 pub returns-then-parts : goal.returns-then-parts

@@ -1,8 +1,6 @@
--- `hex::line_at` meets its contract: the loop has counted the lines passed. Assumes nothing.
-use Prim.Native.Nat.{◌+◌, ◌-◌, ◌≤◌}
-use mathlib.Core.Path.{◌≡◌, sym}
+-- `hex_text::line_at` meets its contract: the loop has counted the lines passed. Assumes nothing.
+use mathlib.Core.Path.{sym}
 use Rattle.hex_text.proofs.Lines.{line_first, line_more, line_at_end}
-use Rattle.hex_text.specs.Chars.{line_at}
 use borrow.Author.Rules.{rules}
 use Rattle.hex_text.proofs.line_at.Goals as goal
 

@@ -1,9 +1,7 @@
--- `hex::line_at` meets its contract: the loop has counted the lines passed. Assumes nothing.
+-- `hex_text::line_at` meets its contract: the loop has counted the lines passed. Assumes nothing.
 use Prim.Native.Nat.{◌+◌, ◌-◌, ◌≤◌}
-use mathlib.Core.Path.{◌≡◌, sym}
-use Rattle.hex_text.proofs.Lines.{line_first, line_more, line_at_end}
+use mathlib.Core.Path.{◌≡◌}
 use Rattle.hex_text.specs.Chars.{line_at}
-use borrow.Author.Rules.{rules}
 use Rattle.hex_text.proofs.line_at.Given as goal
 
 abbrev pub invariant-loop-k : goal.invariant-loop-k

@@ -1,10 +1,9 @@
--- `hex::newline` meets its contract: each early return is a case of the definition. Assumes nothing.
+-- `hex_text::newline` meets its contract: each early return is a case of the definition. Assumes nothing.
 use borrow.Author.Tests.{lt-ltb, le-ltb}
 use mathlib.Core.Path.{ap, ◌∙◌}
 use Rattle.hex_text.proofs.Cases.{Y, N}
-use Rattle.hex_text.specs.Steps.{on, broken, newline}
+use Rattle.hex_text.specs.Steps.{on, newline}
 use Rattle.hex_text.specs.declared.State.{State}
-use borrow.Author.Rules.{rules}
 use Rattle.hex_text.proofs.newline.Goals as goal
 
 pub returns-then-q-lt16 : goal.returns-then-q-lt16

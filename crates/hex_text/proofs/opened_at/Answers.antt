@@ -1,11 +1,9 @@
--- `hex::opened_at` meets its contract: each early return is a case of the definition. Assumes nothing.
+-- `hex_text::opened_at` meets its contract: each early return is a case of the definition. Assumes nothing.
 use Prim.Native.Nat.{ℕ}
 use mathlib.Core.Bool.{true}
 use mathlib.Core.Path.{sym, ap, ◌∙◌}
 use Rattle.hex_text.proofs.Cases.{Y, N}
-use Rattle.hex_text.specs.Chars.{at, past}
 use Rattle.hex_text.specs.Front.{fresh, width, opened_at}
-use borrow.Author.Rules.{rules}
 use Rattle.hex_text.proofs.opened_at.Goals as goal
 
 pub returns-then-is_offset : goal.returns-then-is_offset

@@ -1,7 +1,7 @@
--- `hex::other` meets its contract: each early return is a case of the definition. Assumes nothing.
+-- `hex_text::other` meets its contract: each early return is a case of the definition. Assumes nothing.
 use borrow.Author.Tests.{lt-ltb, le-ltb}
 use Rattle.hex_text.proofs.Cases.{Y, N}
-use Rattle.hex_text.specs.Steps.{prefix, between, other}
+use Rattle.hex_text.specs.Steps.{other}
 use borrow.Author.Rules.{rules}
 use Rattle.hex_text.proofs.other.Goals as goal
 

@@ -1,11 +1,7 @@
--- `hex::past` meets its contract: the loop carries what is left to look at. Assumes nothing.
-use Prim.Native.Nat.{◌-◌}
-use lib.ListN.{length}
-use mathlib.Core.Path.{◌≡◌, refl}
+-- `hex_text::past` meets its contract: the loop carries what is left to look at. Assumes nothing.
+use mathlib.Core.Path.{refl}
 use Rattle.std.proofs.lemmas.Bool.{not_from_true, not_from_false}
 use Rattle.hex_text.proofs.Runs.{past_stops, past_goes, past_ends}
-use Rattle.hex_text.specs.Chars.{past}
-use borrow.Author.Rules.{rules}
 use Rattle.hex_text.proofs.past.Goals as goal
 
 pub loop-i-init : goal.loop-i-init

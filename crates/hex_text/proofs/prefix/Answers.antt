@@ -1,7 +1,7 @@
--- `hex::prefix` meets its contract: each early return is a case of the definition. Assumes nothing.
+-- `hex_text::prefix` meets its contract: each early return is a case of the definition. Assumes nothing.
 use borrow.Author.Tests.{eq-eqb, ne_eqb}
 use Rattle.hex_text.proofs.Cases.{Y, N}
-use Rattle.hex_text.specs.Steps.{on, broken, prefix}
+use Rattle.hex_text.specs.Steps.{prefix}
 use borrow.Author.Rules.{rules}
 use Rattle.hex_text.proofs.prefix.Goals as goal
 

@@ -1,6 +1,5 @@
--- `hex::put_some` meets its contract: a byte, or nothing. Assumes nothing.
+-- `hex_text::put_some` meets its contract: a byte, or nothing. Assumes nothing.
 use Rattle.hex_text.proofs.Puts.{some_put, some_none}
-use borrow.Author.Rules.{rules}
 use Rattle.hex_text.proofs.put_some.Goals as goal
 
 pub returns-then-spells : goal.returns-then-spells

@@ -1,9 +1,7 @@
--- `hex::skip` meets its contract: each early return is a case of the definition. Assumes nothing.
+-- `hex_text::skip` meets its contract: each early return is a case of the definition. Assumes nothing.
 use Prim.Native.Nat.{ℕ}
 use mathlib.Core.Path.{ap, ◌∙◌}
-use Rattle.hex_text.specs.Chars.{past}
 use Rattle.hex_text.specs.Steps.{on, skipping}
-use borrow.Author.Rules.{rules}
 use Rattle.hex_text.proofs.skip.Goals as goal
 
 pub returns : goal.returns

@@ -1,4 +1,4 @@
--- `hex::solid` meets its contract: each early return is a case of the definition. Assumes nothing.
+-- `hex_text::solid` meets its contract: each early return is a case of the definition. Assumes nothing.
 use borrow.Author.Tests.{eq-eqb, ne_eqb}
 use Rattle.hex_text.proofs.Cases.{calls}
 use Rattle.hex_text.specs.Chars.{is_a}

@@ -1,8 +1,7 @@
--- `hex::space` meets its contract: each early return is a case of the definition. Assumes nothing.
+-- `hex_text::space` meets its contract: each early return is a case of the definition. Assumes nothing.
 use borrow.Author.Tests.{eq-eqb, ne_eqb}
 use Rattle.hex_text.proofs.Cases.{Y, N}
-use Rattle.hex_text.specs.Steps.{on, space}
-use borrow.Author.Rules.{rules}
+use Rattle.hex_text.specs.Steps.{space}
 use Rattle.hex_text.proofs.space.Goals as goal
 
 pub returns-then-left-eq0 : goal.returns-then-left-eq0

@@ -1,6 +1,5 @@
--- `hex::spell` meets its contract: a line that is none, no room, or the bytes at the front. Assumes nothing.
+-- `hex_text::spell` meets its contract: a line that is none, no room, or the bytes at the front. Assumes nothing.
 use Rattle.hex_text.proofs.Given.{given_refused, given_short, given_made}
-use borrow.Author.Rules.{rules}
 use Rattle.hex_text.proofs.spell.Goals as goal
 
 pub returns-then-seen-ne0 : goal.returns-then-seen-ne0

@@ -1,10 +1,9 @@
--- `hex::step` meets its contract: each early return is a case of the definition. Assumes nothing.
+-- `hex_text::step` meets its contract: each early return is a case of the definition. Assumes nothing.
 use Prim.Native.Nat.{ℕ}
 use borrow.Author.Tests.{lt-ltb, le-ltb}
 use mathlib.Core.Path.{ap, ◌∙◌}
 use Rattle.hex_text.proofs.Cases.{Y, N}
-use Rattle.hex_text.specs.Steps.{on, char, step}
-use borrow.Author.Rules.{rules}
+use Rattle.hex_text.specs.Steps.{char, step}
 use Rattle.hex_text.proofs.step.Goals as goal
 
 pub returns-then-i-q : goal.returns-then-i-q

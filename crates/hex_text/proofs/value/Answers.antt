@@ -1,4 +1,4 @@
--- `hex::value` meets its contract: each early return is a case of the definition. Assumes nothing.
+-- `hex_text::value` meets its contract: each early return is a case of the definition. Assumes nothing.
 use Rattle.hex_text.proofs.Cases.{tests}
 use Rattle.hex_text.specs.Chars.{value}
 use borrow.Author.Rules.{rules}

@@ -1,9 +1,6 @@
--- `hex::walk` meets its contract: the loop has put the bytes passed, and carries what is left to spell. Assumes nothing.
-use Prim.Native.Nat.{◌-◌}
-use lib.ListN.{length}
+-- `hex_text::walk` meets its contract: the loop has put the bytes passed, and carries what is left to spell. Assumes nothing.
 use native.Mathlib.Omega.{arith}
-use Rattle.hex_text.proofs.Going.{Going, going_start, going_length, going_fits, going_fault, going_more, going_end}
-use borrow.Author.Rules.{rules}
+use Rattle.hex_text.proofs.Going.{going_start, going_length, going_fits, going_fault, going_more, going_end}
 use Rattle.hex_text.proofs.walk.Goals as goal
 
 pub loop-i-init : goal.loop-i-init

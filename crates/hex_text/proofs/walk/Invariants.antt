@@ -1,9 +1,7 @@
--- `hex::walk` meets its contract: the loop has put the bytes passed, and carries what is left to spell. Assumes nothing.
+-- `hex_text::walk` meets its contract: the loop has put the bytes passed, and carries what is left to spell. Assumes nothing.
 use Prim.Native.Nat.{◌-◌}
 use lib.ListN.{length}
-use native.Mathlib.Omega.{arith}
-use Rattle.hex_text.proofs.Going.{Going, going_start, going_length, going_fits, going_fault, going_more, going_end}
-use borrow.Author.Rules.{rules}
+use Rattle.hex_text.proofs.Going.{Going}
 use Rattle.hex_text.proofs.walk.Given as goal
 
 abbrev pub invariant-loop-i : goal.invariant-loop-i

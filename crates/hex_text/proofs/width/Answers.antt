@@ -1,4 +1,4 @@
--- `hex::width` meets its contract: each early return is a case of the definition. Assumes nothing.
+-- `hex_text::width` meets its contract: each early return is a case of the definition. Assumes nothing.
 use Rattle.hex_text.proofs.Cases.{tests}
 use Rattle.hex_text.specs.Front.{width}
 use Rattle.hex_text.proofs.width.Goals as goal

@@ -1,7 +1,6 @@
 -- `import::import` meets its contract: the refusal, 42, or the sheet.
 use native.Mathlib.Omega.{arith}
 use Rattle.import.proofs.Written.{import_refused, import_heads, import_short, import_room, import_written}
-use borrow.Author.Rules.{rules}
 use Rattle.import.proofs.import.Goals as goal
 
 pub returns-then-fault-ne0 : goal.returns-then-fault-ne0

@@ -1,7 +1,6 @@
 -- `import::put_body` meets its contract: nothing, or what stands behind the header bytes.
 use Rattle.lent.proofs.Laws.{nothing}
 use Rattle.import.proofs.Beside.{body_part, body_none}
-use borrow.Author.Rules.{rules}
 use Rattle.import.proofs.put_body.Goals as goal
 
 pub returns-then-len-eq0 : goal.returns-then-len-eq0

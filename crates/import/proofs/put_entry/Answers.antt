@@ -1,7 +1,6 @@
 -- `import::put_entry` meets its contract: the entry of what stands at the place.
 use native.Mathlib.Omega.{arith}
 use Rattle.import.proofs.Beside.{entry_head}
-use borrow.Author.Rules.{rules}
 use Rattle.import.proofs.put_entry.Goals as goal
 
 pub returns : goal.returns

@@ -1,14 +1,8 @@
 -- `import::put_features` meets its contract: what the buffer holds in the end is told by what it holds at each turn.
-use borrow.Author.Rules.{rules}
-use mathlib.Core.Path.{◌≡◌, refl, ◌∙◌}
-use Prim.Native.Nat.{◌+◌, ◌-◌}
+use mathlib.Core.Path.{refl, ◌∙◌}
 use native.Mathlib.Omega.{arith}
-use lib.ListN.{length}
-use lib.Seq.{sets}
 use Rattle.lent.proofs.Laws.{kept}
-use Rattle.reading.specs.inner.Between.{from}
-use Rattle.import.specs.inner.Pieces.{rows, bodies}
-use Rattle.import.proofs.Beside.{Passed, passed_start, here_whole, here_entry, here_body, passed_more, passed_end}
+use Rattle.import.proofs.Beside.{passed_start, here_whole, here_entry, here_body, passed_more, passed_end}
 use Rattle.import.proofs.put_features.Goals as goal
 
 pub loop-place-init : goal.loop-place-init
@@ -25,10 +19,10 @@ put_entry-entry-requires c = (here_whole c.loop-place.invariant.0 c.loop-place-t
 
 pub put_body-next-requires : goal.put_body-next-requires
 put_body-next-requires c = let l = c.length_in-len.ensures in (
-      l,
-      omega (arith, l, here_whole c.loop-place.invariant.0 c.loop-place-test.true),
-      omega (arith, l, here_body c.loop-place.invariant.0 c.loop-place-test.true c.put_entry-entry.ensures),
-    )
+  l,
+  omega (arith, l, here_whole c.loop-place.invariant.0 c.loop-place-test.true),
+  omega (arith, l, here_body c.loop-place.invariant.0 c.loop-place-test.true c.put_entry-entry.ensures),
+)
 
 pub overflow_add-place : goal.overflow_add-place
 overflow_add-place c = omega (arith, c.length_in-len.ensures, here_whole c.loop-place.invariant.0 c.loop-place-test.true)

@@ -2,7 +2,6 @@
 use native.Mathlib.Omega.{arith}
 use Rattle.reading.proofs.At.{body_short}
 use Rattle.import.proofs.Beside.{whole_fits, whole_written}
-use borrow.Author.Rules.{rules}
 use Rattle.import.proofs.put_sheet.Goals as goal
 
 pub overflow_cast-profiles : goal.overflow_cast-profiles

@@ -1,6 +1,4 @@
 -- `judge::above` meets its contract: each return is a case of the definition.
-use mathlib.Core.Path.{refl}
-use borrow.Author.Rules.{rules}
 use Rattle.judge.proofs.Boxes.{above_two, above_last, above_next}
 use Rattle.judge.proofs.above.Goals as goal
 

@@ -3,7 +3,6 @@ use mathlib.Core.Path.{ap}
 use Rattle.judge.specs.declared.Stated.{Stated}
 use Rattle.judge.specs.Boxes.{right, box_of}
 use Rattle.judge.proofs.Boxes.{stated_as}
-use borrow.Author.Rules.{rules}
 use Rattle.judge.proofs.all_box.Goals as goal
 
 pub returns : goal.returns

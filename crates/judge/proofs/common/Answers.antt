@@ -1,11 +1,6 @@
 -- `judge::common` meets its contract: the loop carries what is left of both.
-use mathlib.Core.Path.{◌≡◌, refl}
-use Prim.Native.Nat.{◌+◌, ◌-◌, ◌≤◌}
 use native.Mathlib.Omega.{arith}
-use lib.ListN.{length, drop}
-use Rattle.judge.specs.Verdict.{common}
 use Rattle.judge.proofs.Same.{common_left, common_right, common_differs, common_next}
-use borrow.Author.Rules.{rules}
 use Rattle.judge.proofs.common.Goals as goal
 
 pub loop-i-init : goal.loop-i-init

@@ -1,11 +1,8 @@
 -- `judge::common` meets its contract: the loop carries what is left of both.
-use mathlib.Core.Path.{◌≡◌, refl}
-use Prim.Native.Nat.{◌+◌, ◌-◌, ◌≤◌}
-use native.Mathlib.Omega.{arith}
+use mathlib.Core.Path.{◌≡◌}
+use Prim.Native.Nat.{◌+◌, ◌-◌}
 use lib.ListN.{length, drop}
 use Rattle.judge.specs.Verdict.{common}
-use Rattle.judge.proofs.Same.{common_left, common_right, common_differs, common_next}
-use borrow.Author.Rules.{rules}
 use Rattle.judge.proofs.common.Given as goal
 
 abbrev pub invariant-loop-i : goal.invariant-loop-i

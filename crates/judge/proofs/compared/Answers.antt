@@ -1,5 +1,4 @@
 -- `judge::compared` meets its contract: each return is a case of the definition.
-use borrow.Author.Rules.{rules}
 use Rattle.judge.proofs.Same.{met_wrong, met_short, met_exact, met_padded, met_other}
 use Rattle.judge.proofs.compared.Goals as goal
 

@@ -1,11 +1,10 @@
 -- `judge::cut_box` meets its contract: Data Length is cut, and the profile is the right one.
 use mathlib.Core.Path.{ap, ◌∙◌}
-use Prim.Native.Nat.{ℕ, ◌-◌, min}
+use Prim.Native.Nat.{◌-◌, min}
 use Rattle.text.specs.Response.{most}
 use Rattle.judge.specs.declared.Stated.{Stated}
 use Rattle.judge.specs.Boxes.{right, box_of}
 use Rattle.judge.proofs.Boxes.{stated_as}
-use borrow.Author.Rules.{rules}
 use Rattle.judge.proofs.cut_box.Goals as goal
 
 pub returns : goal.returns

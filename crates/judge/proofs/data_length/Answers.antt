@@ -1,5 +1,4 @@
 -- `judge::data_length` meets its contract: the size that the box finds, and four.
-use mathlib.Core.Path.{◌≡◌}
 use Prim.Native.Nat.{◌+◌, ◌<◌}
 use native.Mathlib.Omega.{arith}
 use Rattle.base.specs.Lists.{Bytes}

@@ -1,13 +1,11 @@
 -- `judge::explained` meets its contract: the loop carries what is left of the search, and the buffer keeps its length.
-use mathlib.Core.Path.{◌≡◌, refl, ◌∙◌}
-use Prim.Native.Nat.{◌≤◌, ◌<◌, ◌-◌}
+use mathlib.Core.Path.{refl, ◌∙◌}
+use Prim.Native.Nat.{◌≤◌, ◌<◌}
 use native.Mathlib.Omega.{arith}
-use lib.ListN.{length}
 use Rattle.layout.specs.Layout.{stored}
 use Rattle.sheet.specs.Meaning.{meaning}
 use Rattle.judge.specs.Boxes.{mistakes}
-use Rattle.judge.specs.Verdict.{explained}
-use Rattle.judge.proofs.Search.{left_at, explained_start, explained_here, explained_next, explained_none}
+use Rattle.judge.proofs.Search.{explained_start, explained_here, explained_next, explained_none}
 use borrow.Author.Rules.{rules}
 use Rattle.judge.proofs.explained.Goals as goal
 

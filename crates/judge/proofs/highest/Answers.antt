@@ -1,7 +1,6 @@
 -- `judge::highest` meets its contract: the loop carries what is left of the list and the highest so far.
-use borrow.Author.Rules.{rules}
-use mathlib.Core.Path.{◌≡◌, ap}
-use Prim.Native.Nat.{ℕ, ◌≤◌, ◌-◌}
+use mathlib.Core.Path.{ap}
+use Prim.Native.Nat.{ℕ}
 use native.Mathlib.Omega.{arith}
 use Rattle.base.specs.Lists.{each}
 use Rattle.profiles.specs.Profiles.{listed, profiles_of}

@@ -6,7 +6,6 @@ use Rattle.profiles.specs.Profiles.{profiles_of}
 use Rattle.sheet.specs.Meaning.{meaning}
 use Rattle.judge.specs.Boxes.{highest, highest_box}
 use Rattle.judge.proofs.Boxes.{stated_as}
-use borrow.Author.Rules.{rules}
 use Rattle.judge.proofs.highest_box.Goals as goal
 
 pub returns : goal.returns

@@ -8,7 +8,6 @@ use Rattle.sheet.specs.Meaning.{meaning}
 use Rattle.judge.specs.declared.Stated.{Stated}
 use Rattle.judge.specs.Boxes.{sent_by}
 use Rattle.judge.specs.Verdict.{compared, is_right}
-use borrow.Author.Rules.{rules}
 use Rattle.judge.proofs.is_box.Goals as goal
 
 pub slice_bounds-compared-end-2 : goal.slice_bounds-compared-end-2

@@ -3,7 +3,6 @@ use mathlib.Core.Path.{sym, ap, ◌∙◌}
 use native.Mathlib.Omega.{arith}
 use Rattle.layout.specs.Layout.{stored}
 use Rattle.judge.proofs.Search.{judged_sheet, judged_command, judged_room, judged_asked}
-use borrow.Author.Rules.{rules}
 use Rattle.judge.proofs.judge.Goals as goal
 
 pub returns-then-bad-ne0 : goal.returns-then-bad-ne0

@@ -3,7 +3,6 @@ use mathlib.Core.Path.{refl, sym}
 use lib.Seq.{length-take-le}
 use Rattle.layout.specs.Layout.{stored}
 use Rattle.judge.proofs.Boxes.{sent_inside, stated}
-use borrow.Author.Rules.{rules}
 use Rattle.judge.proofs.put_box.Goals as goal
 
 pub slice_bounds-put_front-end : goal.slice_bounds-put_front-end

@@ -1,7 +1,6 @@
 -- `judge::put_due` meets its contract: the buffer is cleared, and what the right box sends is put to its front.
 use Rattle.layout.specs.Layout.{stored}
 use Rattle.judge.proofs.Boxes.{due_put}
-use borrow.Author.Rules.{rules}
 use Rattle.judge.proofs.put_due.Goals as goal
 
 pub returns : goal.returns

@@ -1,5 +1,4 @@
 -- `judge::put_front` meets its contract: two numbers one after the other.
-use borrow.Author.Rules.{rules}
 use native.Mathlib.Omega.{arith}
 use Rattle.lent.proofs.Laws.{then, written_as}
 use Rattle.responder.proofs.Laws.{header_words}

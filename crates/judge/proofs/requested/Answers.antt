@@ -1,7 +1,6 @@
 -- `judge::requested` meets its contract: what is due is compared with what came, and where they differ the mistakes are tried.
 use mathlib.Core.Path.{◌≡◌, refl, sym, ap, ◌∙◌}
 use Prim.Native.Nat.{ℕ}
-use lib.ListN.{length}
 use lib.Seq.{length-take-le}
 use Rattle.text.specs.Response.{sent}
 use Rattle.layout.specs.Layout.{stored}
@@ -11,7 +10,6 @@ use Rattle.judge.specs.declared.Verdict.{Verdict}
 use Rattle.judge.specs.declared.Verdict.TheVariants.{Exact, Padded, Short, Wrong, Answered, Refused}
 use Rattle.judge.specs.Verdict.{because, alone}
 use Rattle.judge.proofs.Search.{requested_as, requested_wrong}
-use borrow.Author.Rules.{rules}
 use Rattle.judge.proofs.requested.Goals as goal
 
 -- a mistake changes no verdict but one

@@ -7,7 +7,6 @@ use Rattle.profiles.specs.Profiles.{profiles_of}
 use Rattle.sheet.specs.Meaning.{meaning}
 use Rattle.judge.specs.Boxes.{right}
 use Rattle.judge.proofs.Boxes.{stated_as}
-use borrow.Author.Rules.{rules}
 use Rattle.judge.proofs.right.Goals as goal
 
 pub returns : goal.returns

@@ -1,5 +1,4 @@
 -- `judge::unasked` meets its contract: nothing was answered, or something.
-use borrow.Author.Rules.{rules}
 use Rattle.judge.proofs.Same.{unasked_none, unasked_some}
 use Rattle.judge.proofs.unasked.Goals as goal
 

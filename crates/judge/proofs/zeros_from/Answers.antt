@@ -1,10 +1,6 @@
 -- `judge::zeros_from` meets its contract: the loop carries what is left.
-use mathlib.Core.Path.{◌≡◌, refl}
-use Prim.Native.Nat.{◌-◌}
-use lib.ListN.{length, drop}
-use Rattle.judge.specs.Verdict.{all_zero}
+use mathlib.Core.Path.{refl}
 use Rattle.judge.proofs.Same.{zeros_end, zeros_not, zeros_next}
-use borrow.Author.Rules.{rules}
 use Rattle.judge.proofs.zeros_from.Goals as goal
 
 pub loop-i-init : goal.loop-i-init

@@ -1,10 +1,8 @@
 -- `judge::zeros_from` meets its contract: the loop carries what is left.
-use mathlib.Core.Path.{◌≡◌, refl}
+use mathlib.Core.Path.{◌≡◌}
 use Prim.Native.Nat.{◌-◌}
 use lib.ListN.{length, drop}
 use Rattle.judge.specs.Verdict.{all_zero}
-use Rattle.judge.proofs.Same.{zeros_end, zeros_not, zeros_next}
-use borrow.Author.Rules.{rules}
 use Rattle.judge.proofs.zeros_from.Given as goal
 
 abbrev pub invariant-loop-i : goal.invariant-loop-i

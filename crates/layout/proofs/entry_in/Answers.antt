@@ -3,7 +3,6 @@ use native.Mathlib.Omega.{arith}
 use Rattle.layout.specs.Layout.{number, flags, body_length, offset}
 use Rattle.layout.specs.Contents.{entry_of}
 use Rattle.layout.proofs.Laws.{fields_inside}
-use borrow.Author.Rules.{rules}
 use Rattle.layout.proofs.entry_in.Goals as goal
 
 pub inside2-requires : goal.inside2-requires

@@ -3,7 +3,6 @@ use native.Mathlib.Omega.{arith}
 use Rattle.layout.specs.Layout.{flags, body_length}
 use Rattle.layout.specs.inner.Found.{found_of}
 use Rattle.layout.proofs.Laws.{fields_inside}
-use borrow.Author.Rules.{rules}
 use Rattle.layout.proofs.find.Goals as goal
 
 pub inside-requires : goal.inside-requires

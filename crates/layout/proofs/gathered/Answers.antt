@@ -4,7 +4,6 @@ use mathlib.Core.List.{[], ◌∷◌, ◌++◌}
 use native.Mathlib.Omega.{arith}
 use lib.ListN.{length, take, drop, length-take, length-drop}
 use Rattle.layout.proofs.Heads.{copied, two_set}
-use borrow.Author.Rules.{rules}
 use Rattle.layout.proofs.gathered.Goals as goal
 
 pub returns : goal.returns

@@ -1,6 +1,5 @@
 -- `layout::nth_of` meets its contract: the count is the sheet's.
 use mathlib.Core.Path.{refl}
-use borrow.Author.Rules.{rules}
 use Rattle.layout.proofs.nth_of.Goals as goal
 
 pub returns : goal.returns

@@ -2,7 +2,6 @@
 use Rattle.lent.proofs.Laws.{then}
 use Rattle.layout.specs.Contents.{contents}
 use Rattle.layout.specs.inner.Piece.{piece_bytes}
-use borrow.Author.Rules.{rules}
 use Rattle.layout.proofs.put_contents.Goals as goal
 
 pub returns-in-Rows : goal.returns-in-Rows

@@ -1,6 +1,5 @@
 -- `layout::put_counts` meets its contract: two writings one after the other.
 use Rattle.lent.proofs.Laws.{then}
-use borrow.Author.Rules.{rules}
 use Rattle.layout.proofs.put_counts.Goals as goal
 
 pub returns : goal.returns

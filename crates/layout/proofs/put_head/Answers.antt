@@ -7,7 +7,6 @@ use Rattle.layout.specs.Layout.{stored}
 use Rattle.layout.specs.Contents.{entry_of, head_bytes}
 use Rattle.layout.proofs.Laws.{fields_inside}
 use Rattle.layout.proofs.Heads.{row_inside, head_in_row, head_gathered}
-use borrow.Author.Rules.{rules}
 use Rattle.layout.proofs.put_head.Goals as goal
 
 pub overflow_add-end : goal.overflow_add-end

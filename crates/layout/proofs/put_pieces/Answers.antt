@@ -1,10 +1,7 @@
 -- `layout::put_pieces` meets its contract: the loop has written the entries passed.
 use mathlib.Core.Path.{◌≡◌}
-use Prim.Native.Nat.{◌-◌, ◌≤◌}
 use native.Mathlib.Omega.{arith}
-use borrow.Author.Rules.{rules}
 use Rattle.base.specs.Lists.{each, flat}
-use Rattle.lent.specs.Wrote.{Wrote}
 use Rattle.lent.proofs.Laws.{nothing, then, kept}
 use Rattle.layout.specs.Layout.{stored}
 use Rattle.layout.specs.Contents.{entry_of}

@@ -1,15 +1,10 @@
 -- `layout::put_pieces` meets its contract: the loop has written the entries passed.
-use mathlib.Core.Path.{◌≡◌}
 use Prim.Native.Nat.{◌-◌, ◌≤◌}
-use native.Mathlib.Omega.{arith}
-use borrow.Author.Rules.{rules}
 use Rattle.base.specs.Lists.{each, flat}
 use Rattle.lent.specs.Wrote.{Wrote}
-use Rattle.lent.proofs.Laws.{nothing, then, kept}
 use Rattle.layout.specs.Layout.{stored}
 use Rattle.layout.specs.Contents.{entry_of}
 use Rattle.layout.specs.inner.Piece.{piece_bytes}
-use Rattle.layout.proofs.Contents.{pieces_more}
 use Rattle.layout.proofs.put_pieces.Given as goal
 
 abbrev pub invariant-loop-i : goal.invariant-loop-i

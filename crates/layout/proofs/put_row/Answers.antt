@@ -1,7 +1,6 @@
 -- `layout::put_row` meets its contract: four writings one after the other.
 use Rattle.lent.proofs.Laws.{then}
 use Rattle.layout.specs.Contents.{row_bytes}
-use borrow.Author.Rules.{rules}
 use Rattle.layout.proofs.put_row.Goals as goal
 
 pub returns : goal.returns

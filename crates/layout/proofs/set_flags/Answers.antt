@@ -1,7 +1,6 @@
 -- `layout::set_flags` meets its contract: the flags stand inside the contents.
 use native.Mathlib.Omega.{arith}
 use Rattle.layout.proofs.Laws.{fields_inside}
-use borrow.Author.Rules.{rules}
 use Rattle.layout.proofs.set_flags.Goals as goal
 
 pub bounds-out-at : goal.bounds-out-at

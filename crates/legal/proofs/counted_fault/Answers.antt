@@ -1,5 +1,4 @@
 -- `legal::counted_fault` meets its contract: the first word, then the pad.
-use borrow.Author.Rules.{rules}
 use Rattle.legal.proofs.Reserved.{counted_front, counted_pad}
 use Rattle.legal.proofs.counted_fault.Goals as goal
 

@@ -1,5 +1,4 @@
 -- `legal::counted_mask` meets its contract: the first four bytes, those that are counted, and the pad.
-use borrow.Author.Rules.{rules}
 use mathlib.Core.Path.{◌∙◌, sym}
 use Rattle.legal.proofs.Bits.{counted_front, counted_in, counted_pad}
 use Rattle.legal.proofs.counted_mask.Goals as goal

@@ -1,7 +1,6 @@
 -- `legal::last_fault` meets its contract: nothing is left, one word, or up to three.
 use Rattle.legal.specs.inner.Periodic.{words_at}
 use Rattle.legal.proofs.Words.{words_none, words_one}
-use borrow.Author.Rules.{rules}
 use Rattle.legal.proofs.last_fault.Goals as goal
 
 pub returns-then-body-k : goal.returns-then-body-k

@@ -1,13 +1,10 @@
 -- `legal::listed` meets its contract: the loop carries what is left of the walk over the table.
 use borrow.Author.Rules.{rules}
 use borrow.Author.Tests.{eq-eqb, ne_eqb}
-use Prim.Native.Nat.{◌≤◌, ◌-◌}
-use mathlib.Core.Path.{◌≡◌, refl}
+use mathlib.Core.Path.{refl}
 use native.Mathlib.Omega.{arith}
-use lib.Dec.{eqb}
-use lib.ListN.{length}
 use Rattle.legal.specs.Legal.{legal, other, row_of}
-use Rattle.base.proofs.Pick.{left, pick_found, pick_next, pick_none}
+use Rattle.base.proofs.Pick.{pick_found, pick_next, pick_none}
 use Rattle.legal.proofs.listed.Goals as goal
 
 pub loop-i-init : goal.loop-i-init

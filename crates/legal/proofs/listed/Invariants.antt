@@ -1,13 +1,10 @@
 -- `legal::listed` meets its contract: the loop carries what is left of the walk over the table.
-use borrow.Author.Rules.{rules}
-use borrow.Author.Tests.{eq-eqb, ne_eqb}
 use Prim.Native.Nat.{◌≤◌, ◌-◌}
-use mathlib.Core.Path.{◌≡◌, refl}
-use native.Mathlib.Omega.{arith}
+use mathlib.Core.Path.{◌≡◌}
 use lib.Dec.{eqb}
 use lib.ListN.{length}
 use Rattle.legal.specs.Legal.{legal, other, row_of}
-use Rattle.base.proofs.Pick.{left, pick_found, pick_next, pick_none}
+use Rattle.base.proofs.Pick.{left}
 use Rattle.legal.proofs.listed.Given as goal
 
 abbrev pub invariant-loop-i : goal.invariant-loop-i

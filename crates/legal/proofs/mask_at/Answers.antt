@@ -1,5 +1,4 @@
 -- `legal::mask_at` meets its contract: by the cases of the length.
-use borrow.Author.Rules.{rules}
 use mathlib.Core.Path.{◌∙◌, sym}
 use Rattle.legal.proofs.Bits.{mask_any, mask_exactly, mask_counted}
 use Rattle.legal.proofs.mask_at.Goals as goal

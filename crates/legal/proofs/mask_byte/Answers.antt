@@ -1,5 +1,4 @@
 -- `legal::mask_byte` meets its contract: each arm is the byte at its place, and behind the last one there is none.
-use borrow.Author.Rules.{rules}
 use Rattle.legal.specs.Legal.{mask_bytes}
 use Rattle.fields.specs.Field.{spell}
 use Rattle.legal.proofs.Bits.{mask_behind}

@@ -1,5 +1,4 @@
 -- `legal::other_length` meets its contract: each way is a case of the disjunction.
-use borrow.Author.Rules.{rules}
 use Rattle.legal.proofs.other_length.Goals as goal
 
 pub returns-then-too_short : goal.returns-then-too_short

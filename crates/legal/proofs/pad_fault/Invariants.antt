@@ -1,13 +1,10 @@
 -- `legal::pad_fault` meets its contract: the loop carries what is left of the search.
 use Prim.Native.Nat.{◌≤◌, ◌-◌}
 use mathlib.Core.Path.{◌≡◌}
-use native.Mathlib.Omega.{arith}
 use lib.ListN.{length}
 use Rattle.refusal.specs.First.{first_of}
-use Rattle.refusal.proofs.First.{rest, first_start, first_stop, first_go, first_none}
+use Rattle.refusal.proofs.First.{rest}
 use Rattle.legal.specs.inner.Periodic.{pad_at}
-use Rattle.legal.proofs.Reserved.{pad_is}
-use borrow.Author.Rules.{rules}
 use Rattle.legal.proofs.pad_fault.Given as goal
 
 abbrev pub invariant-loop-k : goal.invariant-loop-k

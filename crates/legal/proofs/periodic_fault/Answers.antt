@@ -1,14 +1,7 @@
 -- `legal::periodic_fault` meets its contract: the loop carries what is left of the search, twelve bytes at a time.
-use Prim.Native.Nat.{◌≤◌, ◌-◌, ◌%◌}
-use mathlib.Core.Path.{◌≡◌}
 use native.Mathlib.Omega.{arith}
-use lib.ListN.{length}
-use Rattle.base.specs.Lists.{Bytes}
-use Rattle.refusal.specs.First.{first_of}
-use Rattle.refusal.proofs.First.{rest, first_start}
-use Rattle.legal.specs.inner.Periodic.{periodic_at}
+use Rattle.refusal.proofs.First.{first_start}
 use Rattle.legal.proofs.Words.{twelve_stop, twelve_go, twelve_end}
-use borrow.Author.Rules.{rules}
 use Rattle.legal.proofs.periodic_fault.Goals as goal
 
 pub loop-k-init : goal.loop-k-init

@@ -1,6 +1,5 @@
 -- `legal::reserved_fault` meets its contract: by the one word, or by the cases of the length.
 use Rattle.legal.proofs.Reserved.{word_only, periodic_any, periodic_exactly, counted_first}
-use borrow.Author.Rules.{rules}
 use Rattle.legal.proofs.reserved_fault.Goals as goal
 
 pub returns-then-view-le4 : goal.returns-then-view-le4

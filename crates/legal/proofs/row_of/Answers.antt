@@ -1,6 +1,5 @@
 -- `legal::row_of` meets its contract: no row is above the last one, and else the table has it.
 use mathlib.Core.Path.{sym}
-use borrow.Author.Rules.{rules}
 use Rattle.legal.specs.Legal.{other}
 use Rattle.legal.proofs.Rows.{row_above}
 use Rattle.legal.proofs.row_of.Goals as goal

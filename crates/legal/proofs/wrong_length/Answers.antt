@@ -1,5 +1,4 @@
 -- `legal::wrong_length` meets its contract: each way is a case of the rule.
-use borrow.Author.Rules.{rules}
 use borrow.Author.Tests.{eq-eqb, ne_eqb}
 use mathlib.Core.Path.{sym, ◌∙◌}
 use Rattle.legal.specs.Bodies.{wrong_length}

@@ -1,10 +1,7 @@
 -- `lent::clear` meets its contract. The loop's invariant: i zeros were written from index 0 on. The measure is what is left. Assumes nothing.
 use Prim.Native.Nat.{◌-◌}
-use native.Mathlib.Omega.{arith}
 use lib.ListN.{length, replicate}
 use Rattle.lent.specs.Wrote.{Wrote}
-use Rattle.lent.proofs.Laws.{nothing, kept, filled_more, filled_whole}
-use borrow.Author.Rules.{rules}
 use Rattle.lent.proofs.clear.Given as goal
 
 abbrev pub invariant-loop-i : goal.invariant-loop-i

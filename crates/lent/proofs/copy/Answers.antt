@@ -1,7 +1,6 @@
 -- `lent::copy` meets its contract: `nowhere` behind the end, else all of it, or what has room.
 use mathlib.Core.Path.{refl}
 use Rattle.lent.proofs.Laws.{nowhere, room, all}
-use borrow.Author.Rules.{rules}
 use Rattle.lent.proofs.copy.Goals as goal
 
 pub returns-then-out-at : goal.returns-then-out-at

@@ -4,7 +4,6 @@ use Prim.Native.Nat.{ℕ, ◌+◌, ◌-◌}
 use native.Mathlib.Omega.{arith}
 use lib.ListN.{take, drop, length-take, length-drop}
 use Rattle.lent.proofs.Laws.{copied_all}
-use borrow.Author.Rules.{rules}
 use Rattle.lent.proofs.place.Goals as goal
 
 pub returns : goal.returns

@@ -1,6 +1,5 @@
 -- `lent::place4` meets its contract.
 use Rattle.lent.proofs.Laws.{copied_all}
-use borrow.Author.Rules.{rules}
 use Rattle.lent.proofs.place4.Goals as goal
 
 pub returns : goal.returns

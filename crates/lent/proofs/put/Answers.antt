@@ -1,6 +1,5 @@
 -- `lent::put` meets its contract: a store where there is room, and `nowhere` behind the end. Assumes nothing.
 use Rattle.lent.proofs.Laws.{nowhere}
-use borrow.Author.Rules.{rules}
 use Rattle.lent.proofs.put.Goals as goal
 
 pub returns : goal.returns

@@ -3,7 +3,6 @@ use mathlib.Core.Path.{sym, ◌∙◌}
 use borrow.Author.Tests.{leb-true}
 use Rattle.fields.proofs.Laws.{spell_split, spell_mod}
 use Rattle.lent.proofs.Laws.{then}
-use borrow.Author.Rules.{rules}
 use Rattle.lent.proofs.put4.Goals as goal
 
 pub set4-requires : goal.set4-requires

@@ -3,7 +3,6 @@ use mathlib.Core.Path.{ap}
 use Rattle.lent.proofs.Laws.{then}
 use Rattle.text.specs.declared.Reading.{Reading}
 use Rattle.listing.proofs.Outcome.{listing_refused, listing_accepted}
-use borrow.Author.Rules.{rules}
 use Rattle.listing.proofs.list.Goals as goal
 
 pub returns-then-refusal-ne0 : goal.returns-then-refusal-ne0

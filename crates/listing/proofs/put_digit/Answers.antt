@@ -1,5 +1,4 @@
 -- `listing::put_digit` meets its contract: the digit is put. Assumes nothing.
-use borrow.Author.Rules.{rules}
 use Rattle.listing.proofs.put_digit.Goals as goal
 
 pub returns : goal.returns

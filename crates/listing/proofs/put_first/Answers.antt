@@ -1,7 +1,6 @@
 -- `listing::put_first` meets its contract: each word and what stands behind it, one writing after the other. Assumes nothing.
 use Rattle.lent.proofs.Laws.{then}
 use Rattle.listing.specs.Listing.{words, first_line}
-use borrow.Author.Rules.{rules}
 use Rattle.listing.proofs.put_first.Goals as goal
 
 pub returns : goal.returns

@@ -1,7 +1,6 @@
 -- `listing::put_hex4` meets its contract: four writings one after the other. Assumes nothing.
 use Rattle.lent.proofs.Laws.{then}
 use Rattle.listing.specs.Digits.{hex4}
-use borrow.Author.Rules.{rules}
 use Rattle.listing.proofs.put_hex4.Goals as goal
 
 pub returns : goal.returns

@@ -1,7 +1,6 @@
 -- `listing::put_last` meets its contract: nothing, or the fixed bytes. Assumes nothing.
 use Rattle.lent.proofs.Laws.{nothing}
 use Rattle.listing.specs.Listing.{ending_line}
-use borrow.Author.Rules.{rules}
 use Rattle.listing.proofs.put_last.Goals as goal
 
 pub returns-then-complete : goal.returns-then-complete

@@ -1,7 +1,6 @@
 -- `listing::put_line` meets its contract: each word and what stands behind it, one writing after the other. Assumes nothing.
 use Rattle.lent.proofs.Laws.{then}
 use Rattle.listing.specs.Listing.{words, line_of}
-use borrow.Author.Rules.{rules}
 use Rattle.listing.proofs.put_line.Goals as goal
 
 pub returns : goal.returns

@@ -1,5 +1,4 @@
 -- `listing::put_line_at` meets its contract: the line of the fields that stand at the place. Assumes nothing.
-use borrow.Author.Rules.{rules}
 use Rattle.listing.proofs.put_line_at.Goals as goal
 
 pub returns : goal.returns

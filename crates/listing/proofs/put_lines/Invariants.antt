@@ -1,11 +1,8 @@
 -- `listing::put_lines` meets its contract: the loop has listed the descriptors passed. Assumes nothing.
 use Prim.Native.Nat.{◌-◌, ◌≤◌}
 use lib.ListN.{length}
-use Rattle.lent.proofs.Laws.{kept}
 use Rattle.reading.specs.inner.Between.{between}
-use Rattle.reading.proofs.Places.{left_less}
-use Rattle.listing.proofs.Passed.{Passed, passed_start, passed_within, passed_more, passed_end}
-use borrow.Author.Rules.{rules}
+use Rattle.listing.proofs.Passed.{Passed}
 use Rattle.listing.proofs.put_lines.Given as goal
 
 abbrev pub invariant-loop-place : goal.invariant-loop-place

@@ -1,7 +1,6 @@
 -- `listing::put_marks` meets its contract: two writings one after the other. Assumes nothing.
 use Rattle.lent.proofs.Laws.{then}
 use Rattle.listing.specs.Listing.{marks}
-use borrow.Author.Rules.{rules}
 use Rattle.listing.proofs.put_marks.Goals as goal
 
 pub returns : goal.returns

@@ -1,7 +1,6 @@
 -- `listing::put_refused` meets its contract: three writings one after the other. Assumes nothing.
 use Rattle.lent.proofs.Laws.{then}
 use Rattle.listing.specs.Listing.{words, refused_line}
-use borrow.Author.Rules.{rules}
 use Rattle.listing.proofs.put_refused.Goals as goal
 
 pub returns : goal.returns

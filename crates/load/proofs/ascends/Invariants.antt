@@ -1,11 +1,8 @@
 -- `load::ascends` meets its contract: the loop carries what is left of the list, from the number before on.
 use Prim.Native.Nat.{◌-◌, ◌≤◌}
 use mathlib.Core.Path.{◌≡◌}
-use native.Mathlib.Omega.{arith}
 use lib.ListN.{length, drop}
 use Rattle.load.specs.Load.{ascends}
-use Rattle.load.proofs.Numbers.{ascends_not, ascends_on, ascends_over}
-use borrow.Author.Rules.{rules}
 use Rattle.load.proofs.ascends.Given as goal
 
 abbrev pub invariant-loop-i : goal.invariant-loop-i

@@ -1,6 +1,5 @@
 -- `load::fault` meets its contract: each early return is a case of the definition.
 use Rattle.load.proofs.Checked.{ok, ascending, fault_sheet, fault_order, fault_lacking, fault_none}
-use borrow.Author.Rules.{rules}
 use Rattle.load.proofs.fault.Goals as goal
 
 pub returns-then-verdict-ne0 : goal.returns-then-verdict-ne0

@@ -4,7 +4,6 @@ use native.Mathlib.Omega.{arith}
 use native.Mathlib.Nat.{div-add-mod'}
 use Rattle.load.specs.Load.{flags_with}
 use Rattle.load.proofs.With.{bit_low}
-use borrow.Author.Rules.{rules}
 use Rattle.load.proofs.flags_with.Goals as goal
 
 pub returns-then-persistent : goal.returns-then-persistent

@@ -1,13 +1,8 @@
 -- `load::has` meets its contract: the loop carries what is left of the search.
-use Prim.Native.Nat.{ℕ, ◌-◌}
-use mathlib.Core.Path.{◌≡◌, refl}
+use mathlib.Core.Path.{refl}
 use borrow.Author.Tests.{eq-eqb, ne_eqb}
-use lib.Dec.{eqb}
-use lib.ListN.{length, drop}
-use Rattle.base.specs.Pick.{some}
 use Rattle.load.specs.Load.{is_in}
 use Rattle.load.proofs.Numbers.{some_found, some_more, some_over}
-use borrow.Author.Rules.{rules}
 use Rattle.load.proofs.has.Goals as goal
 
 pub loop-i-init : goal.loop-i-init

@@ -1,13 +1,10 @@
 -- `load::has` meets its contract: the loop carries what is left of the search.
 use Prim.Native.Nat.{ℕ, ◌-◌}
-use mathlib.Core.Path.{◌≡◌, refl}
-use borrow.Author.Tests.{eq-eqb, ne_eqb}
+use mathlib.Core.Path.{◌≡◌}
 use lib.Dec.{eqb}
 use lib.ListN.{length, drop}
 use Rattle.base.specs.Pick.{some}
 use Rattle.load.specs.Load.{is_in}
-use Rattle.load.proofs.Numbers.{some_found, some_more, some_over}
-use borrow.Author.Rules.{rules}
 use Rattle.load.proofs.has.Given as goal
 
 abbrev pub invariant-loop-i : goal.invariant-loop-i

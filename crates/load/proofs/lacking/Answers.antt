@@ -5,7 +5,6 @@ use Rattle.layout.specs.Layout.{stored}
 use Rattle.sheet.proofs.Accepted.{facts}
 use Rattle.load.specs.inner.Beside.{met}
 use Rattle.load.proofs.Checked.{lacking_feature, lacking_profile}
-use borrow.Author.Rules.{rules}
 use Rattle.load.proofs.lacking.Goals as goal
 
 pub met-requires : goal.met-requires

@@ -1,12 +1,10 @@
 -- `load::lacks` meets its contract: the loop carries what is left of the search.
 use Prim.Native.Nat.{ℕ, ◌-◌, ◌/◌}
-use mathlib.Core.Path.{◌≡◌, refl, sym, ap, ◌∙◌}
+use mathlib.Core.Path.{◌≡◌}
 use mathlib.Core.Bool.{not}
 use lib.ListN.{length, drop}
 use Rattle.base.specs.Pick.{some}
 use Rattle.profiles.specs.Profiles.{lists}
-use Rattle.load.proofs.Numbers.{some_found, some_more, some_over}
-use borrow.Author.Rules.{rules}
 use Rattle.load.proofs.lacks.Given as goal
 
 abbrev pub invariant-loop-i : goal.invariant-loop-i

@@ -4,7 +4,6 @@ use native.Mathlib.Omega.{arith}
 use lib.ListN.{length, length-take}
 use Rattle.layout.specs.Layout.{stored}
 use Rattle.load.proofs.Put.{refused_first, refused_short, has_room, all_written}
-use borrow.Author.Rules.{rules}
 use Rattle.load.proofs.load.Goals as goal
 
 pub returns-then-fault-ne0 : goal.returns-then-fault-ne0
@@ -21,9 +20,9 @@ slice_bounds-put_loaded-end-2 c = let a = c.args in
 
 pub put_loaded-requires : goal.put_loaded-requires
 put_loaded-requires c = let a = c.args in (
-      has_room a.features.now a.profiles.now (stored a.lay a.s.now) a.out.now (λ i. (c.type_inv.s i).fits) c.fault-fault.ensures c.if-fault-ne0.false,
-      omega (arith, length-take (length a.s.now) a.out.now),
-    )
+  has_room a.features.now a.profiles.now (stored a.lay a.s.now) a.out.now (λ i. (c.type_inv.s i).fits) c.fault-fault.ensures c.if-fault-ne0.false,
+  omega (arith, length-take (length a.s.now) a.out.now),
+)
 
 pub returns : goal.returns
 returns c = let early = c in

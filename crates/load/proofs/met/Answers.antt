@@ -1,14 +1,12 @@
 -- `load::met` meets its contract: the loop carries how many the entries passed meet.
-use Prim.Native.Nat.{◌+◌, ◌-◌, ◌≤◌}
+use Prim.Native.Nat.{◌+◌, ◌-◌}
 use mathlib.Core.Path.{◌≡◌, refl, sym, ap, ◌∙◌}
 use native.Mathlib.Omega.{arith}
-use lib.ListN.{get_or}
 use Rattle.layout.specs.declared.Entry.{Entry}
 use Rattle.layout.specs.Layout.{stored}
 use Rattle.layout.specs.Contents.{entry_of}
 use Rattle.load.specs.inner.Beside.{met}
 use Rattle.load.proofs.Beside.{met_le, met_more, met_all_over}
-use borrow.Author.Rules.{rules}
 use Rattle.load.proofs.met.Goals as goal
 
 pub loop-i-init : goal.loop-i-init

@@ -1,7 +1,6 @@
 -- `load::number_at` meets its contract: behind the end `get_or` gives its default.
 use mathlib.Core.Path.{sym}
 use lib.ListN.{get_or-eq_default}
-use borrow.Author.Rules.{rules}
 use Rattle.load.proofs.number_at.Goals as goal
 
 pub returns : goal.returns

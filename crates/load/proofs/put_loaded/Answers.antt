@@ -1,7 +1,6 @@
 -- `load::put_loaded` meets its contract: a copy, and two walks that set bytes in it.
 use Rattle.layout.specs.Layout.{stored}
 use Rattle.load.proofs.Put.{copied, set_room, put_all}
-use borrow.Author.Rules.{rules}
 use Rattle.load.proofs.put_loaded.Goals as goal
 
 pub set_profiles-requires : goal.set_profiles-requires

@@ -1,8 +1,8 @@
 -- `load::set_features` meets its contract: the loop carries how many the entries passed meet, and their flags are set.
-use Prim.Native.Nat.{ℕ, ◌-◌, ◌≤◌}
+use Prim.Native.Nat.{ℕ}
 use mathlib.Core.Path.{◌≡◌, refl, ap, ◌∙◌}
 use native.Mathlib.Omega.{arith}
-use lib.ListN.{length, get_or}
+use lib.ListN.{length}
 use Rattle.layout.specs.declared.Entry.{Entry}
 use Rattle.layout.specs.Layout.{stored, flags_place}
 use Rattle.layout.specs.Contents.{entry_of}
@@ -11,7 +11,6 @@ use Rattle.load.specs.Load.{flags_with}
 use Rattle.load.specs.inner.Patch.{patched}
 use Rattle.load.proofs.Beside.{met_le, met_more, flags_met_law}
 use Rattle.load.proofs.Patch.{length_patched, patched_more}
-use borrow.Author.Rules.{rules}
 use Rattle.load.proofs.set_features.Goals as goal
 
 pub loop-i-init : goal.loop-i-init

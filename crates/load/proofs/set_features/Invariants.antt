@@ -1,17 +1,10 @@
 -- `load::set_features` meets its contract: the loop carries how many the entries passed meet, and their flags are set.
-use Prim.Native.Nat.{ℕ, ◌-◌, ◌≤◌}
-use mathlib.Core.Path.{◌≡◌, refl, ap, ◌∙◌}
-use native.Mathlib.Omega.{arith}
-use lib.ListN.{length, get_or}
-use Rattle.layout.specs.declared.Entry.{Entry}
+use Prim.Native.Nat.{◌-◌, ◌≤◌}
+use mathlib.Core.Path.{◌≡◌}
+use lib.ListN.{get_or}
 use Rattle.layout.specs.Layout.{stored, flags_place}
-use Rattle.layout.specs.Contents.{entry_of}
 use Rattle.load.specs.inner.Beside.{met, flags_met}
-use Rattle.load.specs.Load.{flags_with}
 use Rattle.load.specs.inner.Patch.{patched}
-use Rattle.load.proofs.Beside.{met_le, met_more, flags_met_law}
-use Rattle.load.proofs.Patch.{length_patched, patched_more}
-use borrow.Author.Rules.{rules}
 use Rattle.load.proofs.set_features.Given as goal
 
 abbrev pub invariant-loop-i : goal.invariant-loop-i

@@ -1,5 +1,5 @@
 -- `load::set_profiles` meets its contract: the loop carries the records that are set.
-use Prim.Native.Nat.{ℕ, ◌+◌, ◌-◌, ◌*◌, ◌/◌, ◌≤◌}
+use Prim.Native.Nat.{ℕ, ◌+◌, ◌*◌, ◌/◌}
 use mathlib.Core.Path.{◌≡◌, refl, ap, ◌∙◌}
 use native.Mathlib.Omega.{arith}
 use native.Mathlib.Nat.{div-add-mod}
@@ -10,7 +10,6 @@ use Rattle.profiles.specs.Profiles.{profile_number}
 use Rattle.load.specs.Load.{is_in}
 use Rattle.load.specs.inner.Patch.{patched}
 use Rattle.load.proofs.Patch.{length_patched, patched_more}
-use borrow.Author.Rules.{rules}
 use Rattle.load.proofs.set_profiles.Goals as goal
 
 -- the copy is as long as it was

@@ -1,16 +1,10 @@
 -- `load::set_profiles` meets its contract: the loop carries the records that are set.
-use Prim.Native.Nat.{ℕ, ◌+◌, ◌-◌, ◌*◌, ◌/◌, ◌≤◌}
-use mathlib.Core.Path.{◌≡◌, refl, ap, ◌∙◌}
-use native.Mathlib.Omega.{arith}
-use native.Mathlib.Nat.{div-add-mod}
-use mathlib.Core.List.{List}
-use lib.ListN.{length}
+use Prim.Native.Nat.{ℕ, ◌+◌, ◌-◌, ◌*◌, ◌≤◌}
+use mathlib.Core.Path.{◌≡◌}
 use Rattle.text.specs.Drive.{bit}
 use Rattle.profiles.specs.Profiles.{profile_number}
 use Rattle.load.specs.Load.{is_in}
 use Rattle.load.specs.inner.Patch.{patched}
-use Rattle.load.proofs.Patch.{length_patched, patched_more}
-use borrow.Author.Rules.{rules}
 use Rattle.load.proofs.set_profiles.Given as goal
 
 abbrev pub invariant-loop-i : goal.invariant-loop-i

@@ -1,9 +1,7 @@
 -- `load::unordered` meets its contract: the features, or else the profiles.
 use mathlib.Core.Path.{sym, ap, ◌∙◌}
 use mathlib.Core.Bool.{Bool, not, ◌||◌}
-use borrow.Author.Tests.{not-true, not-false}
 use Rattle.load.specs.Load.{ascends}
-use borrow.Author.Rules.{rules}
 use Rattle.load.proofs.unordered.Goals as goal
 
 pub returns-then-not-ascends : goal.returns-then-not-ascends

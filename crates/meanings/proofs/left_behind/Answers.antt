@@ -1,6 +1,5 @@
 -- `meanings::left_behind` meets its contract: a line end passes a line. Assumes nothing.
 use Rattle.meanings.proofs.Laws.{passes, passes_none}
-use borrow.Author.Rules.{rules}
 use Rattle.meanings.proofs.left_behind.Goals as goal
 
 pub returns-then-byte-eq10 : goal.returns-then-byte-eq10

@@ -1,10 +1,7 @@
 -- `meanings::line_length` meets its contract: the loop carries how much is left of the line. Assumes nothing.
 use borrow.Author.Rules.{rules}
-use mathlib.Core.Path.{◌≡◌, refl}
-use Prim.Native.Nat.{◌+◌, ◌-◌, ◌≤◌}
+use mathlib.Core.Path.{refl}
 use native.Mathlib.Omega.{arith}
-use lib.ListN.{length, drop}
-use Rattle.meanings.specs.Lines.{up_to_end}
 use Rattle.meanings.proofs.Laws.{end_here, end_next, end_none}
 use Rattle.meanings.proofs.line_length.Goals as goal
 

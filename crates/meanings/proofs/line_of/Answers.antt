@@ -1,6 +1,5 @@
 -- `meanings::line_of` meets its contract: the part from the start of the line to its end. Assumes nothing.
 use mathlib.Core.Path.{◌∙◌}
-use borrow.Author.Rules.{rules}
 use Rattle.meanings.proofs.Laws.{line_is}
 use Rattle.meanings.proofs.line_of.Goals as goal
 

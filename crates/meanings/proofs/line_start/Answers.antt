@@ -1,10 +1,7 @@
 -- `meanings::line_start` meets its contract: the loop carries how many lines are left to pass. Assumes nothing.
 use borrow.Author.Rules.{rules}
-use mathlib.Core.Path.{◌≡◌, refl}
-use Prim.Native.Nat.{◌-◌, ◌≤◌}
+use mathlib.Core.Path.{refl}
 use native.Mathlib.Omega.{arith}
-use lib.ListN.{length, drop}
-use Rattle.meanings.specs.Lines.{behind_lines}
 use Rattle.meanings.proofs.Laws.{start_found, start_next, start_end}
 use Rattle.meanings.proofs.line_start.Goals as goal
 

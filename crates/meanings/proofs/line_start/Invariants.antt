@@ -1,11 +1,8 @@
 -- `meanings::line_start` meets its contract: the loop carries how many lines are left to pass. Assumes nothing.
-use borrow.Author.Rules.{rules}
-use mathlib.Core.Path.{◌≡◌, refl}
+use mathlib.Core.Path.{◌≡◌}
 use Prim.Native.Nat.{◌-◌, ◌≤◌}
-use native.Mathlib.Omega.{arith}
 use lib.ListN.{length, drop}
 use Rattle.meanings.specs.Lines.{behind_lines}
-use Rattle.meanings.proofs.Laws.{start_found, start_next, start_end}
 use Rattle.meanings.proofs.line_start.Given as goal
 
 abbrev pub invariant-loop-at : goal.invariant-loop-at

@@ -1,6 +1,5 @@
 -- `meanings::put_words` meets its contract: the line of the number, copied; the text is the sentences with their line ends. Assumes nothing.
 use mathlib.Core.Path.{◌∙◌}
-use borrow.Author.Rules.{rules}
 use Rattle.meanings.specs.Meanings.{sentences}
 use Rattle.meanings.proofs.Joined.{joined, sentence_line}
 use Rattle.meanings.proofs.put_words.Goals as goal

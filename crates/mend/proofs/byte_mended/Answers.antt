@@ -1,5 +1,4 @@
 -- `mend::byte_mended` meets its contract: cleared, or masked.
-use borrow.Author.Rules.{rules}
 use Rattle.mend.proofs.Steps.{planned_cleared, planned_masked}
 use Rattle.mend.proofs.byte_mended.Goals as goal
 

@@ -1,5 +1,4 @@
 -- `mend::count_at` meets its contract: the change of the flags, and those of the body.
-use borrow.Author.Rules.{rules}
 use native.Mathlib.Omega.{arith}
 use Rattle.mend.proofs.Made.{seen_by, count_clean, count_dirty}
 use Rattle.mend.proofs.count_at.Goals as goal

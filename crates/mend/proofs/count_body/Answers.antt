@@ -1,9 +1,6 @@
 -- `mend::count_body` meets its contract: the loop counts the changes of the first bytes.
-use borrow.Author.Rules.{rules}
-use Prim.Native.Nat.{◌-◌}
 use native.Mathlib.Omega.{arith}
-use lib.ListN.{length}
-use Rattle.mend.proofs.Fixing.{Counted, counted_start, counted_more, counted_end}
+use Rattle.mend.proofs.Fixing.{counted_start, counted_more, counted_end}
 use Rattle.mend.proofs.count_body.Goals as goal
 
 pub loop-k-init : goal.loop-k-init

@@ -1,5 +1,4 @@
 -- `mend::fix` meets its contract: the byte and its note.
-use borrow.Author.Rules.{rules}
 use Rattle.mend.proofs.Fixing.{fixes_one}
 use Rattle.mend.proofs.fix.Goals as goal
 

@@ -1,14 +1,11 @@
 -- `mend::fix_all` meets its contract: the loop carries what was put so far and what is left.
-use borrow.Author.Rules.{rules}
-use Prim.Native.Nat.{◌-◌}
-use mathlib.Core.Path.{◌≡◌, refl, ◌∙◌}
+use mathlib.Core.Path.{refl, ◌∙◌}
 use native.Mathlib.Omega.{arith}
-use lib.ListN.{length}
 use Rattle.lent.proofs.Laws.{kept}
 use Rattle.reading.proofs.Places.{from_less}
 use Rattle.reading.proofs.Loops.{four_in}
 use Rattle.mend.proofs.Fixing.{fixes_length}
-use Rattle.mend.proofs.Walking.{Putting, putting_start, putting_stands, putting_more, putting_end}
+use Rattle.mend.proofs.Walking.{putting_start, putting_stands, putting_more, putting_end}
 use Rattle.mend.proofs.fix_all.Goals as goal
 
 pub loop-at-init : goal.loop-at-init

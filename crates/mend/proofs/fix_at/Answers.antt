@@ -1,5 +1,4 @@
 -- `mend::fix_at` meets its contract: the flags put over those that stand there, and the body, if there is something to mend in it.
-use borrow.Author.Rules.{rules}
 use native.Mathlib.Omega.{arith}
 use Rattle.mend.proofs.Fixing.{fixes_length}
 use Rattle.mend.proofs.Made.{seen_by, place_length}

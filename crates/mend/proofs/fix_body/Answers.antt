@@ -1,11 +1,8 @@
 -- `mend::fix_body` meets its contract: the loop carries what the first bytes did.
-use borrow.Author.Rules.{rules}
-use Prim.Native.Nat.{◌-◌}
-use mathlib.Core.Path.{◌≡◌, refl, ◌∙◌}
+use mathlib.Core.Path.{refl, ◌∙◌}
 use native.Mathlib.Omega.{arith}
-use lib.ListN.{length}
 use Rattle.lent.proofs.Laws.{kept}
-use Rattle.mend.proofs.Fixing.{Put, put_start, put_more, put_end, fixes_length}
+use Rattle.mend.proofs.Fixing.{put_start, put_more, put_end, fixes_length}
 use Rattle.mend.proofs.fix_body.Goals as goal
 
 pub loop-k-init : goal.loop-k-init

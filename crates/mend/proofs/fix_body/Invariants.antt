@@ -1,11 +1,8 @@
 -- `mend::fix_body` meets its contract: the loop carries what the first bytes did.
-use borrow.Author.Rules.{rules}
 use Prim.Native.Nat.{◌-◌}
-use mathlib.Core.Path.{◌≡◌, refl, ◌∙◌}
-use native.Mathlib.Omega.{arith}
+use mathlib.Core.Path.{◌≡◌}
 use lib.ListN.{length}
-use Rattle.lent.proofs.Laws.{kept}
-use Rattle.mend.proofs.Fixing.{Put, put_start, put_more, put_end, fixes_length}
+use Rattle.mend.proofs.Fixing.{Put}
 use Rattle.mend.proofs.fix_body.Given as goal
 
 abbrev pub invariant-loop-k : goal.invariant-loop-k

@@ -1,5 +1,4 @@
 -- `mend::flags_mended` meets its contract: one step behind the other.
-use borrow.Author.Rules.{rules}
 use Rattle.mend.specs.Mended.{flags_mended}
 use Rattle.mend.proofs.flags_mended.Goals as goal
 

@@ -1,5 +1,4 @@
 -- `mend::is_dirty` meets its contract: each early return is a case of the test.
-use borrow.Author.Rules.{rules}
 use mathlib.Core.Path.{◌≡◌}
 use lib.ListN.{length}
 use Rattle.refusal.specs.First.{first_of}

@@ -1,5 +1,4 @@
 -- `mend::is_forbidden` meets its contract: not set, set alone, barred or not.
-use borrow.Author.Rules.{rules}
 use Rattle.mend.proofs.Steps.{forbidden_unset, forbidden_alone, forbidden_both}
 use Rattle.mend.proofs.is_forbidden.Goals as goal
 

@@ -1,5 +1,4 @@
 -- `mend::is_off` meets its contract: another feature, or what the bit says.
-use borrow.Author.Rules.{rules}
 use Rattle.mend.proofs.Steps.{off_other, off_bit}
 use Rattle.mend.proofs.is_off.Goals as goal
 

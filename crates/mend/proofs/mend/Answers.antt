@@ -1,5 +1,4 @@
 -- `mend::mend` meets its contract: the refusal of the reading, 49, 50, or copy and list.
-use borrow.Author.Rules.{rules}
 use mathlib.Core.Path.{refl}
 use native.Mathlib.Omega.{arith}
 use Rattle.reading.proofs.Completed.{complete_fault_here, complete_none}
@@ -25,9 +24,9 @@ returns-then-list-count c = mends_list _ _ _ (complete_none _ _ c.complete-readi
 
 pub fix_all-changes-requires : goal.fix_all-changes-requires
 fix_all-changes-requires c = let early = c in (
-      complete_none _ _ early.complete-reading.ensures early.if-fault-ne0.false,
-      copied_front c.copy-length.ensures early.if-copy-response.false,
-    )
+  complete_none _ _ early.complete-reading.ensures early.if-fault-ne0.false,
+  copied_front c.copy-length.ensures early.if-copy-response.false,
+)
 
 pub returns : goal.returns
 returns c = let early = c in

@@ -1,5 +1,4 @@
 -- `mend::note` meets its contract: no change, one that has room, one that has none.
-use borrow.Author.Rules.{rules}
 use Rattle.mend.proofs.Fixing.{noted_none, noted_some, noted_nowhere}
 use Rattle.mend.proofs.note.Goals as goal
 

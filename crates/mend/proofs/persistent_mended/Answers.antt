@@ -1,5 +1,4 @@
 -- `mend::persistent_mended` meets its contract: cleared or not.
-use borrow.Author.Rules.{rules}
 use Rattle.mend.proofs.Steps.{persistent_cleared, persistent_kept}
 use Rattle.mend.proofs.persistent_mended.Goals as goal
 

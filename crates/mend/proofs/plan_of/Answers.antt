@@ -1,5 +1,4 @@
 -- `mend::plan_of` meets its contract: each field is what a call gave.
-use borrow.Author.Rules.{rules}
 use Rattle.mend.proofs.plan_of.Goals as goal
 
 pub returns : goal.returns

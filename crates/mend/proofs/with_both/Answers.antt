@@ -1,5 +1,4 @@
 -- `mend::with_both` meets its contract: set or not.
-use borrow.Author.Rules.{rules}
 use Rattle.mend.proofs.with_both.Goals as goal
 
 pub returns-then-both : goal.returns-then-both

@@ -1,5 +1,4 @@
 -- `needs::check_feature` meets its contract: the refusal, or what is wrong with the feature by the profile's column.
-use borrow.Author.Rules.{rules}
 use Rattle.needs.specs.Alone.{judged_of}
 use Rattle.needs.proofs.Judgements.{fault_complete, judge_refused}
 use Rattle.needs.proofs.Alone.{one_judged}

@@ -1,5 +1,4 @@
 -- `needs::check_profile` meets its contract: the refusal, or the lowest that breaks the profile's column.
-use borrow.Author.Rules.{rules}
 use Rattle.needs.specs.Judge.{judged}
 use Rattle.needs.proofs.Judgements.{column_ascends, fault_complete, judge_refused, judge_lowest}
 use Rattle.needs.proofs.check_profile.Goals as goal

@@ -1,5 +1,4 @@
 -- `needs::judge_fault` meets its contract: each early return is a case of what refuses.
-use borrow.Author.Rules.{rules}
 use Rattle.reading.proofs.Completed.{complete_numbered}
 use Rattle.needs.proofs.Judgements.{fault_input, fault_table, fault_none}
 use Rattle.needs.proofs.judge_fault.Goals as goal

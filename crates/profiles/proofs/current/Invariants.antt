@@ -1,12 +1,9 @@
 -- `profiles::current` meets its contract: the loop carries what is left of the search.
-use borrow.Author.Rules.{rules}
-use Prim.Native.Nat.{ℕ, ◌≤◌, ◌-◌}
-use mathlib.Core.Path.{◌≡◌, ap}
-use native.Mathlib.Omega.{arith}
+use Prim.Native.Nat.{◌≤◌, ◌-◌}
+use mathlib.Core.Path.{◌≡◌}
 use Rattle.base.specs.Lists.{each}
 use Rattle.text.specs.Response.{current_profile}
 use Rattle.profiles.specs.Profiles.{listed, profiles_of}
-use Rattle.profiles.proofs.Loops.{current_stop, current_go, current_none}
 use Rattle.profiles.proofs.current.Given as goal
 
 abbrev pub invariant-loop-i : goal.invariant-loop-i

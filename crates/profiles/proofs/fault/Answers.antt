@@ -1,13 +1,8 @@
 -- `profiles::fault` meets its contract: the loop carries what is left of the search.
-use borrow.Author.Rules.{rules}
-use Prim.Native.Nat.{◌≤◌, ◌-◌}
-use mathlib.Core.Path.{◌≡◌}
 use native.Mathlib.Omega.{arith}
-use Rattle.refusal.specs.First.{first_of}
-use Rattle.refusal.proofs.First.{rest, first_start}
+use Rattle.refusal.proofs.First.{first_start}
 use Rattle.profiles.specs.Profiles.{records_fault}
-use Rattle.profiles.specs.inner.Within.{Within}
-use Rattle.profiles.proofs.Stopped.{at, records_stop, records_go, records_none}
+use Rattle.profiles.proofs.Stopped.{records_stop, records_go, records_none}
 use Rattle.profiles.proofs.Loops.{within_none, within_more}
 use Rattle.profiles.proofs.fault.Goals as goal
 

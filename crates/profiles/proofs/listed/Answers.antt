@@ -1,7 +1,5 @@
 -- `profiles::listed` meets its contract: the loop carries what is left of the search.
-use borrow.Author.Rules.{rules}
-use Prim.Native.Nat.{◌≤◌, ◌-◌}
-use mathlib.Core.Path.{◌≡◌, ap}
+use mathlib.Core.Path.{ap}
 use native.Mathlib.Omega.{arith}
 use Rattle.profiles.specs.Profiles.{lists}
 use Rattle.profiles.proofs.Loops.{lists_stop, lists_go, lists_none}

@@ -1,6 +1,5 @@
 -- `profiles::record_fault` meets its contract: the rule at what stands in the list, at its place.
 use Rattle.profiles.proofs.Loops.{lists_below, record_spoilt, record_above, record_judged, record_seen}
-use borrow.Author.Rules.{rules}
 use Rattle.profiles.proofs.record_fault.Goals as goal
 
 pub returns-then-two-gt1 : goal.returns-then-two-gt1

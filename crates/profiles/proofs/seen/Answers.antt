@@ -1,8 +1,7 @@
 -- `profiles::seen` meets its contract: the loop carries what was found and what is left of the search.
 use borrow.Author.Rules.{rules}
-use Prim.Native.Nat.{◌≤◌, ◌+◌, ◌-◌, ◌*◌, ◌/◌, ◌%◌}
-use mathlib.Core.Bool.{◌||◌}
-use mathlib.Core.Path.{◌≡◌, ap}
+use Prim.Native.Nat.{◌+◌, ◌*◌, ◌/◌, ◌%◌}
+use mathlib.Core.Path.{ap}
 use native.Mathlib.Omega.{arith}
 use Rattle.profiles.specs.Profiles.{lists}
 use Rattle.profiles.proofs.Loops.{two_go, seen_end}

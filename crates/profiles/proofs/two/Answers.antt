@@ -1,6 +1,5 @@
 -- `profiles::two` meets its contract: each byte stands for itself.
 use native.Mathlib.Omega.{arith}
-use borrow.Author.Rules.{rules}
 use Rattle.profiles.proofs.two.Goals as goal
 
 pub returns : goal.returns

@@ -1,7 +1,6 @@
 -- `reading::body_at` meets its contract: the part behind the four header bytes.
 use Rattle.text.specs.Reading.{desc_at}
 use Rattle.reading.proofs.At.{body_behind}
-use borrow.Author.Rules.{rules}
 use Rattle.reading.proofs.body_at.Goals as goal
 
 pub returns-then-s-at : goal.returns-then-s-at

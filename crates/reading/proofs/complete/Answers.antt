@@ -1,6 +1,5 @@
 -- `reading::complete` meets its contract: the reading, or that it is cut.
 use Rattle.reading.proofs.Completed.{complete_refused, complete_cut, complete_whole}
-use borrow.Author.Rules.{rules}
 use Rattle.reading.proofs.complete.Goals as goal
 
 pub returns-then-fault-ne0 : goal.returns-then-fault-ne0

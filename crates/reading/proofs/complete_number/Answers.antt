@@ -1,7 +1,6 @@
 -- `reading::complete_number` meets its contract: the header's number, the walk's, that it is cut, or none.
 use Rattle.reading.proofs.Outcome.{scan_room}
 use Rattle.reading.proofs.Completed.{number_header, number_walk, number_cut, number_none}
-use borrow.Author.Rules.{rules}
 use Rattle.reading.proofs.complete_number.Goals as goal
 
 pub returns-then-fault-ne0 : goal.returns-then-fault-ne0

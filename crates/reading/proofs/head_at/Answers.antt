@@ -1,6 +1,5 @@
 -- `reading::head_at` meets its contract: the rule at what is read.
 use Rattle.reading.proofs.Tally.{length_stands, head_fault_here, head_none}
-use borrow.Author.Rules.{rules}
 use Rattle.reading.proofs.head_at.Goals as goal
 
 pub inside-len-requires : goal.inside-len-requires

@@ -1,6 +1,5 @@
 -- `reading::held` meets its contract: the fresh part where it is not empty, else the kept one.
 use Rattle.reading.proofs.Fresh.{part_fresh, part_kept}
-use borrow.Author.Rules.{rules}
 use Rattle.reading.proofs.held.Goals as goal
 
 pub returns-then-part-ne0 : goal.returns-then-part-ne0

@@ -1,6 +1,5 @@
 -- `reading::held_in` meets its contract: the part at the place that was found.
 use Rattle.reading.proofs.Rest.{part_held}
-use borrow.Author.Rules.{rules}
 use Rattle.reading.proofs.held_in.Goals as goal
 
 pub returns : goal.returns

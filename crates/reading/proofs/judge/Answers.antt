@@ -1,6 +1,5 @@
 -- `reading::judge` meets its contract: the reading, or that it is cut, and the count of the scan.
 use Rattle.reading.proofs.Flagged.{judge_refused, judge_cut, judge_whole}
-use borrow.Author.Rules.{rules}
 use Rattle.reading.proofs.judge.Goals as goal
 
 pub returns-then-fault-ne0 : goal.returns-then-fault-ne0

@@ -1,6 +1,5 @@
 -- `reading::next_at` meets its contract: the two cases of the definition.
 use Rattle.reading.proofs.At.{next_behind, next_inside}
-use borrow.Author.Rules.{rules}
 use Rattle.reading.proofs.next_at.Goals as goal
 
 pub returns-then-s-at : goal.returns-then-s-at

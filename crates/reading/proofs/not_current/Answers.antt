@@ -1,5 +1,4 @@
 -- `reading::not_current` meets its contract: each early return is a case of the test.
-use borrow.Author.Rules.{rules}
 use Rattle.refusal.proofs.First.{tests}
 use Rattle.reading.proofs.not_current.Goals as goal
 

@@ -1,7 +1,6 @@
 -- `reading::odd` meets its contract: 1 for odd flags, 0 for others.
 use native.Mathlib.Omega.{arith}
 use Rattle.reading.proofs.Flagged.{odd_yes, odd_no}
-use borrow.Author.Rules.{rules}
 use Rattle.reading.proofs.odd.Goals as goal
 
 pub returns-then-odd : goal.returns-then-odd

@@ -1,6 +1,5 @@
 -- `reading::place_of` meets its contract: the place of the spot that was found.
 use Rattle.reading.specs.inner.Spot.{spot_in}
-use borrow.Author.Rules.{rules}
 use Rattle.reading.proofs.place_of.Goals as goal
 
 pub returns : goal.returns

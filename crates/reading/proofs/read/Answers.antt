@@ -1,6 +1,5 @@
 -- `reading::read` meets its contract: the reading of a scan.
 use Rattle.reading.specs.Scan.{scanned}
-use borrow.Author.Rules.{rules}
 use Rattle.reading.proofs.read.Goals as goal
 
 pub returns : goal.returns

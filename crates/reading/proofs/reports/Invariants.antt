@@ -1,16 +1,12 @@
 -- `reading::reports` meets its contract: the loop carries what is left of the search.
-use borrow.Author.Rules.{rules}
 use Prim.Native.Nat.{◌-◌}
 use mathlib.Core.Path.{◌≡◌}
 use lib.Dec.{eqb}
 use lib.ListN.{length}
-use Rattle.text.specs.Reading.{desc_at}
 use Rattle.base.specs.Pick.{some}
 use Rattle.reading.specs.Places.{reported, descs}
-use Rattle.refusal.proofs.Calls.{call_ne, below_ne}
 use Rattle.reading.specs.inner.Between.{from}
-use Rattle.reading.proofs.Places.{from_less}
-use Rattle.reading.proofs.Loops.{Here, four_in, here_start, here_next, here_end, here_told, walk_start, walk_next, walk_end}
+use Rattle.reading.proofs.Loops.{Here}
 use Rattle.reading.proofs.reports.Given as goal
 
 abbrev pub invariant-loop-at : goal.invariant-loop-at

@@ -1,7 +1,6 @@
 -- `reading::scan` meets its contract: a refusal of the header or of the walk, or the walk's numbers.
 use mathlib.Core.Path.{◌∙◌}
 use Rattle.reading.proofs.Outcome.{scan_room, scan_header, scan_walk, scan_taken}
-use borrow.Author.Rules.{rules}
 use Rattle.reading.proofs.scan.Goals as goal
 
 pub returns-then-fault-ne0 : goal.returns-then-fault-ne0

@@ -2,7 +2,6 @@
 use mathlib.Core.Path.{ap, ◌∙◌}
 use Rattle.reading.specs.declared.WalkJudged.{WalkJudged}
 use Rattle.reading.proofs.Outcome.{scan_room, scan_header, scan_walk, odd_header, odd_walk, judged_taken, both_scanned}
-use borrow.Author.Rules.{rules}
 use Rattle.reading.proofs.scan_judging.Goals as goal
 
 pub returns-then-fault-ne0 : goal.returns-then-fault-ne0

@@ -1,7 +1,6 @@
 -- `reading::spot_of` meets its contract: none where the header is refused, else what the walk finds.
 use Rattle.reading.proofs.Outcome.{scan_room}
 use Rattle.reading.proofs.Spots.{spot_header, spot_walk}
-use borrow.Author.Rules.{rules}
 use Rattle.reading.proofs.spot_of.Goals as goal
 
 pub returns-then-fault-ne0 : goal.returns-then-fault-ne0

@@ -1,6 +1,5 @@
 -- `reading::standing` meets its contract, by its two cases.
 use Rattle.reading.proofs.Outcome.{stand_none, stand_there}
-use borrow.Author.Rules.{rules}
 use Rattle.reading.proofs.standing.Goals as goal
 
 pub returns-then-headed : goal.returns-then-headed

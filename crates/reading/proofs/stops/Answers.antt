@@ -1,7 +1,6 @@
 -- `reading::stops` meets its contract: nowhere where the header is refused, else where the walk has come to.
 use mathlib.Core.Path.{◌∙◌}
 use Rattle.reading.proofs.Outcome.{scan_room, stop_header, stop_walk, stop_taken}
-use borrow.Author.Rules.{rules}
 use Rattle.reading.proofs.stops.Goals as goal
 
 pub returns-then-fault-ne0 : goal.returns-then-fault-ne0

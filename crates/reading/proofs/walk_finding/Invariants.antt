@@ -1,11 +1,8 @@
 -- `reading::walk_finding` meets its contract: the loop carries what is left of the walk, and where the descriptor was found.
-use borrow.Author.Rules.{rules}
 use Prim.Native.Nat.{◌-◌, ◌≤◌}
 use mathlib.Core.Path.{◌≡◌}
-use native.Mathlib.Omega.{arith}
 use lib.ListN.{length, drop}
-use Rattle.reading.proofs.Tally.{lengths_cut}
-use Rattle.reading.proofs.Spots.{Spotted, spot_start, spot_end, spot_refused, spot_cut, spot_more}
+use Rattle.reading.proofs.Spots.{Spotted}
 use Rattle.reading.proofs.walk_finding.Given as goal
 
 abbrev pub invariant-loop-at : goal.invariant-loop-at

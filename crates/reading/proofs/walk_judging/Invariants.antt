@@ -1,13 +1,11 @@
 -- `reading::walk_judging` meets its contract: the loop carries what is left of the walk, and of the count.
-use borrow.Author.Rules.{rules}
 use Prim.Native.Nat.{◌+◌, ◌*◌, ◌-◌, ◌≤◌}
 use mathlib.Core.Path.{◌≡◌}
-use native.Mathlib.Omega.{arith}
 use lib.ListN.{length, drop}
 use Rattle.text.specs.Reading.{walk}
 use Rattle.reading.specs.Judged.{odd_in}
 use Rattle.reading.specs.inner.Tally.{tally}
-use Rattle.reading.proofs.Tally.{lengths_cut, left, loop_start, loop_end, loop_fault, loop_cut, loop_more, both_judged, odds_start, odds_end, odds_fault, odds_cut, odds_more}
+use Rattle.reading.proofs.Tally.{left}
 use Rattle.reading.proofs.walk_judging.Given as goal
 
 abbrev pub invariant-loop-at : goal.invariant-loop-at

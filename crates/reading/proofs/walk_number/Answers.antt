@@ -1,11 +1,8 @@
 -- `reading::walk_number` meets its contract: the loop carries what is left of the walk.
 use borrow.Author.Rules.{rules}
-use Prim.Native.Nat.{◌+◌, ◌-◌, ◌≤◌}
-use mathlib.Core.Path.{◌≡◌}
 use native.Mathlib.Omega.{arith}
-use lib.ListN.{length, drop}
 use Rattle.reading.proofs.Tally.{lengths_cut}
-use Rattle.reading.proofs.Going.{Numbered, numbered_start, numbered_end, numbered_fault, numbered_more}
+use Rattle.reading.proofs.Going.{numbered_start, numbered_end, numbered_fault, numbered_more}
 use Rattle.reading.proofs.walk_number.Goals as goal
 
 pub loop-at-init : goal.loop-at-init

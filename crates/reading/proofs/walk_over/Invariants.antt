@@ -1,12 +1,10 @@
 -- `reading::walk_over` meets its contract: the loop carries what is left of the walk.
-use borrow.Author.Rules.{rules}
 use Prim.Native.Nat.{◌+◌, ◌*◌, ◌-◌, ◌≤◌}
 use mathlib.Core.Path.{◌≡◌}
-use native.Mathlib.Omega.{arith}
 use lib.ListN.{length, drop}
 use Rattle.text.specs.Reading.{walk}
 use Rattle.reading.specs.inner.Tally.{tally}
-use Rattle.reading.proofs.Tally.{lengths_cut, left, loop_start, loop_end, loop_fault, loop_cut, loop_more}
+use Rattle.reading.proofs.Tally.{left}
 use Rattle.reading.proofs.walk_over.Given as goal
 
 abbrev pub invariant-loop-at : goal.invariant-loop-at

@@ -6,7 +6,6 @@ use Rattle.layout.specs.declared.Entry.{Entry}
 use Rattle.layout.specs.Contents.{entry_of}
 use Rattle.sheet.specs.Check.{end_before_entry}
 use Rattle.sheet.proofs.Laws.{end_before}
-use borrow.Author.Rules.{rules}
 use Rattle.responder.proofs.end_in.Goals as goal
 
 pub returns-then-i-eq0 : goal.returns-then-i-eq0

@@ -3,7 +3,6 @@ use mathlib.Core.Path.{sym, ◌∙◌}
 use native.Mathlib.Omega.{arith}
 use Rattle.layout.specs.Layout.{stored}
 use Rattle.responder.proofs.Laws.{sizes_current, sizes_span}
-use borrow.Author.Rules.{rules}
 use Rattle.responder.proofs.entries_size.Goals as goal
 
 pub returns-then-rt-eq1 : goal.returns-then-rt-eq1

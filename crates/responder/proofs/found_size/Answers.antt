@@ -4,7 +4,6 @@ use mathlib.Core.Bool.{true, false}
 use native.Mathlib.Omega.{arith}
 use Rattle.responder.specs.inner.Index.{skips}
 use Rattle.responder.proofs.Laws.{found_size_none, found_size_some}
-use borrow.Author.Rules.{rules}
 use Rattle.responder.proofs.found_size.Goals as goal
 
 pub returns-then-skipped : goal.returns-then-skipped

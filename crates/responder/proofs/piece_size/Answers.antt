@@ -5,7 +5,6 @@ use native.Mathlib.Omega.{arith}
 use Rattle.layout.specs.Layout.{stored, flags}
 use Rattle.responder.specs.inner.Index.{skips}
 use Rattle.responder.proofs.Laws.{size_none, size_some}
-use borrow.Author.Rules.{rules}
 use Rattle.responder.proofs.piece_size.Goals as goal
 
 pub returns-then-skipped : goal.returns-then-skipped

@@ -1,10 +1,8 @@
 -- `responder::pieces_in` meets its contract: the loop adds up the entries passed.
-use Prim.Native.Nat.{◌-◌}
 use mathlib.Core.Path.{◌∙◌}
 use native.Mathlib.Omega.{arith}
 use Rattle.layout.specs.Layout.{stored}
-use Rattle.responder.proofs.Laws.{Summed, summed_start, summed_more, summed_end, found_size_law}
-use borrow.Author.Rules.{rules}
+use Rattle.responder.proofs.Laws.{summed_start, summed_more, summed_end, found_size_law}
 use Rattle.responder.proofs.pieces_in.Goals as goal
 
 pub loop-i-init : goal.loop-i-init

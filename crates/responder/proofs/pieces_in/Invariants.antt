@@ -1,10 +1,7 @@
 -- `responder::pieces_in` meets its contract: the loop adds up the entries passed.
 use Prim.Native.Nat.{◌-◌}
-use mathlib.Core.Path.{◌∙◌}
-use native.Mathlib.Omega.{arith}
 use Rattle.layout.specs.Layout.{stored}
-use Rattle.responder.proofs.Laws.{Summed, summed_start, summed_more, summed_end, found_size_law}
-use borrow.Author.Rules.{rules}
+use Rattle.responder.proofs.Laws.{Summed}
 use Rattle.responder.proofs.pieces_in.Given as goal
 
 abbrev pub invariant-loop-i : goal.invariant-loop-i

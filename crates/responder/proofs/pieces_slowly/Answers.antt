@@ -1,8 +1,5 @@
 -- `responder::pieces_slowly` meets its contract: the loop adds up the entries passed.
-use borrow.Author.Rules.{rules}
-use Prim.Native.Nat.{◌-◌}
-use Rattle.layout.specs.Layout.{stored}
-use Rattle.responder.proofs.Laws.{Summed, summed_start, summed_more, summed_end}
+use Rattle.responder.proofs.Laws.{summed_start, summed_more, summed_end}
 use Rattle.responder.proofs.pieces_slowly.Goals as goal
 
 pub loop-i-init : goal.loop-i-init

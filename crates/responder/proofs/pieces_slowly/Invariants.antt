@@ -1,8 +1,7 @@
 -- `responder::pieces_slowly` meets its contract: the loop adds up the entries passed.
-use borrow.Author.Rules.{rules}
 use Prim.Native.Nat.{◌-◌}
 use Rattle.layout.specs.Layout.{stored}
-use Rattle.responder.proofs.Laws.{Summed, summed_start, summed_more, summed_end}
+use Rattle.responder.proofs.Laws.{Summed}
 use Rattle.responder.proofs.pieces_slowly.Given as goal
 
 abbrev pub invariant-loop-i : goal.invariant-loop-i

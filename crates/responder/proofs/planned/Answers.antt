@@ -1,6 +1,5 @@
 -- `responder::planned` meets its contract: what its calls find.
 use Rattle.responder.specs.inner.Index.{taken_from, taken_to, taken_size, plan_of}
-use borrow.Author.Rules.{rules}
 use Rattle.responder.proofs.planned.Goals as goal
 
 pub returns : goal.returns

@@ -1,6 +1,5 @@
 -- `responder::put_entry` meets its contract: the fields stand where the layout has them.
 use Rattle.responder.specs.inner.Index.{desc_bytes}
-use borrow.Author.Rules.{rules}
 use Rattle.responder.proofs.put_entry.Goals as goal
 
 pub returns : goal.returns

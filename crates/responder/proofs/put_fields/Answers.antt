@@ -1,6 +1,5 @@
 -- `responder::put_fields` meets its contract: four writings one after the other.
 use Rattle.lent.proofs.Laws.{then}
-use borrow.Author.Rules.{rules}
 use Rattle.responder.proofs.put_fields.Goals as goal
 
 pub returns : goal.returns

@@ -2,7 +2,6 @@
 use native.Mathlib.Omega.{arith}
 use Rattle.lent.proofs.Laws.{kept}
 use Rattle.responder.proofs.Fitting.{fitted_none}
-use borrow.Author.Rules.{rules}
 use Rattle.responder.proofs.put_fitting.Goals as goal
 
 pub returns-then-n-to : goal.returns-then-n-to

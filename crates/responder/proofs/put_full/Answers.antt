@@ -2,7 +2,6 @@
 use Rattle.lent.proofs.Laws.{then}
 use Rattle.responder.specs.inner.Index.{full_bytes}
 use Rattle.responder.proofs.Laws.{header_bytes, zero_part_law}
-use borrow.Author.Rules.{rules}
 use Rattle.responder.proofs.put_full.Goals as goal
 
 pub returns : goal.returns

@@ -2,7 +2,6 @@
 use native.Mathlib.Omega.{arith}
 use Rattle.lent.proofs.Laws.{then, written_as}
 use Rattle.responder.proofs.Laws.{header_words}
-use borrow.Author.Rules.{rules}
 use Rattle.responder.proofs.put_header.Goals as goal
 
 pub returns : goal.returns

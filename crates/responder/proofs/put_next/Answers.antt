@@ -6,7 +6,6 @@ use Rattle.layout.specs.Layout.{stored}
 use Rattle.layout.proofs.Heads.{found_inside}
 use Rattle.responder.specs.inner.Index.{going}
 use Rattle.responder.proofs.Laws.{found_none, found_some}
-use borrow.Author.Rules.{rules}
 use Rattle.responder.proofs.put_next.Goals as goal
 
 pub returns-then-out-at : goal.returns-then-out-at

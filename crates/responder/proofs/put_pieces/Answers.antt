@@ -1,5 +1,4 @@
 -- `responder::put_pieces` meets its contract: two writings, one after the other.
-use borrow.Author.Rules.{rules}
 use Rattle.layout.specs.Layout.{stored}
 use Rattle.responder.proofs.Laws.{then_rest}
 use Rattle.responder.proofs.put_pieces.Goals as goal

@@ -1,12 +1,9 @@
 -- `responder::put_rest` meets its contract: the loop has written the entries passed; a full buffer takes no more.
 use mathlib.Core.Path.{◌≡◌}
-use borrow.Author.Rules.{rules}
-use Prim.Native.Nat.{◌-◌, ◌≤◌}
+use Prim.Native.Nat.{◌-◌}
 use native.Mathlib.Omega.{arith}
-use Rattle.lent.specs.Wrote.{Wrote}
 use Rattle.lent.proofs.Laws.{nothing, then, kept}
 use Rattle.layout.specs.Layout.{stored}
-use Rattle.responder.specs.inner.Index.{pieces}
 use Rattle.responder.proofs.Laws.{pieces_start, pieces_more, full_stop}
 use Rattle.responder.proofs.put_rest.Goals as goal
 

@@ -1,12 +1,8 @@
 -- `responder::put_rows` meets its contract: turn by turn as over any layout (Fitting.antt).
-use Prim.Native.Nat.{◌-◌}
 use native.Mathlib.Omega.{arith}
 use Rattle.lent.proofs.Laws.{kept}
-use Rattle.layout.specs.declared.Layout.TheVariants.{Rows}
-use Rattle.layout.specs.Layout.{stored}
 use Rattle.responder.proofs.Laws.{fewer_left}
-use Rattle.responder.proofs.Fitting.{Walked, walked_none, walked_kept, walked_stop, walked_more}
-use borrow.Author.Rules.{rules}
+use Rattle.responder.proofs.Fitting.{walked_none, walked_kept, walked_stop, walked_more}
 use Rattle.responder.proofs.put_rows.Goals as goal
 
 pub loop-i-init : goal.loop-i-init

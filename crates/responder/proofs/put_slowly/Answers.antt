@@ -5,7 +5,6 @@ use Rattle.lent.proofs.Laws.{nothing}
 use Rattle.layout.specs.Layout.{stored, flags}
 use Rattle.responder.specs.inner.Index.{skips}
 use Rattle.responder.proofs.Laws.{piece_none, piece_some}
-use borrow.Author.Rules.{rules}
 use Rattle.responder.proofs.put_slowly.Goals as goal
 
 pub returns-then-skipped : goal.returns-then-skipped

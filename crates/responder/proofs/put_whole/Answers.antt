@@ -8,7 +8,6 @@ use Rattle.layout.specs.Layout.{stored}
 use Rattle.layout.specs.Contents.{entry_of}
 use Rattle.layout.proofs.Heads.{length_head}
 use Rattle.responder.proofs.Laws.{whole_head, whole_body}
-use borrow.Author.Rules.{rules}
 use Rattle.responder.proofs.put_whole.Goals as goal
 
 pub returns-then-len-eq0 : goal.returns-then-len-eq0

@@ -3,7 +3,6 @@ use Prim.Native.Nat.{◌*◌, ◌%◌}
 use native.Mathlib.Omega.{arith}
 use Rattle.lent.proofs.Laws.{then, written_as}
 use Rattle.responder.proofs.Laws.{zero_words}
-use borrow.Author.Rules.{rules}
 use Rattle.responder.proofs.put_zero.Goals as goal
 
 pub returns : goal.returns

@@ -1,7 +1,6 @@
 -- `responder::put_zero_part` meets its contract, by the two cases of SFN.
 use Rattle.lent.proofs.Laws.{nothing}
 use Rattle.responder.proofs.Laws.{zero_sent, zero_left}
-use borrow.Author.Rules.{rules}
 use Rattle.responder.proofs.put_zero_part.Goals as goal
 
 pub returns-then-sfn-eq0 : goal.returns-then-sfn-eq0

@@ -6,7 +6,6 @@ use Rattle.layout.specs.Layout.{stored}
 use Rattle.sheet.specs.Check.{Accepted}
 use Rattle.responder.specs.Answer.{commanded}
 use Rattle.responder.proofs.Trusting.{answered_trusted, answered_after}
-use borrow.Author.Rules.{rules}
 use Rattle.responder.proofs.respond.Goals as goal
 
 pub returns-then-unfit-ne0 : goal.returns-then-unfit-ne0

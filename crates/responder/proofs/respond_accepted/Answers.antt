@@ -3,7 +3,6 @@ use Rattle.lent.proofs.Maker.{refused_unless}
 use Rattle.command.proofs.Asked.{asked_unless}
 use Rattle.layout.specs.Layout.{stored}
 use Rattle.responder.specs.Trusting.{trusting, trusting_command}
-use borrow.Author.Rules.{rules}
 use Rattle.responder.proofs.respond_accepted.Goals as goal
 
 pub returns-then-fault-ne0 : goal.returns-then-fault-ne0

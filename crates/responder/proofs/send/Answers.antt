@@ -6,7 +6,6 @@ use Rattle.responder.specs.declared.Plan.{Plan}
 use Rattle.responder.specs.inner.Index.{taken_from, taken_size, plan_of, limit}
 use Rattle.responder.specs.Trusting.{trusting}
 use Rattle.responder.proofs.Sized.{sized_short, sized_sent}
-use borrow.Author.Rules.{rules}
 use Rattle.responder.proofs.send.Goals as goal
 
 pub returns-then-out-limit : goal.returns-then-out-limit

@@ -3,7 +3,6 @@ use mathlib.Core.Path.{sym}
 use lib.Seq.{length-take-le}
 use Rattle.layout.specs.Layout.{stored}
 use Rattle.responder.proofs.Sized.{sized_short, sized_sent}
-use borrow.Author.Rules.{rules}
 use Rattle.responder.proofs.send_sized.Goals as goal
 
 pub returns-then-out-cut : goal.returns-then-out-cut

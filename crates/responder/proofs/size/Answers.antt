@@ -2,7 +2,6 @@
 use mathlib.Core.Path.{ap}
 use Rattle.responder.specs.declared.Plan.{Plan}
 use Rattle.responder.specs.inner.Index.{plan_of}
-use borrow.Author.Rules.{rules}
 use Rattle.responder.proofs.size.Goals as goal
 
 pub returns : goal.returns

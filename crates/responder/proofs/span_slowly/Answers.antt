@@ -3,7 +3,6 @@ use native.Mathlib.Omega.{arith}
 use Rattle.layout.specs.Layout.{stored}
 use Rattle.responder.specs.inner.Index.{span}
 use Rattle.responder.proofs.Laws.{end_low}
-use borrow.Author.Rules.{rules}
 use Rattle.responder.proofs.span_slowly.Goals as goal
 
 pub overflow_add-result : goal.overflow_add-result

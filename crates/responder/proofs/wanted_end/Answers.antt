@@ -2,7 +2,6 @@
 use mathlib.Core.Path.{sym, ◌∙◌}
 use Rattle.layout.specs.Layout.{stored}
 use Rattle.responder.proofs.Laws.{end_all, end_none, end_one, end_other}
-use borrow.Author.Rules.{rules}
 use Rattle.responder.proofs.wanted_end.Goals as goal
 
 pub returns-then-rt-lt2 : goal.returns-then-rt-lt2

@@ -2,7 +2,6 @@
 use mathlib.Core.Path.{sym}
 use native.Mathlib.Omega.{arith}
 use Rattle.responder.proofs.Laws.{zero_size_sent, zero_size_left}
-use borrow.Author.Rules.{rules}
 use Rattle.responder.proofs.zero_size.Goals as goal
 
 pub returns-then-sfn-eq0 : goal.returns-then-sfn-eq0

@@ -1,5 +1,4 @@
 -- `rom::agrees` meets its contract: the two cases of the definition.
-use borrow.Author.Rules.{rules}
 use Rattle.rom.proofs.Parts.{agrees_yes, agrees_no}
 use Rattle.rom.proofs.agrees.Goals as goal
 

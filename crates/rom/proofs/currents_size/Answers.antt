@@ -1,9 +1,6 @@
 -- `rom::currents_size` meets its contract: the loop carries what is counted and what is left.
-use borrow.Author.Rules.{rules}
-use Prim.Native.Nat.{◌-◌}
 use native.Mathlib.Omega.{arith}
-use lib.ListN.{length}
-use Rattle.rom.proofs.Runs.{Counted, counted_start, counted_more, counted_end, turn, run_further}
+use Rattle.rom.proofs.Runs.{counted_start, counted_more, counted_end, turn, run_further}
 use Rattle.rom.proofs.currents_size.Goals as goal
 
 pub loop-at-init : goal.loop-at-init

@@ -1,9 +1,7 @@
 -- `rom::currents_size` meets its contract: the loop carries what is counted and what is left.
-use borrow.Author.Rules.{rules}
 use Prim.Native.Nat.{◌-◌}
-use native.Mathlib.Omega.{arith}
 use lib.ListN.{length}
-use Rattle.rom.proofs.Runs.{Counted, counted_start, counted_more, counted_end, turn, run_further}
+use Rattle.rom.proofs.Runs.{Counted}
 use Rattle.rom.proofs.currents_size.Given as goal
 
 abbrev pub invariant-loop-at : goal.invariant-loop-at

@@ -3,7 +3,6 @@ use native.Mathlib.Omega.{arith}
 use mathlib.Core.Path.{ap}
 use lib.ListN.{length}
 use Rattle.rom.proofs.Parts.{head_length}
-use borrow.Author.Rules.{rules}
 use Rattle.rom.proofs.due.Goals as goal
 
 pub returns : goal.returns

@@ -1,11 +1,8 @@
 -- `rom::first_from` meets its contract: the loop carries what is left of the search.
-use borrow.Author.Rules.{rules}
 use Prim.Native.Nat.{◌-◌}
-use mathlib.Core.Path.{◌≡◌, refl}
+use mathlib.Core.Path.{◌≡◌}
 use lib.ListN.{length}
-use Rattle.reading.proofs.Places.{from_less}
 use Rattle.rom.specs.inner.Standing.{first_at, from_at}
-use Rattle.rom.proofs.Seek.{from_found, from_go, seek_end}
 use Rattle.rom.proofs.first_from.Given as goal
 
 abbrev pub invariant-loop-at : goal.invariant-loop-at

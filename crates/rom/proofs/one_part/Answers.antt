@@ -1,5 +1,4 @@
 -- `rom::one_part` meets its contract: all from the place on, nothing, or the descriptor there.
-use borrow.Author.Rules.{rules}
 use Rattle.rom.proofs.Parts.{one_all, one_other, one_it}
 use Rattle.rom.proofs.one_part.Goals as goal
 

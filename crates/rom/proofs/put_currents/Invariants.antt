@@ -1,10 +1,7 @@
 -- `rom::put_currents` meets its contract: the loop carries what was written and what is left; a full buffer takes no more.
-use borrow.Author.Rules.{rules}
 use Prim.Native.Nat.{◌-◌}
-use native.Mathlib.Omega.{arith}
 use lib.ListN.{length}
-use Rattle.lent.proofs.Laws.{kept}
-use Rattle.rom.proofs.Runs.{Copied, copied_start, copied_more, copied_full, copied_end, turn, run_further}
+use Rattle.rom.proofs.Runs.{Copied}
 use Rattle.rom.proofs.put_currents.Given as goal
 
 abbrev pub invariant-loop-place : goal.invariant-loop-place

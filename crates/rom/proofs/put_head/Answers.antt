@@ -6,7 +6,6 @@ use Rattle.fields.proofs.Laws.{spell_field}
 use Rattle.lent.proofs.Laws.{then, written_as}
 use Rattle.rom.specs.inner.Standing.{head_of}
 use Rattle.text.specs.Reading.{stated_length}
-use borrow.Author.Rules.{rules}
 use Rattle.rom.proofs.put_head.Goals as goal
 
 pub returns-then-image-lt-LENGTH : goal.returns-then-image-lt-LENGTH

@@ -1,6 +1,5 @@
 -- `rom::put_response` meets its contract: two writings one after the other.
 use Rattle.lent.proofs.Laws.{then}
-use borrow.Author.Rules.{rules}
 use Rattle.rom.proofs.put_response.Goals as goal
 
 pub returns : goal.returns

@@ -1,6 +1,5 @@
 -- `rom::put_wanted` meets its contract: the two cases of what is wanted.
 use Rattle.rom.proofs.Parts.{wanted_currents, wanted_one}
-use borrow.Author.Rules.{rules}
 use Rattle.rom.proofs.put_wanted.Goals as goal
 
 pub returns-then-rt-eq1 : goal.returns-then-rt-eq1

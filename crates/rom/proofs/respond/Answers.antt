@@ -7,7 +7,6 @@ use Rattle.lent.proofs.Maker.{refused_unless}
 use Rattle.capture.specs.Capture.{capture_fault}
 use Rattle.capture.proofs.Checked.{capture_refusal}
 use Rattle.rom.proofs.Accepted.{image_accepted, answered_after}
-use borrow.Author.Rules.{rules}
 use Rattle.rom.proofs.respond.Goals as goal
 
 pub returns-then-fault-ne0 : goal.returns-then-fault-ne0

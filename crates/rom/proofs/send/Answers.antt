@@ -2,7 +2,6 @@
 use mathlib.Core.Path.{sym}
 use lib.Seq.{length-take-le}
 use Rattle.rom.proofs.Sending.{requested_short, requested_sent}
-use borrow.Author.Rules.{rules}
 use Rattle.rom.proofs.send.Goals as goal
 
 pub returns-then-out-limit : goal.returns-then-out-limit

@@ -3,7 +3,6 @@ use mathlib.Core.Path.{ap, ◌∙◌}
 use native.Mathlib.Omega.{arith}
 use lib.ListN.{length}
 use Rattle.rom.proofs.Parts.{wanted_currents, wanted_one, one_most}
-use borrow.Author.Rules.{rules}
 use Rattle.rom.proofs.wanted_size.Goals as goal
 
 pub returns-then-rt-eq1 : goal.returns-then-rt-eq1

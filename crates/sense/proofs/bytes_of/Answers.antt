@@ -1,6 +1,5 @@
 -- `sense::bytes_of` meets its contract: the bytes of each kind are those of the definition.
 use mathlib.Core.Path.{sym, ap, ◌∙◌}
-use borrow.Author.Rules.{rules}
 use Rattle.sense.specs.Sense.{sense_of, key, code, pointer}
 use Rattle.sense.proofs.bytes_of.Goals as goal
 

@@ -1,9 +1,6 @@
 -- `sense::is_same` meets its contract: the loop carries what is left to compare.
 use borrow.Author.Rules.{rules}
-use Prim.Native.Nat.{◌-◌}
-use mathlib.Core.Path.{◌≡◌, refl}
-use lib.ListN.{length, drop}
-use Rattle.sense.specs.Sense.{same}
+use mathlib.Core.Path.{refl}
 use Rattle.sense.proofs.Same.{same_lengths, same_differs, same_next, same_end}
 use Rattle.sense.proofs.is_same.Goals as goal
 

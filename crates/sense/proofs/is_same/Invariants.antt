@@ -1,10 +1,8 @@
 -- `sense::is_same` meets its contract: the loop carries what is left to compare.
-use borrow.Author.Rules.{rules}
 use Prim.Native.Nat.{◌-◌}
-use mathlib.Core.Path.{◌≡◌, refl}
+use mathlib.Core.Path.{◌≡◌}
 use lib.ListN.{length, drop}
 use Rattle.sense.specs.Sense.{same}
-use Rattle.sense.proofs.Same.{same_lengths, same_differs, same_next, same_end}
 use Rattle.sense.proofs.is_same.Given as goal
 
 abbrev pub invariant-loop-i : goal.invariant-loop-i

@@ -1,12 +1,9 @@
 -- `sense::kind_of` meets its contract: the loop carries what is left of the walk over the table.
-use borrow.Author.Rules.{rules}
-use borrow.Author.Tests.{eq-eqb, ne_eqb}
 use Prim.Native.Nat.{◌≤◌, ◌-◌}
-use mathlib.Core.Path.{◌≡◌, refl}
-use native.Mathlib.Omega.{arith}
+use mathlib.Core.Path.{◌≡◌}
 use lib.Dec.{eqb}
 use lib.ListN.{length}
-use Rattle.base.proofs.Pick.{left, pick_found, pick_next, pick_none}
+use Rattle.base.proofs.Pick.{left}
 use Rattle.refusal.specs.First.{refuse}
 use Rattle.sense.specs.Sense.{given, heard, kind_of}
 use Rattle.sense.specs.declared.Sense.TheVariants.{Means, Refused}

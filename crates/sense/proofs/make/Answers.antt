@@ -1,5 +1,4 @@
 -- `sense::make` meets its contract: 54, or the bytes of the number's kind.
-use borrow.Author.Rules.{rules}
 use Rattle.sense.proofs.Making.{make_other, make_kind}
 use Rattle.sense.proofs.make.Goals as goal
 

@@ -1,5 +1,4 @@
 -- `sense::meaning` meets its contract: the kinds are tried in turn.
-use borrow.Author.Rules.{rules}
 use Rattle.sense.specs.Sense.{meant, kinds}
 use Rattle.sense.proofs.Tried.{is_first, is_later, is_none}
 use Rattle.sense.proofs.meaning.Goals as goal

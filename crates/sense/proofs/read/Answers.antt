@@ -1,7 +1,6 @@
 -- `sense::read` meets its contract: 46 and 47, or what the bytes mean.
 use mathlib.Core.List.{[]}
 use mathlib.Core.Path.{sym, ap, ◌∙◌}
-use borrow.Author.Rules.{rules}
 use Rattle.refusal.specs.declared.Refusal.{Refusal}
 use Rattle.refusal.proofs.First.{unless_none, unless_fault, call_none, call_fault}
 use Rattle.sense.specs.Sense.{sensed, hearing, meant, form_fault}

@@ -1,5 +1,4 @@
 -- `sense::write` meets its contract: 55, or the bytes of the kind.
-use borrow.Author.Rules.{rules}
 use Rattle.sense.proofs.Making.{write_short, write_written}
 use Rattle.sense.proofs.write.Goals as goal
 

@@ -1,7 +1,6 @@
 -- `sheet::accepted_at_a_glance` meets its contract.
 use mathlib.Core.Path.{refl, sym, ◌∙◌}
 use borrow.Author.Rules.{rules}
-use borrow.Author.Tests.{not-true, not-false}
 use Rattle.refusal.proofs.First.{tests}
 use mathlib.Core.Bool.{true, false}
 use Rattle.sheet.specs.inner.Glance.{glanced}

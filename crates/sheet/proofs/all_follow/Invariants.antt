@@ -1,15 +1,11 @@
 -- `sheet::all_follow` meets its contract: the loop carries what the entries before the index show, and what the last of them leaves for the next.
-use borrow.Author.Rules.{rules}
 use Prim.Native.Nat.{◌≤◌, ◌-◌}
-use mathlib.Core.Path.{◌≡◌, refl}
-use native.Mathlib.Omega.{arith}
+use mathlib.Core.Path.{◌≡◌}
 use lib.Dec.{eqb}
 use Rattle.layout.specs.declared.Layout.TheVariants.{Columns}
 use Rattle.layout.specs.Layout.{stored}
 use Rattle.sheet.specs.Check.{number_before, end_before_entry}
 use Rattle.sheet.specs.inner.Glance.{every, ascends, meets}
-use Rattle.sheet.proofs.Laws.{next_number, next_end}
-use Rattle.sheet.proofs.Glance.{lates_next, apart_next, following_end}
 use Rattle.sheet.proofs.all_follow.Given as goal
 
 abbrev pub invariant-loop-i : goal.invariant-loop-i

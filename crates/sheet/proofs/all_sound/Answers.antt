@@ -1,11 +1,7 @@
 -- `sheet::all_sound` meets its contract: the loop carries what all entries before the index show.
-use borrow.Author.Rules.{rules}
-use Prim.Native.Nat.{◌≤◌, ◌-◌}
-use mathlib.Core.Path.{◌≡◌, refl}
+use mathlib.Core.Path.{refl}
 use native.Mathlib.Omega.{arith}
-use Rattle.layout.specs.declared.Layout.TheVariants.{Columns}
-use Rattle.layout.specs.Layout.{stored}
-use Rattle.sheet.specs.inner.Glance.{every, sound_at}
+use Rattle.sheet.specs.inner.Glance.{every}
 use Rattle.sheet.proofs.Glance.{every_next, every_end, read_sound}
 use Rattle.sheet.proofs.all_sound.Goals as goal
 

@@ -4,7 +4,6 @@ use Rattle.refusal.proofs.First.{tests}
 use Rattle.sheet.specs.Check.{verdict}
 use Rattle.sheet.proofs.Laws.{verdict_counted}
 use Rattle.layout.specs.Layout.{stored}
-use borrow.Author.Rules.{rules}
 use Rattle.sheet.proofs.check.Goals as goal
 
 pub returns-then-view-lt4 : goal.returns-then-view-lt4

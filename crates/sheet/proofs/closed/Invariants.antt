@@ -1,8 +1,7 @@
 -- `sheet::closed` meets its contract: the loop carries what is left of the search.
-use borrow.Author.Rules.{rules}
 use Prim.Native.Nat.{◌-◌}
 use Rattle.layout.specs.Layout.{stored}
-use Rattle.sheet.proofs.Bisection.{half_smaller, Turning, turning_start, turning_more, turning_end}
+use Rattle.sheet.proofs.Bisection.{Turning}
 use Rattle.sheet.proofs.closed.Given as goal
 
 abbrev pub invariant-loop-low : goal.invariant-loop-low

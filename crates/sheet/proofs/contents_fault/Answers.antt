@@ -1,6 +1,5 @@
 -- `sheet::contents_fault` meets its contract, at a glance or entry by entry.
 use mathlib.Core.Path.{sym, ◌∙◌}
-use borrow.Author.Rules.{rules}
 use Rattle.sheet.proofs.Glance.{glance_accepts}
 use Rattle.sheet.proofs.contents_fault.Goals as goal
 

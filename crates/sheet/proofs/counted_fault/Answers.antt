@@ -1,7 +1,6 @@
 -- `sheet::counted_fault` meets its contract: each early return is a case of the definition.
 use Rattle.refusal.proofs.First.{tests}
 use Rattle.sheet.specs.Check.{counted}
-use borrow.Author.Rules.{rules}
 use Rattle.sheet.proofs.Laws.{few_records}
 use Rattle.sheet.proofs.counted_fault.Goals as goal
 

@@ -3,7 +3,6 @@ use native.Mathlib.Omega.{arith}
 use Rattle.sheet.specs.Check.{end_before_entry}
 use Rattle.sheet.proofs.Laws.{end_before}
 use Rattle.layout.specs.Layout.{stored}
-use borrow.Author.Rules.{rules}
 use Rattle.sheet.proofs.end_before.Goals as goal
 
 pub returns-then-i-eq0 : goal.returns-then-i-eq0

@@ -1,11 +1,9 @@
 -- `sheet::entries_fault` meets its contract: the loop carries what is left of the search, and what the entry before leaves for the next.
 use Rattle.layout.specs.Layout.{stored}
-use borrow.Author.Rules.{rules}
-use Prim.Native.Nat.{◌≤◌, ◌-◌}
 use mathlib.Core.Path.{◌≡◌, refl}
 use native.Mathlib.Omega.{arith}
 use Rattle.refusal.specs.First.{first_of}
-use Rattle.refusal.proofs.First.{tests, rest, first_start, first_stop, first_go}
+use Rattle.refusal.proofs.First.{tests, first_start, first_stop, first_go}
 use Rattle.sheet.specs.Check.{number_before, end_before_entry, entry_fault}
 use Rattle.sheet.proofs.Laws.{carried, next_number, next_end, behind_last}
 use Rattle.sheet.proofs.entries_fault.Goals as goal

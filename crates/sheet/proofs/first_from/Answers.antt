@@ -1,6 +1,5 @@
 -- `sheet::first_from` meets its contract: the bisection of all.
 use mathlib.Core.Path.{◌∙◌}
-use borrow.Author.Rules.{rules}
 use Rattle.sheet.proofs.Bisection.{first_of_all, first_closed}
 use Rattle.sheet.proofs.first_from.Goals as goal
 

@@ -3,7 +3,6 @@ use mathlib.Core.Path.{sym}
 use Rattle.sheet.proofs.Bisection.{half_above, half_below}
 use native.Mathlib.Omega.{arith}
 use Rattle.layout.specs.Layout.{stored}
-use borrow.Author.Rules.{rules}
 use Rattle.sheet.proofs.halved.Goals as goal
 
 pub returns-then-feature-sfn : goal.returns-then-feature-sfn

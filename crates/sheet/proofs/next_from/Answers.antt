@@ -1,9 +1,7 @@
 -- `sheet::next_from` meets its contract: the loop carries what is left of the walk, and bisection follows.
-use borrow.Author.Rules.{rules}
-use mathlib.Core.Path.{◌≡◌, refl, sym, ◌∙◌}
+use mathlib.Core.Path.{refl, sym, ◌∙◌}
 use native.Mathlib.Omega.{arith}
-use Rattle.layout.specs.Layout.{stored}
-use Rattle.sheet.specs.inner.Search.{passing, next_from}
+use Rattle.sheet.specs.inner.Search.{next_from}
 use Rattle.sheet.proofs.Passing.{passing_more, passing_stop, passing_done, passing_none}
 use Rattle.sheet.proofs.next_from.Goals as goal
 

@@ -1,5 +1,4 @@
 -- `sheet::sound` meets its contract.
-use borrow.Author.Rules.{rules}
 use Rattle.refusal.proofs.First.{tests}
 use Rattle.sheet.specs.inner.Glance.{sound}
 use Rattle.sheet.proofs.sound.Goals as goal

@@ -1,7 +1,6 @@
 -- `checks::rules::body_fault` meets its contract: each early return is a case of the rule.
 use Rattle.refusal.proofs.First.{if_false, faults, tests}
 use Rattle.checks.specs.Rules.{body_fault}
-use borrow.Author.Rules.{rules}
 use borrow.Author.Tests.{eq-eqb}
 use Rattle.checks.proofs.rules.body_fault.Goals as goal
 

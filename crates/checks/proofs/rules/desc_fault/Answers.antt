@@ -3,7 +3,6 @@ use mathlib.Core.Path.{sym, ◌∙◌}
 use Rattle.refusal.proofs.First.{faults, or_else_none, or_else_fault, call_none, call_fault}
 use Rattle.checks.specs.Rules.{desc_fault}
 use Rattle.checks.proofs.Other.{other_accept}
-use borrow.Author.Rules.{rules}
 use Rattle.checks.proofs.rules.desc_fault.Goals as goal
 
 pub returns-then-fault-ne0 : goal.returns-then-fault-ne0

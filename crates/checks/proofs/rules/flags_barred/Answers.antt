@@ -1,5 +1,4 @@
 -- `checks::rules::flags_barred` meets its contract: each early return is a case of the rule.
-use borrow.Author.Rules.{rules}
 use borrow.Author.Tests.{not-true, not-false}
 use Rattle.std.proofs.lemmas.Bool.{not_from_true, not_from_false}
 use Rattle.checks.specs.Rules.{flags_barred}

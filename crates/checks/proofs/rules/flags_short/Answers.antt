@@ -1,6 +1,5 @@
 -- `checks::rules::flags_short` meets its contract: each early return is a case of the rule.
-use borrow.Author.Rules.{rules}
-use borrow.Author.Tests.{le-leb, lt-leb, not-true, not-false}
+use borrow.Author.Tests.{le-leb, lt-leb}
 use mathlib.Core.Path.{sym, ◌∙◌}
 use Rattle.checks.specs.Rules.{flags_short}
 use Rattle.checks.proofs.rules.flags_short.Goals as goal

@@ -1,12 +1,8 @@
 -- `checks::rules::profiles_fault` meets its contract: the loop carries what is left of the search.
-use borrow.Author.Rules.{rules}
-use Prim.Native.Nat.{◌≤◌, ◌-◌}
-use mathlib.Core.Path.{◌≡◌}
 use native.Mathlib.Omega.{arith}
-use Rattle.refusal.specs.First.{first_of}
-use Rattle.refusal.proofs.First.{rest, first_start, first_stop, first_go, first_none}
+use Rattle.refusal.proofs.First.{first_start, first_stop, first_go, first_none}
 use Rattle.refusal.proofs.First.{tests}
-use Rattle.checks.specs.Rules.{profile_at, profiles_fault}
+use Rattle.checks.specs.Rules.{profiles_fault}
 use Rattle.checks.proofs.rules.profiles_fault.Goals as goal
 
 pub returns-then-f-ne0 : goal.returns-then-f-ne0

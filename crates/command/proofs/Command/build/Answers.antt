@@ -1,7 +1,6 @@
 -- `command::Command::build` meets its contract: 9, 11, 12, or the front of the packet.
 use mathlib.Core.Path.{sym}
 use lib.Seq.{length-take-le}
-use borrow.Author.Rules.{rules}
 use Rattle.std.proofs.lemmas.Bool.{not_from_true, not_from_false}
 use Rattle.command.proofs.Built.{long, other, refused_length, refused_rt, refused_short, front_written}
 use Rattle.command.proofs.Command.build.Goals as goal

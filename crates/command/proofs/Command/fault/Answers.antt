@@ -1,7 +1,6 @@
 -- `command::Command::fault` meets its contract: each early return is a case of the definition.
 use Rattle.refusal.proofs.First.{tests}
 use Rattle.command.specs.Command.{command_fault, opcode_of, rt_of}
-use borrow.Author.Rules.{rules}
 use Rattle.command.proofs.Command.fault.Goals as goal
 
 pub returns-then-not-admits : goal.returns-then-not-admits

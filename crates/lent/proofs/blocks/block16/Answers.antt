@@ -1,7 +1,6 @@
 -- `lent::blocks::block16` meets its contract: the law of a block, twice.
 use native.Mathlib.Omega.{arith}
 use Rattle.lent.proofs.Copying.{same_more, same_less}
-use borrow.Author.Rules.{rules}
 use Rattle.lent.proofs.blocks.block16.Goals as goal
 
 pub returns : goal.returns

@@ -1,7 +1,6 @@
 -- `lent::blocks::block32` meets its contract: two blocks, one behind the other.
 use native.Mathlib.Omega.{arith}
 use Rattle.lent.proofs.Copying.{same_less}
-use borrow.Author.Rules.{rules}
 use Rattle.lent.proofs.blocks.block32.Goals as goal
 
 pub returns : goal.returns

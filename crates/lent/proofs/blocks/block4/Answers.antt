@@ -1,5 +1,4 @@
 -- `lent::blocks::block4` meets its contract: the law of a block.
-use borrow.Author.Rules.{rules}
 use Rattle.lent.proofs.Copying.{same_more}
 use Rattle.lent.proofs.blocks.block4.Goals as goal
 

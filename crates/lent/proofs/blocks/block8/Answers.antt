@@ -1,5 +1,4 @@
 -- `lent::blocks::block8` meets its contract: the law of a block.
-use borrow.Author.Rules.{rules}
 use Rattle.lent.proofs.Copying.{same_more}
 use Rattle.lent.proofs.blocks.block8.Goals as goal
 

@@ -3,7 +3,6 @@ use Prim.Native.Nat.{◌-◌}
 use native.Mathlib.Omega.{arith}
 use lib.ListN.{length}
 use Rattle.lent.proofs.Copying.{same_start, same_less, same_end}
-use borrow.Author.Rules.{rules}
 use Rattle.lent.proofs.blocks.by16.Goals as goal
 
 pub block16-requires : goal.block16-requires

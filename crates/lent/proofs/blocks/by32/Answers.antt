@@ -3,7 +3,6 @@ use Prim.Native.Nat.{◌-◌}
 use native.Mathlib.Omega.{arith}
 use lib.ListN.{length}
 use Rattle.lent.proofs.Copying.{same_start, same_less, same_end}
-use borrow.Author.Rules.{rules}
 use Rattle.lent.proofs.blocks.by32.Goals as goal
 
 pub block32-requires : goal.block32-requires

@@ -1,10 +1,7 @@
 -- `lent::blocks::by64` meets its contract: block after block, and the last 64 bytes whatever stood there.
 use Prim.Native.Nat.{◌≤◌, ◌-◌}
-use native.Mathlib.Omega.{arith}
-use borrow.Author.Rules.{rules}
 use lib.ListN.{length}
 use Rattle.lent.specs.inner.Same.{Same}
-use Rattle.lent.proofs.Copying.{same_start, same_less, same_end}
 use Rattle.lent.proofs.blocks.by64.Given as goal
 
 abbrev pub invariant-loop-i : goal.invariant-loop-i

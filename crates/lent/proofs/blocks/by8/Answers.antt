@@ -1,7 +1,6 @@
 -- `lent::blocks::by8` meets its contract: a block, and the last 8 bytes whatever stood there.
 use Prim.Native.Nat.{◌-◌}
 use native.Mathlib.Omega.{arith}
-use borrow.Author.Rules.{rules}
 use lib.ListN.{length}
 use Rattle.lent.proofs.Copying.{same_start, same_less, same_end}
 use Rattle.lent.proofs.blocks.by8.Goals as goal

@@ -1,6 +1,5 @@
 -- `lent::blocks::fill` meets its contract: by blocks as large as there are bytes for.
 use Rattle.lent.proofs.Copying.{whole}
-use borrow.Author.Rules.{rules}
 use Rattle.lent.proofs.blocks.fill.Goals as goal
 
 pub returns-then-s-lt8 : goal.returns-then-s-lt8

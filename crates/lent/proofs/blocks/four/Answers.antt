@@ -1,6 +1,5 @@
 -- `lent::blocks::four` meets its contract: one block.
 use native.Mathlib.Omega.{arith}
-use borrow.Author.Rules.{rules}
 use Rattle.lent.proofs.Copying.{same_start, same_end}
 use Rattle.lent.proofs.blocks.four.Goals as goal
 

@@ -1,5 +1,4 @@
 -- `needs::one::free_at` meets its contract: it is too long, or nothing is wrong.
-use borrow.Author.Rules.{rules}
 use Rattle.needs.proofs.Alone.{free_long, free_fits}
 use Rattle.needs.proofs.one.free_at.Goals as goal
 

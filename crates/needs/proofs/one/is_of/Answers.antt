@@ -1,5 +1,4 @@
 -- `needs::one::is_of` meets its contract: each early return is a case of the definition.
-use borrow.Author.Rules.{rules}
 use Rattle.needs.proofs.Alone.{and_yes, and_no}
 use Rattle.needs.proofs.one.is_of.Goals as goal
 

@@ -1,5 +1,4 @@
 -- `needs::one::judged_absent` meets its contract: it is needed, or it is not.
-use borrow.Author.Rules.{rules}
 use Rattle.needs.proofs.Alone.{none_needed, none_free}
 use Rattle.needs.proofs.one.judged_absent.Goals as goal
 

@@ -1,5 +1,4 @@
 -- `needs::one::judged_at` meets its contract: its line has the mark, or it has not.
-use borrow.Author.Rules.{rules}
 use Rattle.needs.proofs.Alone.{by_line, by_none}
 use Rattle.needs.proofs.one.judged_at.Goals as goal
 

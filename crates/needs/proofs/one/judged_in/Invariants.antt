@@ -1,14 +1,11 @@
 -- `needs::one::judged_in` meets its contract: the loop carries what is left of the search.
-use borrow.Author.Rules.{rules}
 use Prim.Native.Nat.{◌-◌}
 use mathlib.Core.Path.{◌≡◌}
 use lib.ListN.{length}
 use Rattle.reading.specs.Places.{descs}
 use Rattle.reading.specs.inner.Between.{from}
-use Rattle.reading.proofs.Places.{from_less}
 use Rattle.needs.specs.Judge.{desc_of, wrong_of}
 use Rattle.needs.specs.inner.Alone.{line_list, says_one}
-use Rattle.needs.proofs.Alone.{one_start, one_here, one_next, one_none}
 use Rattle.needs.proofs.one.judged_in.Given as goal
 
 abbrev pub invariant-loop-at : goal.invariant-loop-at

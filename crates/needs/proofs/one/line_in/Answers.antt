@@ -1,11 +1,7 @@
 -- `needs::one::line_in` meets its contract: the loop carries what is left of the walk over the lines.
-use borrow.Author.Rules.{rules}
-use Prim.Native.Nat.{◌≤◌, ◌-◌}
-use mathlib.Core.Path.{◌≡◌, ap}
+use mathlib.Core.Path.{ap}
 use native.Mathlib.Omega.{arith}
-use lib.ListN.{length}
 use Rattle.needs.specs.inner.Table.{lines_in}
-use Rattle.needs.specs.inner.Alone.{line_in}
 use Rattle.needs.proofs.Alone.{line_from, line_found, line_next, line_none}
 use Rattle.needs.proofs.one.line_in.Goals as goal
 

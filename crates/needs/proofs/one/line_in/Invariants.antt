@@ -1,12 +1,10 @@
 -- `needs::one::line_in` meets its contract: the loop carries what is left of the walk over the lines.
-use borrow.Author.Rules.{rules}
 use Prim.Native.Nat.{◌≤◌, ◌-◌}
-use mathlib.Core.Path.{◌≡◌, ap}
-use native.Mathlib.Omega.{arith}
+use mathlib.Core.Path.{◌≡◌}
 use lib.ListN.{length}
 use Rattle.needs.specs.inner.Table.{lines_in}
 use Rattle.needs.specs.inner.Alone.{line_in}
-use Rattle.needs.proofs.Alone.{line_from, line_found, line_next, line_none}
+use Rattle.needs.proofs.Alone.{line_from}
 use Rattle.needs.proofs.one.line_in.Given as goal
 
 abbrev pub invariant-loop-i : goal.invariant-loop-i

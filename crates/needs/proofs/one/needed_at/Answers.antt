@@ -1,5 +1,4 @@
 -- `needs::one::needed_at` meets its contract: the descriptor fits, or this is wrong with it.
-use borrow.Author.Rules.{rules}
 use Rattle.needs.proofs.Alone.{needed_fits, needed_lacks}
 use Rattle.needs.proofs.one.needed_at.Goals as goal
 

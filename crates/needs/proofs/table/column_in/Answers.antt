@@ -1,9 +1,6 @@
 -- `needs::table::column_in` meets its contract: the loop carries what is left of the walk over the columns.
-use borrow.Author.Rules.{rules}
-use Prim.Native.Nat.{◌≤◌, ◌-◌}
-use mathlib.Core.Path.{◌≡◌, ap}
+use mathlib.Core.Path.{ap}
 use native.Mathlib.Omega.{arith}
-use lib.ListN.{length}
 use Rattle.needs.specs.inner.Table.{column_in}
 use Rattle.needs.proofs.Columns.{column_from, column_found, column_next, column_none}
 use Rattle.needs.proofs.table.column_in.Goals as goal

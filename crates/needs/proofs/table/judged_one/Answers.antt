@@ -1,5 +1,4 @@
 -- `needs::table::judged_one` meets its contract: the rows are the paper's lines.
-use borrow.Author.Rules.{rules}
 use Rattle.base.specs.Lists.{each}
 use Rattle.needs.specs.Required.{required}
 use Rattle.needs.specs.inner.Table.{line_read, lines_in}

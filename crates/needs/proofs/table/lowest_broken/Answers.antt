@@ -1,5 +1,4 @@
 -- `needs::table::lowest_broken` meets its contract: the rows are the paper's lines.
-use borrow.Author.Rules.{rules}
 use Rattle.base.specs.Lists.{each}
 use Rattle.needs.specs.Required.{required}
 use Rattle.needs.specs.Judge.{lowest}

@@ -1,12 +1,9 @@
 -- `needs::walk::first_long` meets its contract: the loop carries what is left of the search.
-use borrow.Author.Rules.{rules}
 use Prim.Native.Nat.{◌-◌}
-use mathlib.Core.Path.{◌≡◌, refl}
+use mathlib.Core.Path.{◌≡◌}
 use lib.ListN.{length}
 use Rattle.reading.specs.inner.Between.{from}
-use Rattle.reading.proofs.Places.{from_less}
 use Rattle.needs.specs.inner.Walk.{first_long}
-use Rattle.needs.proofs.Resumed.{long_found, long_next, long_end}
 use Rattle.needs.proofs.walk.first_long.Given as goal
 
 abbrev pub invariant-loop-at : goal.invariant-loop-at

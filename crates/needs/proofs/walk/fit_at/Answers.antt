@@ -1,5 +1,4 @@
 -- `needs::walk::fit_at` meets its contract: a line that asks for its feature only, and what is said of flags and body.
-use borrow.Author.Rules.{rules}
 use mathlib.Core.Path.{sym, ◌∙◌}
 use native.Mathlib.Omega.{arith}
 use Rattle.text.specs.Reading.{desc_at}

@@ -1,5 +1,4 @@
 -- `needs::walk::long_at` meets its contract: no body is longer than a byte counts, and else the body's length is compared.
-use borrow.Author.Rules.{rules}
 use mathlib.Core.Path.{sym}
 use native.Mathlib.Omega.{arith}
 use Rattle.needs.specs.Judge.{is_too_long}

@@ -1,12 +1,7 @@
 -- `needs::walk::lowest_in` meets its contract: the loop carries what is left of the walk over lines and descriptors.
-use borrow.Author.Rules.{rules}
-use Prim.Native.Nat.{◌-◌}
 use native.Mathlib.Omega.{arith}
-use lib.ListN.{length}
-use Rattle.reading.specs.Places.{descs}
-use Rattle.needs.specs.Judge.{wrong_in, lowest_in}
-use Rattle.needs.specs.inner.Table.{lines_in}
-use Rattle.needs.proofs.Resumed.{Left, left_start, left_found, left_next, left_end}
+use Rattle.needs.specs.Judge.{lowest_in}
+use Rattle.needs.proofs.Resumed.{left_start, left_found, left_next, left_end}
 use Rattle.needs.proofs.walk.lowest_in.Goals as goal
 
 pub loop-i-init : goal.loop-i-init

@@ -1,5 +1,4 @@
 -- `needs::walk::step_at` meets its contract: another number, a descriptor that fits, and one that does not.
-use borrow.Author.Rules.{rules}
 use mathlib.Core.Path.{sym}
 use Rattle.needs.proofs.Resumed.{step_absent, step_on, step_off}
 use Rattle.needs.proofs.walk.step_at.Goals as goal

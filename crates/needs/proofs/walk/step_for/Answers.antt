@@ -1,5 +1,4 @@
 -- `needs::walk::step_for` meets its contract: the step of the search, or the place itself.
-use borrow.Author.Rules.{rules}
 use mathlib.Core.Path.{sym, ◌∙◌}
 use Rattle.needs.proofs.Resumed.{step_own, step_other}
 use Rattle.needs.proofs.walk.step_for.Goals as goal

@@ -1,11 +1,6 @@
 -- `needs::walk::step_from` meets its contract: the loop carries what is left of the search.
-use borrow.Author.Rules.{rules}
-use Prim.Native.Nat.{◌-◌}
-use mathlib.Core.Path.{◌≡◌, refl}
-use lib.ListN.{length}
-use Rattle.reading.specs.inner.Between.{from}
+use mathlib.Core.Path.{refl}
 use Rattle.reading.proofs.Places.{from_less}
-use Rattle.needs.specs.inner.Walk.{step_from}
 use Rattle.needs.proofs.Resumed.{place_found, place_long, place_next, place_end}
 use Rattle.needs.proofs.walk.step_from.Goals as goal
 

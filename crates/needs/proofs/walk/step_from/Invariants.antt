@@ -1,12 +1,9 @@
 -- `needs::walk::step_from` meets its contract: the loop carries what is left of the search.
-use borrow.Author.Rules.{rules}
 use Prim.Native.Nat.{◌-◌}
-use mathlib.Core.Path.{◌≡◌, refl}
+use mathlib.Core.Path.{◌≡◌}
 use lib.ListN.{length}
 use Rattle.reading.specs.inner.Between.{from}
-use Rattle.reading.proofs.Places.{from_less}
 use Rattle.needs.specs.inner.Walk.{step_from}
-use Rattle.needs.proofs.Resumed.{place_found, place_long, place_next, place_end}
 use Rattle.needs.proofs.walk.step_from.Given as goal
 
 abbrev pub invariant-loop-at : goal.invariant-loop-at

@@ -1,7 +1,6 @@
 -- `sweep::Sweep::closed_rule` meets its contract: the start rule's refusal, or each early return is a case of the rule.
 use Rattle.refusal.proofs.First.{tests}
 use Rattle.sweep.specs.inner.Numbers.{closed_rule}
-use borrow.Author.Rules.{rules}
 use Rattle.sweep.proofs.Sweep.closed_rule.Goals as goal
 
 pub returns-then-fault-ne0 : goal.returns-then-fault-ne0

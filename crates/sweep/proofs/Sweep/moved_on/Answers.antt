@@ -1,7 +1,6 @@
 -- `sweep::Sweep::moved_on` meets its contract: a complete response keeps the next start, a cut one moves it.
 use native.Mathlib.Omega.{arith}
 use Rattle.sweep.proofs.Numbers.{moved_complete, moved_cut}
-use borrow.Author.Rules.{rules}
 use Rattle.sweep.proofs.Sweep.moved_on.Goals as goal
 
 pub returns-then-reading : goal.returns-then-reading

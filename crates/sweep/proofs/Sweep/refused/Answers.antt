@@ -1,7 +1,6 @@
 -- `sweep::Sweep::refused` meets its contract: a refusal that ends the sweep marks the record.
 use Rattle.sweep.specs.Sweep.{ended_now}
 use Rattle.sweep.proofs.Numbers.{left_ended, left_same}
-use borrow.Author.Rules.{rules}
 use Rattle.sweep.proofs.Sweep.refused.Goals as goal
 
 pub returns-then-ends_sweep : goal.returns-then-ends_sweep

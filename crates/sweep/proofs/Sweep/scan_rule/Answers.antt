@@ -1,7 +1,6 @@
 -- `sweep::Sweep::scan_rule` meets its contract: the first refusal of the reading and of four rules.
 use Rattle.refusal.proofs.First.{tests}
 use Rattle.sweep.specs.inner.Numbers.{scan_rule}
-use borrow.Author.Rules.{rules}
 use Rattle.sweep.proofs.Sweep.scan_rule.Goals as goal
 
 pub returns-then-fault-ne0 : goal.returns-then-fault-ne0

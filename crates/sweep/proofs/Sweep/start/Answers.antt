@@ -1,7 +1,6 @@
 -- `sweep::Sweep::start` meets its contract: the start rule decides between the two records.
 use Rattle.sweep.specs.Sweep.{fresh, ended_now}
 use Rattle.sweep.proofs.Numbers.{start_fault, start_fresh}
-use borrow.Author.Rules.{rules}
 use Rattle.sweep.proofs.Sweep.start.Goals as goal
 
 pub returns-then-fault-ne0 : goal.returns-then-fault-ne0

@@ -1,6 +1,5 @@
 -- `sweep::Sweep::take` meets its contract: refused by the record, refused by the response, or taken.
 use Rattle.sweep.proofs.Taken.{take_closed, take_refused, take_commands, take_last, take_taken}
-use borrow.Author.Rules.{rules}
 use Rattle.sweep.proofs.Sweep.take.Goals as goal
 
 pub returns-then-fault-ne0 : goal.returns-then-fault-ne0

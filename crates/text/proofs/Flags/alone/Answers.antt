@@ -1,6 +1,4 @@
 -- `text::Flags::alone` meets its contract: each way is a case of the conjunction.
-use borrow.Author.Rules.{rules}
-use borrow.Author.Tests.{not-true, not-false}
 use mathlib.Core.Path.{sym, ◌∙◌}
 use Rattle.text.proofs.Flags.alone.Goals as goal
 

@@ -1,5 +1,4 @@
 -- `text::Flags::alone_fault` meets its contract: each way is a case of the rule.
-use borrow.Author.Rules.{rules}
 use Rattle.refusal.proofs.First.{if_true, if_false}
 use Rattle.text.proofs.Flags.alone_fault.Goals as goal
 

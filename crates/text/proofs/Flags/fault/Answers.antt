@@ -1,5 +1,4 @@
 -- `text::Flags::fault` meets its contract: each early return is a case of the rule.
-use borrow.Author.Rules.{rules}
 use Rattle.refusal.proofs.First.{faults}
 use Rattle.text.specs.Flags.{flags_giving}
 use Rattle.text.proofs.Flags.fault.Goals as goal

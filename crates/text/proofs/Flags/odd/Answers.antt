@@ -1,5 +1,4 @@
 -- `text::Flags::odd` meets its contract: each way is a case of the disjunction.
-use borrow.Author.Rules.{rules}
 use borrow.Author.Tests.{eq-eqb, ne_eqb}
 use Rattle.text.proofs.Flags.odd.Goals as goal
 

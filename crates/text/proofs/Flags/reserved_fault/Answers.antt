@@ -1,5 +1,4 @@
 -- `text::Flags::reserved_fault` meets its contract: each way is a case of the rule.
-use borrow.Author.Rules.{rules}
 use Rattle.refusal.proofs.First.{tests}
 use Rattle.text.proofs.Flags.reserved_fault.Goals as goal
 
