@@ -1,15 +1,15 @@
 # What ./install and the tests that link the archive share; they source it from the repository's root.
 #
-# The archive that rt makes is for x86-64. On another processor there are two ways to use it:
-#   cross  Debian's cross compilers and the emulator of rt's kit: the archive itself, slowly
+# The archive is what `rt lib` makes of crates/abi_c. It is for x86-64, as rt's kit is. Where that runs on another processor there are two ways to use the archive:
+#   cross  Debian's cross compilers and Debian's emulator: the archive itself, slowly
 #   own    the same LLVM code, compiled for this processor by the kit's compiler: not the archive, but times mean something
 # On x86-64 both are the archive itself. After `archive_for cross` or `archive_for own` the rest of this file builds and runs for it, and
 # ARCHIVE is it under the name that a program links, libgcf.a. `archive_target` compiles the same code for any processor.
 
 archive_machine=$(uname -m)
 archive_root=$PWD
-archive_kit=${RATTLE_HOME:-$(dirname "$(dirname "$(readlink -f "$(command -v rt)")")")}
-archive_tools=$archive_kit/on/$archive_machine/toolchain
+archive_kit=$(dirname "$(dirname "$(readlink -f "$(command -v rt)")")")
+archive_tools=$archive_kit/toolchain
 
 # what is told of its building as it happens: who wants to tell it names a command that reads what rt says
 archive_tell=(cat)
@@ -90,46 +90,52 @@ archive_reached() { # NAME
         }'
 }
 
-# What the archive is made from, as one number: the kit, and the code of `abi` and of the crates that it stands on.
+# What the archive is made from, as one number: the kit, and the code of `abi_c` and of the crates that it stands on.
 archive_stamp() {
     local crate folders=()
-    for crate in abi $(sed -nE '/^abi:/q; s/^([a-z]+):.*/\1/p' crates.txt); do folders+=("crates/$crate/src"); done
-    { rt version && sed -n '/^abi:/p' crates.txt && find "${folders[@]}" -type f -print0 | sort -z | xargs -0 sha256sum; } | sha256sum
+    for crate in abi_c $(python3 tests/lib/kit.py below abi_c); do folders+=("crates/$crate/src"); done
+    { rt version && sed -n '/^abi_c /p' crates.txt && find "${folders[@]}" -type f -print0 | sort -z | xargs -0 sha256sum; } | sha256sum
 }
 
-# A kit like the one that is there, but for a compiler that also keeps the code it is handed, by the name of the crate that rattle, which calls it, compiles, and
-# the words it is called with.
-archive_keeping_kit() { # FOLDER
-    local kit=$1/kit part
-    rm -rf "$kit" && mkdir -p "$kit/on/$archive_machine/toolchain/bin" || return 1
-    for part in "$archive_kit"/*; do [ "${part##*/}" = on ] || ln -s "$part" "$kit/" || return 1; done
-    for part in "$archive_kit/on/$archive_machine"/*; do [ "${part##*/}" = toolchain ] || ln -s "$part" "$kit/on/$archive_machine/" || return 1; done
-    for part in "$archive_tools"/*; do [ "${part##*/}" = bin ] || ln -s "$part" "$kit/on/$archive_machine/toolchain/" || return 1; done
-    for part in "$archive_tools"/bin/*; do [ "${part##*/}" = clang ] || ln -s "$part" "$kit/on/$archive_machine/toolchain/bin/" || return 1; done
-    cat >"$kit/on/$archive_machine/toolchain/bin/clang" <<END
+# The libraries below it: those that `rt ci` has left, where .ci/run says in target/proved that they are of this code, or else what `rt lib` makes.
+archive_libraries() { # FOLDER
+    if [ "$(archive_stamp)" = "$(cat target/proved 2>/dev/null)" ] && python3 tests/lib/kit.py built abi_c; then return 0; fi
+    (set -o pipefail && cd crates/abi_c && rt lib </dev/null 2>&1 | tee "$1/log" | (cd "$archive_root" && { [ "${archive_tell[0]}" != cat ] || exec >/dev/null; "${archive_tell[@]}"; }))
+}
+
+# The kit's toolchain, but for a compiler that also keeps the code it is handed and the words it is called with.
+archive_keeping_tools() { # FOLDER NAME
+    local tools=$1/tools part
+    rm -rf "$tools" && mkdir -p "$tools/bin" || return 1
+    for part in "$archive_tools"/*; do [ "${part##*/}" = bin ] || ln -s "$part" "$tools/" || return 1; done
+    for part in "$archive_tools"/bin/*; do [ "${part##*/}" = clang ] || ln -s "$part" "$tools/bin/" || return 1; done
+    cat >"$tools/bin/clang" <<END
 #!/bin/sh
-crate=\$(tr '\\0' '\\n' </proc/\$PPID/cmdline | sed -n '/^--crate-name\$/{n;p;q}')
-for word in "\$@"; do case \$word in *.bc) cp "\$word" "$1/\$crate.bc" && printf '%s\\n' "\$@" >"$1/\$crate.words" ;; esac; done
+for word in "\$@"; do case \$word in *.bc) cp "\$word" "$1/$2.bc" && printf '%s\\n' "\$@" >"$1/$2.words" ;; esac; done
 exec "$archive_tools/bin/clang" "\$@"
 END
-    chmod +x "$kit/on/$archive_machine/toolchain/bin/clang"
+    chmod +x "$tools/bin/clang"
 }
 
-archive_built() { # FOLDER
-    (set -o pipefail && RATTLE_HOME=$1/kit rt staticlib abi 2>&1 | tee "$1/log" | { [ "${archive_tell[0]}" != cat ] || exec >/dev/null; "${archive_tell[@]}"; })
+# What `rt lib` and `rt run` make of a crate, over the libraries that are built, by that compiler: FOLDER/NAME.bc and FOLDER/NAME.words are its code and the words.
+archive_build() { # FOLDER NAME OUT
+    local words
+    mapfile -t words < <(python3 tests/lib/kit.py words "$2")
+    [ ${#words[@]} != 0 ] && archive_keeping_tools "$1" "$2" || return 1
+    (cd "crates/$2" && "$archive_kit/bin/rattle" build "${words[@]}" --jobs 2 --toolchain "$1/tools" --backend llvm -o "$3" </dev/null) >>"$1/log" 2>&1 && [ -f "$1/$2.bc" ]
 }
 
-# The archive and its code, once for each stamp, whoever asks first: rt over that kit leaves target/staticlib/libabi.a, target/own/abi.bc and target/own/abi.words.
-# One at a time, and not beside a gcf or an ./install that builds: two of rt in one folder are not safe.
+# The archive and its code, once for each stamp, whoever asks first: target/own/libabi_c.a, target/own/abi_c.bc and target/own/abi_c.words. One at a time, and not
+# beside a gcf or an ./install that builds.
 archive_made() {
     local here=$PWD/target/own
     mkdir -p "$here" || return 1
     (
         flock 7 || exit 1
         stamp=$(archive_stamp)
-        [ ! -f target/staticlib/libabi.a ] || [ ! -f "$here/abi.words" ] || [ "$stamp" != "$(cat "$here/stamp" 2>/dev/null)" ] || exit 0
-        rm -f "$here/stamp" "$here/abi.bc" "$here/code.ll"
-        archive_keeping_kit "$here" && archive_built "$here" && [ -f "$here/abi.bc" ] && printf '%s\n' "$stamp" >"$here/stamp"
+        [ ! -f "$here/libabi_c.a" ] || [ ! -f "$here/abi_c.words" ] || [ "$stamp" != "$(cat "$here/stamp" 2>/dev/null)" ] || exit 0
+        rm -f "$here/stamp" "$here/abi_c.bc" "$here/code.ll" "$here/log"
+        archive_libraries "$here" && archive_build "$here" abi_c "$here/libabi_c.a" && printf '%s\n' "$stamp" >"$here/stamp"
     ) 7>target/gcf.lock
 }
 
@@ -138,7 +144,7 @@ archive_ll() {
     local here=$PWD/target/own part
     archive_made || return 1
     [ ! -f "$here/code.ll" ] || return 0
-    part=$(mktemp "$here/code.ll.XXXXXXXX") && archive_unnamed "$here/abi.bc" "$part" >>"$here/log" 2>&1 && mv "$part" "$here/code.ll"
+    part=$(mktemp "$here/code.ll.XXXXXXXX") && archive_unnamed "$here/abi_c.bc" "$part" >>"$here/log" 2>&1 && mv "$part" "$here/code.ll"
 }
 
 # The exported functions.
@@ -164,13 +170,13 @@ archive_asked() { # FILE
     (exec -a llvm-nm "$archive_tools/bin/clang" -u --just-symbol-name "$1" 2>/dev/null) | sed -n '/^[^ :]*$/p' | sed '/^$/d' | sort -u
 }
 
-# It compiled for a processor, as FOLDER/libgcf.a. The archive that rt makes is taken as it is for x86-64 Linux. It is put in its place whole, since tests that link
+# It compiled for a processor, as FOLDER/libgcf.a. The archive is taken as it is for x86-64 Linux. It is put in its place whole, since tests that link
 # it run side by side.
 archive_target() { # TRIPLE FOLDER
     local log=$PWD/target/archive.log part
     mkdir -p "$2" && part=$(mktemp -d "$2/part.XXXXXXXX") || return 1
     if [ "$1" = x86_64-unknown-linux-gnu ]; then
-        archive_made && cp target/staticlib/libabi.a "$part/libgcf.a" || return 1
+        archive_made && cp target/own/libabi_c.a "$part/libgcf.a" || return 1
     elif archive_is_small "$1"; then
         archive_small "$1" "$part" >"$log" 2>&1 || return 1
     else
@@ -183,20 +189,16 @@ archive_target() { # TRIPLE FOLDER
     mv "$part/libgcf.a" "$2/libgcf.a" && rm -r "$part"
 }
 
-# The code of programs, as target/own/NAME.bc. rt builds a program once, and one that it has built without that compiler it builds again.
+# The code of programs, as target/own/NAME.bc. Each is built by rt before, and with it what it stands on.
 archive_programs() { # NAME..
     local here=$PWD/target/own
     mkdir -p "$here" || return 1
     (
         flock 7 || exit 1
-        again=()
         for name in "$@"; do
-            [ -f "$here/$name.bc" ] && cmp -s "target/stamp/$name" "$here/$name.stamp" || again+=("$name")
+            made=crates/$name/out/$name
+            [ -f "$here/$name.bc" ] && [ -x "$made" ] && [ "$here/$name.bc" -nt "$made" ] || { rm -f "$here/$name.bc" && archive_build "$here" "$name" "$here/$name.x86.o" || exit 1; }
         done
-        [ ${#again[@]} != 0 ] || exit 0
-        for name in "${again[@]}"; do rm -f "target/stamp/$name" "$here/$name.bc"; done
-        archive_keeping_kit "$here" && RATTLE_HOME=$here/kit rt check "${again[@]}" || exit 1
-        for name in "${again[@]}"; do [ -f "$here/$name.bc" ] && cp "target/stamp/$name" "$here/$name.stamp" || exit 1; done
     ) 7>target/gcf.lock
 }
 
@@ -209,18 +211,18 @@ archive_native() { # NAME OUT
         "$archive_tools/bin/ld.lld" --gc-sections "$here/$1.start.o" "$here/$1.o" -o "$2"
 }
 
-# That code as text for x86-64, compiled by the words that made the archive: target/own/abi.s.
+# That code as text for x86-64, compiled by the words that made the archive: target/own/abi_c.s.
 archive_text() {
     local here=$PWD/target/own word words=()
     archive_made || return 1
     while IFS= read -r word; do
         case $word in
         -c) word=-S ;;
-        *.bc) word=$here/abi.bc ;;
-        *.o) word=$here/abi.s ;;
+        *.bc) word=$here/abi_c.bc ;;
+        *.o) word=$here/abi_c.s ;;
         esac
         words+=("$word")
-    done <"$here/abi.words"
+    done <"$here/abi_c.words"
     "$archive_tools/bin/clang" "${words[@]}" >>"$here/log" 2>&1
 }
 
@@ -241,7 +243,7 @@ archive_for() { # cross | own
     if [ "$archive_machine" != x86_64 ] && [ "$1" = cross ]; then
         archive_cross_tools || return 1
         CC=(x86_64-linux-gnu-gcc)
-        archive_run=("$archive_tools/bin/qemu-x86_64" "$archive_tools/lib/ld-linux-x86-64.so.2" --library-path "$archive_tools/lib")
+        archive_run=(qemu-x86_64 "$archive_tools/lib/ld-linux-x86-64.so.2" --library-path "$archive_tools/lib")
         # a Rust program asks for its stack's bounds when it starts, which the emulator cannot tell; it does without where the call fails
         part=$(mktemp target/start.XXXXXXXX) && echo 'int pthread_getattr_np(void) { return 38; }' | x86_64-linux-gnu-gcc -O2 -c -x c - -o "$part" && mv "$part" target/start.o || return 1
         archive_rust=(/usr/bin/rustc --target x86_64-unknown-linux-gnu -C linker=x86_64-linux-gnu-gcc -C "link-arg=$PWD/target/start.o")

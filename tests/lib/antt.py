@@ -8,7 +8,7 @@ from source import split_at
 from tree import crates, exists, kept, text_of
 
 COMMENT = re.compile(r"(^|(?<=\s))--(\s.*|$)")
-WORD = re.compile(r"[^\s(){}\[\],;⟨⟩⌜⌝`]+")
+WORD = re.compile(r"[^\s(){}\[\],;⟨⟩`]+")
 MODIFIERS = r"(?:(?:pub|abbrev|unfoldable|opaque) )*"
 SIGNATURE = re.compile(rf"^(?P<front>{MODIFIERS})(?P<name>[^\s(){{}}]+) :(?=\s|$)")
 RECORD = re.compile(rf"^(?P<front>{MODIFIERS})(?P<kind>record|data) (?P<name>\S+)")
@@ -126,7 +126,7 @@ def declarations_in(file, text):
 @kept
 def file_of(module):
     """The file that a module's name says, or nothing where the toolchain makes it or the kit has it."""
-    parts = re.match(r"Rattle·([a-z_0-9]+)(?:·\w+)?\.((?:specs|proofs)\.\S+)$", module)
+    parts = re.match(r"Rattle\.([a-z_0-9]+)\.((?:specs|proofs)\.\S+)$", module)
     path = parts and f"crates/{parts.group(1)}/" + parts.group(2).replace(".", "/") + ".antt"
     return path if path and exists(path) else None
 
@@ -140,14 +140,13 @@ def imports(file):
 @functools.lru_cache(maxsize=None)
 def imports_in(text):
     names, modules = {}, {}
-    for line in re.findall(r"^ *(?:ghost )?use ([^\n;]+)", text, re.M):
-        if "{" in line:
-            module, listed = line.split(".{", 1)
-            for part in listed.rsplit("}", 1)[0].split(","):
-                own, _, other = part.strip().partition(" as ")
+    for module, listed in re.findall(r"^ *(?:ghost )?use ([^\n;:{]+?)(?:\.\{([^}]*)\})? *(?:;|$)", text, re.M):
+        if listed:
+            for part in listed.split(","):
+                own, _, other = " ".join(part.split()).partition(" as ")
                 names[other or own] = (module, own)
         else:
-            module, _, other = line.strip().partition(" as ")
+            module, _, other = module.strip().partition(" as ")
             modules[other.strip() or module.split(".")[-1]] = module
     return names, modules
 
@@ -164,8 +163,8 @@ def resolve(file, word):
 
 
 def words(text):
-    """The words of a text, also the parts of operators."""
-    return WORD.findall(text)
+    """The words of a text, also the parts of operators; of a projection it and what it is of, as `s.now` and `s`."""
+    return [part for word in WORD.findall(text) for part in dict.fromkeys([word, word.split(".")[0]]) if part]
 
 
 def cited(declaration):
@@ -227,14 +226,8 @@ def without_brackets(text):
 
 
 def applied(text):
-    """A function's name and its arguments, a projection together with what it is of."""
-    found = []
-    for part in split_at(text, " "):
-        if part.startswith(".") and found:
-            found[-1] += " " + part
-        elif part:
-            found.append(part)
-    return found
+    """A function's name and its arguments."""
+    return [part for part in split_at(text, " ") if part]
 
 
 def said(statement):

@@ -1,11 +1,17 @@
-"""The edits of crates/NAME/must-fail, and whether each was refused at a fact; and those of crates/NAME/mixed, which must not compile."""
+"""The edits of crates/NAME/must-fail, and whether each was refused at a fact; and those of crates/NAME/mixed, which must not compile.
+
+rt says of an edit that it is refused, and where first. Here each is checked once more, over the libraries that rt has left, for all that the prover says of it; that is kept in
+target/edits, and made again where anything that it was made from has changed.
+"""
+import functools
+import hashlib
+import os
 import re
-import shutil
-import subprocess
-import tempfile
 from collections import Counter
+from concurrent.futures import ThreadPoolExecutor
 from pathlib import Path
 
+import kit
 import source
 from report import Case
 from traced import declared_in_antt
@@ -15,8 +21,8 @@ from tree import crates, exists, text_of
 class Edit:
     """An .edit file: its replacements, and the wrong answers that they make: each a function, where it is refused, and what is wrong with it, from the
     lines `# CRATE::FN: ..`, refused in the function's own proof, or `# CRATE::FN, in PLACE: ..`, refused in the proof of the function PLACE, which it
-    calls, at the theorem PLACE, or, where PLACE is FN/NEED, at that need in a function's proof, as `returns-2`, what its second way out needs. One file may
-    hold several with different places: then one check of the crate refuses them all."""
+    calls, at the theorem PLACE, or, where PLACE is FN/GOAL, at that goal of a function's proof, as `returns-then-at-s`, what its way out there has to show. One file may
+    hold several with different places: then one check of the crate refuses them all, and what it does not come to is tried by itself."""
 
     def __init__(self, path):
         self.path, self.crate, self.label = path, path.parts[1], path.stem
@@ -141,19 +147,51 @@ def in_folder(folder):
 # ---- how an edit was refused
 
 # An error of a log: its place in the crate and its words, up to the next line that is not indented; the declaration that it is in is left out.
-ERROR = re.compile(r"^(\S+?):\d+:\d+: error(?:\[[\w-]+\])?: (?:`[^`\n]+`: )?(.*(?:\n  .*)*)", re.M)
+ERROR = re.compile(r"^(?:\./)?(\S+?):\d+:\d+: error(?:\[[\w-]+\])?: (?:`[^`\n]+`: )?(.*(?:\n  .*)*)", re.M)
 # What only follows from a declaration above that was refused.
 FOLLOWS = re.compile(r"`[^`]+` (was not admitted|cannot be unfolded because it was not admitted)")
 # A fact that was looked at and was not shown: a procedure or a rewriting step that does not reach its goal, or a proof of another statement.
-FACT = re.compile(r"`(search|omega|cc|simp|rw|decide)`( |: )|expected type `[^`]*`,?\s+but this has type `")
+FACT = re.compile(r"`(search|grind|omega|cc|simp|rw|grw|decide)`( |: )|expected type `[^`]*`,?\s+but this has type `")
 # What is refused before any fact is looked at, whatever else is said.
 FORM = re.compile(r"has no field|not in scope(?! here| at this)|that can be named from here|has \d+ binders?, but its type has room")
-# The same of a function that has no proof file: the proof that the toolchain makes is refused at a need.
+# The same of a goal that no proof file answers: the proof that the toolchain makes is refused there.
 NEED = re.compile(r"^note: \S+:\d+:\d+: it is not proved that ", re.M)
-# Such a function without a proof, and why: the search does not close a need, or a function that it calls is not proved.
-NO_PROOF = re.compile(r"^fn (\S+): no proof: ((?!.*(?:`search` does not close|it calls `[^`]+`(?:(?:, | and )`[^`]+`)*, which (?:is|are) not proved)).*)", re.M)
+# Such a function without a proof, and why: the search does not show a goal, or a function that it calls is not proved.
+NO_PROOF = re.compile(r"^fn (\S+): no proof: ((?!.*(?:`search` did not prove|it calls `[^`]+`(?:(?:, | and )`[^`]+`)*, which (?:is|are) not proved)).*)", re.M)
 # The place in the code that a proof speaks of is another one: the code's shape changed.
-PLACE = re.compile(r"expected type `Rattle·[^` ]*\.Lts\.[^` ]*[` ]")
+PLACE = re.compile(r"expected type `Rattle\.[^` ]*\.Lts\.[^` ]*[` ]")
+
+
+@functools.lru_cache(maxsize=None)
+def stamp_of(crate):
+    """What a check of a crate is made from, as one number: the kit, the crate's files and the libraries below it; nothing where one of these is not there."""
+    if not kit.are_built(crate):
+        return None
+    files = [Path(f"{kit.kit()}/KIT-ID"), *(Path(f"{kit.library(name)}/format") for name in kit.below(crate))]
+    files += [path for part in kit.PARTS for path in sorted(Path(f"crates/{crate}/{part}").rglob("*")) if path.is_file()]
+    return hashlib.sha256(b"".join(str(path).encode() + path.read_bytes() for path in files)).hexdigest()
+
+
+def log_of(edit, pairs, words, name, quick):
+    """All that the prover says of an edit, or of some of its replacements; nothing where its libraries are not there, or, if it is to be quick, where it was not tried."""
+    stamp, kept = stamp_of(edit.crate), Path(f"target/edits/{edit.crate}/{name}.log")
+    texts, wrong = replaced(pairs, f"crates/{edit.crate}/")
+    if wrong or stamp is None:
+        return None
+    first = hashlib.sha256(repr((stamp, pairs, words)).encode()).hexdigest() + "\n"
+    there = kept.read_text(encoding="utf-8") if kept.exists() else ""
+    if not there.startswith(first) and not quick:
+        changed = {file.removeprefix(f"crates/{edit.crate}/"): text for file, text in texts.items()}
+        status, said = kit.changed(edit.crate, changed, "--jobs", "1", *words)
+        there = f"{first}status={status}\n{said}"
+        kept.parent.mkdir(parents=True, exist_ok=True)
+        kept.with_suffix(".part").write_text(there, encoding="utf-8")
+        kept.with_suffix(".part").rename(kept)
+    return there.removeprefix(first) if there.startswith(first) else None
+
+
+def errors_of(log):
+    return [(place, words) for place, words in ERROR.findall(log) if not FOLLOWS.match(words)]
 
 
 def error_wrong(place, words):
@@ -166,52 +204,81 @@ def error_wrong(place, words):
     return None
 
 
-def refusal_wrong(edit):
+def log_wrong(log, last):
+    """What is wrong with a log: the prover did not refuse what was tried, or not at a fact alone."""
+    lines = log.splitlines()
+    if lines[0] != "status=1" or not re.match(last, lines[-1]):
+        return [f"the prover did not refuse it: {lines[0]}, {lines[-1][:160]}"]
+    faults = [wrong for place, words in errors_of(log) if (wrong := error_wrong(place, words))]
+    faults += [f"{name} has no proof: {why[:160]}" for name, why in NO_PROOF.findall(log)]
+    return faults if errors_of(log) or NEED.search(log) else [*faults, "its log names no fact"]
+
+
+def refusal_wrong(edit, quick):
     """What is wrong with how an edit was refused. Right is: each error that does not just follow from another stands in a proof and names a fact
     that was not shown, and the function that the edit is about is not proved. A name, a field or a form that is not there is refused before any
     fact is looked at."""
-    folder = Path(f"target/must-fail/{edit.crate}/{edit.label}")
-    if not (folder / ".log").exists():
-        return "no log: it was not tried"
-    log = text_of(folder / ".log")
-    if text_of(f"{folder}.res").strip() != "refused" or "\nlogic=not-proved" not in log:
-        return "the prover did not refuse it"
-    errors = [(place.split(f"/{edit.crate}/{edit.label}/")[-1], words) for place, words in ERROR.findall(log) if not FOLLOWS.match(words)]
-    faults = [wrong for place, words in errors if (wrong := error_wrong(place, words))]
-    faults += [f"{name} has no proof: {why[:160]}" for name, why in NO_PROOF.findall(log)]
-    if not errors and not NEED.search(log):
-        faults.append("its log names no fact")
+    log = log_of(edit, edit.pairs, (), edit.label, quick)
+    if log is None:
+        return "it was not tried"
+    faults = log_wrong(log, "logic=not-proved")
     for about, place, what in edit.answers:
         # an edit that weakens a contract leaves the function proved, and is refused at the theorem that its contract decides everything
         if f"\nfn {about}: proved\n" in log and not what.startswith("a contract"):
             faults.append(f"{about} is still proved")
-        elif (len(edit.answers) > 1 or place != about.split("::", 1)[-1]) and not refused_at(f"{edit.crate}::{place}", errors, log):
-            faults.append(f"{about} is not refused at {place}")
+        elif (len(edit.answers) > 1 or place != about.split("::", 1)[-1]) and not refused_at(f"{edit.crate}::{place}", log):
+            faults += alone_wrong(edit, about, place, quick)
     return "; ".join(faults)
 
 
-def refused_at(path, errors, log):
-    """Whether a function's own proof was refused, and not just that of a function that it calls, or one need of it; or a theorem of that name."""
+def alone_wrong(edit, about, place, quick):
+    """What is wrong with a wrong answer that is tried by itself, since in the check of its file a function that it calls was refused before."""
+    pairs = next(pairs for answers, pairs in edit.groups if (about, place) in [answer[:2] for answer in answers])
+    function = place.split("/")[0]
+    is_function = any(f.path == f"{edit.crate}::{function}" for f in source.functions())
+    words = ("--only", function) if is_function else ()
+    name = f"{edit.label}-{place}".replace("/", "-").replace("::", "-")
+    log = log_of(edit, pairs, words, name, quick)
+    if log is None:
+        return [f"{about} is not refused at {place}, and was not tried alone"]
+    faults = log_wrong(log, r"only=\d+ proved=\d+" if is_function else "logic=not-proved")
+    return faults if refused_at(f"{edit.crate}::{place}", log) else [*faults, f"{about} is not refused at {place}"]
+
+
+def needs_of(path, log):
+    """The notes on goals that are not shown which a log has above its line on a function."""
+    before = log.partition(f"\nfn {path}: ")[0]
+    return [note for note in before[before.rfind("\nfn ") + 1:].splitlines() if NEED.match(note)]
+
+
+def refused_at(path, log):
+    """Whether a function's own proof was refused, and not just that of a function that it calls, or one goal of it; or a theorem of that name."""
     name = path.split("::", 1)[1]
-    function, _, need = name.partition("/")
-    own = "proofs/" + function.replace("::", "/") + "/"
-    if need:
-        return re.search(rf"^\S+/{own}\S+?:\d+:\d+: error(?:\[[\w-]+\])?: `{re.escape(need)}`: ", log, re.M)
-    if any(place.startswith(own) for place, _ in errors) or re.search(rf"^fn {path}: no proof: .*`search` does not close", log, re.M):
+    function, _, goal = name.partition("/")
+    path, own = path.partition("/")[0], "proofs/" + function.replace("::", "/") + "/"
+    no_proof = re.search(rf"^fn {path}: no proof: .*`search` did not prove (.*)", log, re.M)
+    if goal:
+        answered = re.search(rf"^(?:\./)?{own}\S+?:\d+:\d+: error(?:\[[\w-]+\])?: `{re.escape(goal)}`: ", log, re.M)
+        return answered or (no_proof and f"`{goal}`" in no_proof[1]) or any(f"`{goal}`" in note for note in needs_of(path, log))
+    if no_proof or needs_of(path, log) or any(place.startswith(own) for place, _ in errors_of(log)):
         return True
-    return re.search(rf"^\S+/proofs/\S+?:\d+:\d+: error(?:\[[\w-]+\])?: `{re.escape(name)}`: ", log, re.M)
+    return re.search(rf"^(?:\./)?proofs/\S+?:\d+:\d+: error(?:\[[\w-]+\])?: `{re.escape(name)}`: ", log, re.M)
 
 
 def cases(quick):
     edits = in_folder("must-fail")
+    if not quick:
+        # all at once, as far as there are processors; each is kept
+        with ThreadPoolExecutor(os.cpu_count()) as pool:
+            list(pool.map(lambda edit: refusal_wrong(edit, False), edits))
     for edit in edits:
         if edit.label.startswith("mixed_"):
             yield Case("edit", f"{edit.name()}: the edit", f"it belongs in crates/{edit.crate}/mixed/: code that does not compile never reaches the prover")
             continue
         yield Case("edit", f"{edit.name()}: the edit", edit.text_wrong())
-        if quick and not Path(f"target/must-fail/{edit.crate}/{edit.label}/.log").exists():
+        if quick and log_of(edit, edit.pairs, (), edit.label, True) is None:
             continue
-        yield Case("edit", f"{edit.name()}: refused at a fact", refusal_wrong(edit))
+        yield Case("edit", f"{edit.name()}: refused at a fact", refusal_wrong(edit, quick))
     yield from counted_cases(edits)
     yield from mixed_cases(quick)
 
@@ -240,32 +307,17 @@ def excused():
 MISMATCH = re.compile(r"error\[mismatched-types\]: expected `(\w+)`, found `(\w+)`")
 
 
-def make_copy(copy):
-    """The crates and what is proved of them, so that an edit can be compiled beside the repository."""
-    shutil.copytree("crates", copy / "crates")
-    shutil.copy("crates.txt", copy)
-    (copy / "target/rlib").mkdir(parents=True)
-    for part in ("stamp", "log"):
-        shutil.copytree(f"target/{part}", copy / "target" / part)
-    for library in Path("target/rlib").resolve().iterdir():
-        (copy / "target/rlib" / library.name).symlink_to(library)
+def compiled(edit):
+    """What the compiler says of an edit."""
+    texts, _ = replaced(edit.pairs, f"crates/{edit.crate}/")
+    status, said = kit.changed(edit.crate, {file.removeprefix(f"crates/{edit.crate}/"): text for file, text in texts.items()})
+    return status, [line for line in said.splitlines() if ": error" in line]
 
 
-def compiled(edit, copy):
-    """What the compiler says of an edit, which is undone again."""
-    for file, old, new in edit.pairs:
-        where = copy / "crates" / edit.crate / file
-        where.write_text(text_of(where).replace(old, new, 1), encoding="utf-8")
-    ran = subprocess.run(["rt", "mir", edit.crate], cwd=copy, capture_output=True, text=True, check=False)
-    for file, _, _ in edit.pairs:
-        shutil.copy(f"crates/{edit.crate}/{file}", copy / "crates" / edit.crate / file)
-    return ran.returncode, [line for line in (ran.stdout + ran.stderr).splitlines() if ": error" in line]
-
-
-def mixed_wrong(edit, copy):
+def mixed_wrong(edit):
     """What is wrong with an edit of crates/CRATE/mixed: the compiler must refuse it, and only because a feature number was wanted and a profile
     number stands there, or the other way round."""
-    status, errors = compiled(edit, copy)
+    status, errors = compiled(edit)
     if status == 0 or not errors:
         return "it compiles"
     for error in errors:
@@ -276,18 +328,13 @@ def mixed_wrong(edit, copy):
 
 
 def mixed_cases(quick):
-    mixed = in_folder("mixed")
-    if not Path("target/rlib").is_dir():
-        if mixed and not quick:
-            yield Case("mixed", "edits of crates/*/mixed", "target/ has no proved library")
-        return
-    with tempfile.TemporaryDirectory() as copy:
-        make_copy(Path(copy))
-        for edit in mixed:
-            wrong = edit.text_wrong()
-            yield Case("mixed", f"{edit.name()}: the edit", wrong)
-            if not wrong:
-                yield Case("mixed", f"{edit.name()}: a feature number and a profile number do not mix", mixed_wrong(edit, Path(copy)))
+    for edit in in_folder("mixed"):
+        wrong = edit.text_wrong()
+        yield Case("mixed", f"{edit.name()}: the edit", wrong)
+        if not wrong and kit.are_built(edit.crate):
+            yield Case("mixed", f"{edit.name()}: a feature number and a profile number do not mix", mixed_wrong(edit))
+        elif not wrong and not quick:
+            yield Case("mixed", f"{edit.name()}: a feature number and a profile number do not mix", "the libraries below its crate are not there")
 
 
 # ---- the tables of docs/EDITS.md

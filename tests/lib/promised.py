@@ -56,12 +56,14 @@ def case(what, look, *given):
 
 def theorem(function, suffix):
     """A function's theorem and the name under which its file has the function."""
-    wrong = f"no theorem {function.names()[0]}-{suffix}"
+    wrong = f"no theorem {function.names()[0]}_{suffix}"
     for file in antt.demand_files():
         for name in function.names():
-            found = antt.declarations(file).get(f"{name}-{suffix}")
-            if found is not None and antt.imports(file)[1].get(name) == function.module():
-                return found, name
+            found = antt.declarations(file).get(f"{name}_{suffix}")
+            # where a definition has the name, another one stands for the function
+            for alias in (name, f"{name}_fn", f"{name}_law", f"{name}_here"):
+                if found is not None and antt.imports(file)[1].get(alias) == function.module():
+                    return found, alias
             if found is not None:
                 wrong = f"{found.name} stands in a file that has no 'use {function.module()} as {name}'"
     raise Refused("form", wrong)
@@ -70,7 +72,7 @@ def theorem(function, suffix):
 def takes(found, name, head, more):
     """The arguments of a statement behind the function's own, where it is `head` of that function's contract and has `more` of them."""
     got = antt.applied(found.statement)
-    own = [f"{name}.ended", f"(λ M. {name}.clauses)", f"(λ M. {name}.spec)"]
+    own = [f"{name}.ended", f"(λ M 𝓤 𝓛. {name}.clauses 𝓛)", f"(λ M 𝓤 𝓛. {name}.spec 𝓛)"]
     if got[:4] != [head, *own] or len(got) != 4 + more or found.sections or "pub" not in found.front:
         raise Refused("form", f"{found.name} is not '{' '.join([head, *own])}' with {more} more")
     from_its_file(found, head)
@@ -102,9 +104,12 @@ def decided(function):
 
 
 def as_asked(found, function, met):
-    """What a theorem says that its function asks is the function's `requires`, to the letter."""
+    """What a theorem says that its function asks is the function's `requires`, to the letter; what stands behind a `&mut` has to the theorem, which binds it at entry, one value."""
     _, said = bound(found, function, met, "met")
-    if said != antt.plain(function.asks):
+    asked = antt.plain(function.asks)
+    for name in function.written():
+        asked = re.sub(rf"(?<![\w'.]){name}\.old\b", f"{name}.now", asked)
+    if said != asked:
         raise Refused("asks", f"{found.name} says that it asks '{said}', and it asks '{antt.plain(function.asks)}'")
 
 
@@ -125,9 +130,9 @@ def in_order(found, function, names, entry_alone):
     if function is None:
         raise Refused("names", f"{found.name} speaks of a call of no public function")
     head = [name for name, _ in function.parameters]
-    exits = [f"{name}′" if name in function.written() else "_" for name in head]
+    exits = [f"{name}'" if name in function.written() else "_" for name in head]
     due = head if entry_alone else [*head, "r" if function.returns else "_", *exits]
-    bare = [name.strip("«»′₂₃₄") + ("′" if name.endswith("′") else "") for name in names]
+    bare = [name.strip("«»'₂₃₄") + ("'" if name.endswith("'") else "") for name in names]
     if len(bare) != len(due) or any(name not in (own, "_") for name, own in zip(bare, due)):
         raise Refused("names", f"{found.name} names a call of {function.path} '{' '.join(names)}', and not '{' '.join(due)}'")
     return [name for name in names[len(head):] if name != "_"]
@@ -137,10 +142,10 @@ def named(found):
     """Each call that a statement speaks of has the names of its function's head, and no part of it is taken by its place."""
     functions = {alias: by_module().get(module) for alias, module in antt.imports(found.file)[1].items()}
     outcomes = dict(re.findall(r"\((\S+) : Outcome (\S+)\.ended ", found.statement))
-    for alias, one, other in re.findall(r"^Twice (\S+)\.ended \(λ M\. \S+\) \(λ x (\S+) y (\S+)\. ", found.statement):
+    for alias, one, other in re.findall(r"^Twice (\S+)\.ended \(λ M 𝓤 𝓛\. [^()]*\) \(λ x (\S+) y (\S+)\. ", found.statement):
         from_its_file(found, "Twice")
         outcomes |= {one: alias, other: alias}
-    if together := re.match(r"(Both|AllThree) ((?:\S+\.ended \(λ M\. \S+\) )+)\(λ ([^.]*)\. ", found.statement):
+    if together := re.match(r"(Both|AllThree) ((?:\S+\.ended \(λ M 𝓤 𝓛\. [^()]*\) )+)\(λ ([^.]*)\. ", found.statement):
         from_its_file(found, together[1])
         outcomes |= dict(zip(together[3].split()[1::2], re.findall(r"(\S+)\.ended ", together[2])))
     for outcome, names in re.findall(r"saying (?:\([^()]*\)|\S+) (\S+) \(λ _ ([^.]*)\.", found.statement):
@@ -148,7 +153,7 @@ def named(found):
         in_order(found, functions.get(outcomes.get(outcome)), names.split(), False)
     for alias, names in re.findall(r"^(?:Promised|PromisedAsking) (\S+)\.ended .*?\(named \(λ _ ([^.]*)\.", found.statement):
         in_order(found, functions.get(alias), names.split(), False)
-    taken = "|".join([r"\bargs[₂₃₄]? \.[01]", r"\(λ x o\. ", *(rf"(?<![\w′]){re.escape(each)} \.[01]" for each in outcomes)])
+    taken = "|".join([r"\bargs[₂₃₄]?\.[01]", r"\(λ x o\. ", *(rf"(?<![\w'.]){re.escape(each)}\.[01]" for each in outcomes)])
     if placed := re.search(taken, found.statement):
         raise Refused("names", f"{found.name} takes a part of a call by its place, '{placed.group()}', and not by a name")
 
@@ -170,7 +175,7 @@ def tied(function):
     outcome, body = bound(found, function, promise, "named")
     for part in antt.parts_of(body):
         promised(found.file, found.name, part, outcome)
-    for part in (["r"] if function.returns else []) + [f"{each}′" for each in function.written()]:
+    for part in (["r"] if function.returns else []) + [f"{each}'" for each in function.written()]:
         if part not in outcome or part not in antt.words(body):
             raise Refused("silent", f"{found.name} does not speak of {'the result' if part == 'r' else 'what stands behind ' + part[:-1] + ' at exit'}")
 

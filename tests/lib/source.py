@@ -3,7 +3,7 @@ import functools
 import re
 from typing import NamedTuple, Optional
 
-from tree import crates, exists, is_library, kept, libraries, sources, text_of
+from tree import ARCHIVE, crates, exists, is_library, kept, libraries, sources, text_of
 
 
 class Function(NamedTuple):
@@ -21,17 +21,20 @@ class Function(NamedTuple):
 
     def module(self):
         """The name under which a theorem imports its contract."""
-        return f"Rattle·{self.crate}.proofs." + ".".join(self.path.split("::")[1:])
+        return f"Rattle.{self.crate}.specs.contracts." + ".".join(self.path.split("::")[1:])
 
     def names(self):
-        """What its theorems are called, less '-decided' and '-tied': with the crate in front where two crates have a function of that name."""
-        name = "-".join(part.lower().replace("_", "-") for part in self.path.split("::")[1:])
-        return [name, f"{self.crate}-{name}"]
+        """What its theorems are called, less '_decided' and '_tied': with the crate in front where two crates have a function of that name."""
+        name = "_".join(part.lower() for part in self.path.split("::")[1:])
+        return [name, f"{SHORT.get(self.crate, self.crate)}_{name}"]
 
     def written(self):
         """The parameters behind which it writes."""
         return [name for name, kind in self.parameters if re.match(r"&(?:'\w+ )?mut ", kind)]
 
+
+# what the theorems call a crate whose name is longer
+SHORT = {"hex_text": "hex"}
 
 HEAD = re.compile(r'^(?P<indent> *)(?P<pub>pub )?(?:unsafe )?(?P<extern>extern "C" )?fn (?P<name>\w+)')
 
@@ -119,7 +122,7 @@ def functions_of_file(crate, file, prefix, open_module):
         contract = contract_after(lines, at)
         asks = re.search(r"\brequires \{ (.*?) \}(?= ensures|$)", contract)
         found.append(Function(
-            crate, "::".join(parts), bool(head["pub"]) and open_module, bool(head["extern"]), asks and asks.group(1).strip("⌜⌝ "), grounds_above(lines, at),
+            crate, "::".join(parts), bool(head["pub"]) and open_module, bool(head["extern"]), asks and asks.group(1), grounds_above(lines, at),
             *parameters_of(contract, owner), contract, str(file)))
     return found
 
@@ -139,7 +142,8 @@ def functions():
 
 @kept
 def public():
-    return [function for function in functions() if function.public]
+    """The public functions of the libraries. Those of the archive are some of them once more (archived.py)."""
+    return [function for function in functions() if function.public and function.crate != ARCHIVE]
 
 
 # ---- what a source calls

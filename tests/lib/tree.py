@@ -42,8 +42,12 @@ def exists(path):
 
 # ---- the crates
 
+# the static library, whose functions are those of a crate once more
+ARCHIVE, ARCHIVED = "abi_c", "abi"
+
+
 def in_order(lines):
-    return [line.split(":")[0].strip() for line in lines if ":" in line and not line.startswith("#")]
+    return [line.split(":")[0].split()[0] for line in lines if ":" in line and not line.startswith("#")]
 
 
 @kept
@@ -60,7 +64,7 @@ def libraries():
 
 def outside():
     """What an outsider or a person calls: the exported functions, the programs and what these share."""
-    return [crate for crate in crates() if crate == "abi" or crate not in libraries()]
+    return [crate for crate in crates() if crate in (ARCHIVE, ARCHIVED) or crate not in libraries()]
 
 
 def is_library(crate):

@@ -7,7 +7,7 @@ import source
 from tree import text_of
 
 COMMENT = re.compile(r"(--|//).*")
-WORD = re.compile(r"\[\]|[^\s(){}\[\],;.⟨⟩⌜⌝⟦⟧`]+")
+WORD = re.compile(r"\[\]|[^\s(){}\[\],;.⟨⟩⟦⟧`]+")
 
 
 def words_of(text):
@@ -16,7 +16,7 @@ def words_of(text):
 
 def names_it(name, words):
     """Whether a text's words have a name, or all parts of an operator's."""
-    parts = [part for part in name.split("_") if part] if name.startswith("_") or name.endswith("_") else [name]
+    parts = [part for part in name.split("◌") if part] if name.startswith("◌") or name.endswith("◌") else [name]
     return bool(words[name]) or (bool(parts) and all(words[part] for part in parts))
 
 
@@ -31,9 +31,14 @@ def without_own(name, text):
     return "\n".join(kept)
 
 
+def written():
+    """The sources and the .antt files, without what rt makes in out/."""
+    return [path for path in sorted(Path("crates").glob("*/*/**/*")) if path.suffix in (".antt", ".rt") and path.parts[2] in ("src", "specs", "proofs")]
+
+
 def laws():
-    watched = {f"{name}-{suffix}" for f in source.public() for name in f.names() for suffix in ("decided", "tied")}
-    files = {path: text_of(path) for path in sorted(Path("crates").rglob("*")) if path.suffix in (".antt", ".rt")}
+    watched = {f"{name}_{suffix}" for f in source.public() for name in f.names() for suffix in ("decided", "tied")}
+    files = {path: text_of(path) for path in written()}
     words = {path: words_of(text) for path, text in files.items()}
     documents = "\n".join(text_of(path) for path in [Path("README.md"), *sorted(Path("docs").rglob("*.md"))] if path.name != "STATEMENTS.md")
     for path, text in files.items():
@@ -48,8 +53,8 @@ def laws():
 
 
 def uses():
-    for path in sorted(Path("crates").rglob("*")):
-        if path.suffix not in (".antt", ".rt") or path.name == "Lib.antt":
+    for path in written():
+        if path.name == "Lib.antt":
             continue
         text = text_of(path)
         lines = re.findall(r"^ *(?:pub )?(?:ghost )?use [^\n]*", text, re.M)

@@ -44,8 +44,7 @@ use text::{Feature, Profile};
 // ---- the words
 
 // The sentence of a number.
-#[unsafe(no_mangle)]
-pub extern "C" fn gcf_words(number: u8, text: &mut [u8]) -> usize
+pub fn gcf_words(number: u8, text: &mut [u8]) -> usize
     ensures { Wrote text.old 0 (sentence number) result text.new }
 {
     meanings::put_words(number, text)
@@ -64,8 +63,7 @@ fn layout_of(columns: bool) -> Layout
 }
 
 // The number of a sheet. Told: the place of the profile or entry at fault.
-#[unsafe(no_mangle)]
-pub extern "C" fn gcf_check_sheet(columns: bool, sheet: &[u8], told: &mut [u64; 1]) -> u8
+pub fn gcf_check_sheet(columns: bool, sheet: &[u8], told: &mut [u64; 1]) -> u8
     ensures { left result tt told.new ≡ show_verdict (verdict (stored (layout_of columns) sheet.now)) }
 {
     let verdict = sheet::check(layout_of(columns), sheet);
@@ -74,8 +72,7 @@ pub extern "C" fn gcf_check_sheet(columns: bool, sheet: &[u8], told: &mut [u64; 
 }
 
 // Answers a command from any sheet. Told: bytes sent, the place of the profile or entry at fault.
-#[unsafe(no_mangle)]
-pub extern "C" fn gcf_respond(
+pub fn gcf_respond(
     columns: bool,
     sheet: &[u8],
     command: &[u8],
@@ -92,8 +89,7 @@ pub extern "C" fn gcf_respond(
 }
 
 // Answers a command with no check of the sheet: what a box calls that has checked it once. Told: bytes sent, 0.
-#[unsafe(no_mangle)]
-pub extern "C" fn gcf_respond_accepted(
+pub fn gcf_respond_accepted(
     columns: bool,
     sheet: &[u8],
     command: &[u8],
@@ -110,14 +106,7 @@ pub extern "C" fn gcf_respond_accepted(
 }
 
 // Lays a sheet out anew. Told: bytes of the sheet, the place of the profile or entry at fault.
-#[unsafe(no_mangle)]
-pub extern "C" fn gcf_convert(
-    columns: bool,
-    sheet: &[u8],
-    to: bool,
-    out: &mut [u8],
-    told: &mut [u64; 2],
-) -> u8
+pub fn gcf_convert(columns: bool, sheet: &[u8], to: bool, out: &mut [u8], told: &mut [u64; 2]) -> u8
     ensures { left result out.new told.new
         ≡ show_made (converted (layout_of to) (stored (layout_of columns) sheet.now) out.old) }
 {
@@ -129,8 +118,7 @@ pub extern "C" fn gcf_convert(
 
 // The sheet as a medium leaves it that makes these features and these profiles current. Told: bytes of the sheet, the place of the profile or entry at fault. The two
 // lists stand as C lends them: a slice of a declared type is none that the prover walks by itself, so that include/gcf.h alone has the two types here.
-#[unsafe(no_mangle)]
-pub extern "C" fn gcf_load(
+pub fn gcf_load(
     columns: bool,
     sheet: &[u8],
     features: &[u16],
@@ -150,8 +138,7 @@ pub extern "C" fn gcf_load(
 // ---- the box with an image in place of a sheet
 
 // The number of an image. Told: the place of the profile or entry at fault.
-#[unsafe(no_mangle)]
-pub extern "C" fn gcf_check_image(image: &[u8], told: &mut [u64; 1]) -> u8
+pub fn gcf_check_image(image: &[u8], told: &mut [u64; 1]) -> u8
     ensures { left result tt told.new ≡ show_verdict (capture_fault image.now) }
 {
     let capture = capture::check(image);
@@ -161,8 +148,7 @@ pub extern "C" fn gcf_check_image(image: &[u8], told: &mut [u64; 1]) -> u8
 }
 
 // Answers a command from any image. Told: bytes sent, the place of the profile or entry at fault.
-#[unsafe(no_mangle)]
-pub extern "C" fn gcf_respond_image(
+pub fn gcf_respond_image(
     image: &[u8],
     command: &[u8],
     response: &mut [u8],
@@ -178,8 +164,7 @@ pub extern "C" fn gcf_respond_image(
 }
 
 // Answers a command with no check of the image: what a box calls that has checked it once. Told: bytes sent, 0.
-#[unsafe(no_mangle)]
-pub extern "C" fn gcf_respond_image_accepted(
+pub fn gcf_respond_image_accepted(
     image: &[u8],
     command: &[u8],
     response: &mut [u8],
@@ -197,8 +182,7 @@ pub extern "C" fn gcf_respond_image_accepted(
 // ---- the driver
 
 // Makes the command of so many bytes, 10 or 12, that asks for these. Told: bytes written, 0.
-#[unsafe(no_mangle)]
-pub extern "C" fn gcf_build_command(
+pub fn gcf_build_command(
     length: usize,
     rt: u8,
     sfn: Feature,
@@ -215,8 +199,7 @@ pub extern "C" fn gcf_build_command(
 }
 
 // Reads a response. Told: profile, Data Length, whole descriptors, the place behind the last, 1 if complete.
-#[unsafe(no_mangle)]
-pub extern "C" fn gcf_read(rt: u8, sfn: Feature, response: &[u8], told: &mut [u64; 5]) -> u8
+pub fn gcf_read(rt: u8, sfn: Feature, response: &[u8], told: &mut [u64; 5]) -> u8
     ensures { left result tt told.new ≡ show_read (reading return_limit rt sfn.0 response.now) }
 {
     let reading = reading::read(rt, sfn, response);
@@ -234,8 +217,7 @@ pub extern "C" fn gcf_read(rt: u8, sfn: Feature, response: &[u8], told: &mut [u6
 
 // The descriptor at a place of a response, if it stands there whole. Told: feature, flags, Version, Persistent, Current, the place and the length of its body, the
 // place of the next one.
-#[unsafe(no_mangle)]
-pub extern "C" fn gcf_next(place: usize, response: &[u8], told: &mut [u64; 8]) -> bool
+pub fn gcf_next(place: usize, response: &[u8], told: &mut [u64; 8]) -> bool
     ensures { (result, told.new) ≡ show_next (stands_at response.now place) }
 {
     let standing = descriptor::stands(response, place);
@@ -256,8 +238,7 @@ pub extern "C" fn gcf_next(place: usize, response: &[u8], told: &mut [u64; 8]) -
 
 // Where the reading of a response that may have at most so many bytes stops. Told: the place of the first descriptor that is at fault or not whole, and the feature
 // that stands there.
-#[unsafe(no_mangle)]
-pub extern "C" fn gcf_stops(most: usize, rt: u8, sfn: Feature, response: &[u8], told: &mut [u64; 2])
+pub fn gcf_stops(most: usize, rt: u8, sfn: Feature, response: &[u8], told: &mut [u64; 2])
     ensures { told.new ≡ show_stop (stopped most rt sfn.0 response.now) }
 {
     let stop = reading::stops(most, rt, sfn, response);
@@ -266,16 +247,14 @@ pub extern "C" fn gcf_stops(most: usize, rt: u8, sfn: Feature, response: &[u8], 
 }
 
 // Where a feature's descriptor stands in a response to RT 0 from 0, or would stand.
-#[unsafe(no_mangle)]
-pub extern "C" fn gcf_place(feature: Feature, response: &[u8]) -> usize
+pub fn gcf_place(feature: Feature, response: &[u8]) -> usize
     ensures { result ≡ place_in feature.0 response.now }
 {
     reading::place_of(feature, response)
 }
 
 // Copies a feature's descriptor out of the fresh response if whole there, else out of the kept one; none leaves the buffer as it is.
-#[unsafe(no_mangle)]
-pub extern "C" fn gcf_held<'a>(
+pub fn gcf_held<'a>(
     feature: Feature,
     fresh: &'a [u8],
     kept: &'a [u8],
@@ -288,32 +267,28 @@ pub extern "C" fn gcf_held<'a>(
 }
 
 // Lists a response as text.
-#[unsafe(no_mangle)]
-pub extern "C" fn gcf_list(response: &[u8], text: &mut [u8]) -> usize
+pub fn gcf_list(response: &[u8], text: &mut [u8]) -> usize
     ensures { Wrote text.old 0 (listing response.now) result text.new }
 {
     listing::list(response, text)
 }
 
 // C: the most bytes that a response with this allocation length has.
-#[unsafe(no_mangle)]
-pub extern "C" fn gcf_most(allocation: u16) -> usize
+pub fn gcf_most(allocation: u16) -> usize
     ensures { result ≡ most allocation }
 {
     text::most(allocation)
 }
 
 // Starts a sweep: the refusal or none, and the record.
-#[unsafe(no_mangle)]
-pub extern "C" fn gcf_sweep_start(rt: u8, allocation: u16) -> Step
+pub fn gcf_sweep_start(rt: u8, allocation: u16) -> Step
     ensures { result ≡ started rt allocation }
 {
     Sweep::start(rt, allocation)
 }
 
 // Takes a response to the sweep's next command, with any record: the refusal or none, and the record from then on.
-#[unsafe(no_mangle)]
-pub extern "C" fn gcf_sweep_take(sweep: Sweep, response: &[u8], out: &mut [u8]) -> Step
+pub fn gcf_sweep_take(sweep: Sweep, response: &[u8], out: &mut [u8]) -> Step
     ensures { turn result out.new ≡ stepped sweep response.now out.old }
 {
     sweep.take(response, out)
@@ -322,8 +297,7 @@ pub extern "C" fn gcf_sweep_take(sweep: Sweep, response: &[u8], out: &mut [u8]) 
 // ---- the bench and the checks
 
 // A bench sweep of a sheet. Told: commands, bytes collected, the place of the profile or entry at fault.
-#[unsafe(no_mangle)]
-pub extern "C" fn gcf_bench(
+pub fn gcf_bench(
     columns: bool,
     sheet: &[u8],
     rt: u8,
@@ -419,8 +393,7 @@ fn tell(verdict: Verdict) -> Telling
 
 // Judges what another box sent for a command. Told: which verdict, the first byte that is not as it is to be, the mistake, the number that the command is to be refused
 // with, the place of the profile or entry at fault.
-#[unsafe(no_mangle)]
-pub extern "C" fn gcf_judge(
+pub fn gcf_judge(
     columns: bool,
     sheet: &[u8],
     command: &[u8],
@@ -438,8 +411,7 @@ pub extern "C" fn gcf_judge(
 }
 
 // Checks the descriptors of a response. Told: the feature at fault.
-#[unsafe(no_mangle)]
-pub extern "C" fn gcf_check_descriptors(response: &[u8], told: &mut [u64; 1]) -> u8
+pub fn gcf_check_descriptors(response: &[u8], told: &mut [u64; 1]) -> u8
     ensures { left result tt told.new ≡ show_finding (checked response.now) }
 {
     let finding = checks::check_descriptors(response);
@@ -450,13 +422,7 @@ pub extern "C" fn gcf_check_descriptors(response: &[u8], told: &mut [u64; 1]) ->
 }
 
 // Mends a complete response in a copy, and lists the changes, each as place * 65536 + old byte * 256 + new byte. Told: bytes of the copy, changes.
-#[unsafe(no_mangle)]
-pub extern "C" fn gcf_mend(
-    response: &[u8],
-    copy: &mut [u8],
-    changes: &mut [u32],
-    told: &mut [u64; 2],
-) -> u8
+pub fn gcf_mend(response: &[u8], copy: &mut [u8], changes: &mut [u32], told: &mut [u64; 2]) -> u8
     ensures { left result (copy.new, changes.new) told.new
         ≡ show_mended (mend.mends response.now copy.old changes.old) }
 {
@@ -467,8 +433,7 @@ pub extern "C" fn gcf_mend(
 }
 
 // Whether a response has what a profile requires. Told: what is wrong with the lowest feature that breaks the profile, 0 if none does, and that feature.
-#[unsafe(no_mangle)]
-pub extern "C" fn gcf_check_profile(profile: Profile, response: &[u8], told: &mut [u64; 2]) -> u8
+pub fn gcf_check_profile(profile: Profile, response: &[u8], told: &mut [u64; 2]) -> u8
     ensures { left result tt told.new ≡ show_judged (needs.judged profile.0 response.now) }
 {
     let judgement = needs::check_profile(profile, response);
@@ -492,8 +457,7 @@ pub extern "C" fn gcf_check_profile(profile: Profile, response: &[u8], told: &mu
 // ---- import
 
 // Turns a captured response to RT 0 from 0 into a drive sheet in rows. Told: bytes of the sheet, the place of the profile or entry at fault.
-#[unsafe(no_mangle)]
-pub extern "C" fn gcf_import(response: &[u8], sheet: &mut [u8], told: &mut [u64; 2]) -> u8
+pub fn gcf_import(response: &[u8], sheet: &mut [u8], told: &mut [u64; 2]) -> u8
     ensures { left result sheet.new told.new ≡ show_made (imported response.now sheet.old) }
 {
     let made = import::import(response, sheet);
@@ -517,8 +481,7 @@ fn kind_number(kind: Kind) -> u64
 }
 
 // Makes the sense data for a number that a command gave. Told: bytes written, 0.
-#[unsafe(no_mangle)]
-pub extern "C" fn gcf_make_sense(number: u8, sense: &mut [u8], told: &mut [u64; 2]) -> u8
+pub fn gcf_make_sense(number: u8, sense: &mut [u8], told: &mut [u64; 2]) -> u8
     ensures { left result sense.new told.new ≡ show_made (made number sense.old) }
 {
     let written = sense::make(number, sense);
@@ -528,8 +491,7 @@ pub extern "C" fn gcf_make_sense(number: u8, sense: &mut [u8], told: &mut [u64; 
 }
 
 // What received sense data means. Told: the number of the kind, 0 where it is refused.
-#[unsafe(no_mangle)]
-pub extern "C" fn gcf_read_sense(sense: &[u8], told: &mut [u64; 1]) -> u8
+pub fn gcf_read_sense(sense: &[u8], told: &mut [u64; 1]) -> u8
     ensures { left result tt told.new ≡ show_sensed (sensed sense.now) }
 {
     let meaning = sense::read(sense);
