@@ -9,23 +9,23 @@ use program_words::told;
 // The argument that says whether hexadecimal text is written.
 const HEX_OUT: usize = 5;
 
-fn say(made: Made, command: &[u8]) {
+fn say(host: HostRuntime, made: Made, command: &[u8]) {
     let refusal = made.refusal;
     if refusal.number != 0 {
-        told::say_not_built(refusal);
+        told::say_not_built(host, refusal);
         return;
     }
     let built = fields::part(command, 0, made.count);
-    if streams::given(HEX_OUT) {
-        dumps::say_words(built);
+    if streams::given(host, HEX_OUT) {
+        dumps::say_words(host, built);
         return;
     }
-    streams::say(built);
+    streams::say(host, built);
 }
 
-fn main() {
+fn main(host: HostRuntime) {
     let mut command = [0u8; Command::PACKET];
-    let made = packets::build(&mut command);
-    say(made, &command);
-    streams::mark_end();
+    let made = packets::build(host, &mut command);
+    say(host, made, &command);
+    streams::mark_end(host);
 }

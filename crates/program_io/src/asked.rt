@@ -5,38 +5,38 @@ use refusal::Refusal;
 use text::{Feature, Header};
 
 // RT, 0 where there is no argument.
-pub fn rt() -> u8 {
-    (streams::arg(1) % 256) as u8
+pub fn rt(host: HostRuntime) -> u8 {
+    (streams::arg(host, 1) % 256) as u8
 }
 
 // The starting feature number, 0 where there is no argument.
-pub fn from() -> Feature {
-    Feature(streams::arg(2))
+pub fn from(host: HostRuntime) -> Feature {
+    Feature(streams::arg(host, 2))
 }
 
 // Whether nothing else is asked than a reading of RT 0 from 0.
-pub fn plain() -> bool {
-    if streams::given(3) {
+pub fn plain(host: HostRuntime) -> bool {
+    if streams::given(host, 3) {
         return false;
     }
-    if streams::arg(1) != 0 {
+    if streams::arg(host, 1) != 0 {
         return false;
     }
-    streams::arg(2) == 0
+    streams::arg(host, 2) == 0
 }
 
 // The most bytes that the command lets through: C where an allocation length is given, else those that any response may have.
-pub fn most() -> usize {
-    if streams::given(3) {
-        return text::most(streams::arg(3));
+pub fn most(host: HostRuntime) -> usize {
+    if streams::given(host, 3) {
+        return text::most(streams::arg(host, 3));
     }
     Header::RETURN_LIMIT
 }
 
 // What is refused of a response to a command with an allocation length: as in a sweep, too many bytes, or too few for one that is cut.
-fn fault_at_length(allocation: u16, s: &[u8]) -> Refusal {
+fn fault_at_length(host: HostRuntime, allocation: u16, s: &[u8]) -> Refusal {
     let most = text::most(allocation);
-    let scan = reading::scan(most, rt(), from(), s);
+    let scan = reading::scan(most, rt(host), from(host), s);
     let reading = scan.reading;
     let fault = reading.refusal;
     if fault.number != 0 {
@@ -52,10 +52,10 @@ fn fault_at_length(allocation: u16, s: &[u8]) -> Refusal {
 }
 
 // What is refused of a response to the command that is asked for.
-pub fn fault(s: &[u8]) -> Refusal {
-    if streams::given(3) {
-        return fault_at_length(streams::arg(3), s);
+pub fn fault(host: HostRuntime, s: &[u8]) -> Refusal {
+    if streams::given(host, 3) {
+        return fault_at_length(host, streams::arg(host, 3), s);
     }
-    let reading = reading::read(rt(), from(), s);
+    let reading = reading::read(rt(host), from(host), s);
     reading.refusal
 }

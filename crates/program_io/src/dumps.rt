@@ -1,10 +1,10 @@
 // What is read and written at the ends of a program: an input that is given as hexadecimal text or is padded behind its end, an output that is printed as such text,
 // and a hint where text, or padding, was given for a response.
-ghost use Rattle.io.specs.Counts.{IsPrefixLen};
+ghost use Rattle.std.specs.Counts.{IsPrefixLen};
 
 use super::streams;
-use super::streams::Input;
-use libc::{STDERR_FILENO, STDIN_FILENO};
+use super::streams::{Input, STDERR_FILENO};
+use std::io::Read;
 
 // The longest text that is taken: 8 characters for each byte of the longest response.
 const MOST: usize = 524288;
@@ -25,71 +25,74 @@ fn failed() -> Input {
 }
 
 // The file that is read, by the argument that has its name for printing; 0: none.
-fn say_name(named: usize) {
+fn say_name(host: HostRuntime, named: usize) {
     if named > 0 {
-        streams::say_arg_to(STDERR_FILENO, named);
-        streams::say_to(STDERR_FILENO, b": ");
+        streams::say_arg_to(host, STDERR_FILENO, named);
+        streams::say_to(host, STDERR_FILENO, b": ");
     }
 }
 
 // Words, a number, and more words.
-fn say_number(before: &[u8], number: usize, behind: &[u8]) {
-    streams::say_to(STDERR_FILENO, before);
-    streams::say_decimal_to(STDERR_FILENO, number as u64);
-    streams::say_to(STDERR_FILENO, behind);
+fn say_number(host: HostRuntime, before: &[u8], number: usize, behind: &[u8]) {
+    streams::say_to(host, STDERR_FILENO, before);
+    streams::say_decimal_to(host, STDERR_FILENO, number as u64);
+    streams::say_to(host, STDERR_FILENO, behind);
 }
 
 // Something is wrong with the text that is read.
-fn blame(named: usize) {
-    streams::mark_fault();
-    say_name(named);
+fn blame(host: HostRuntime, named: usize) {
+    streams::mark_fault(host);
+    say_name(host, named);
 }
 
-fn say_line(named: usize, line: usize) {
-    blame(named);
+fn say_line(host: HostRuntime, named: usize, line: usize) {
+    blame(host, named);
     say_number(
+        host,
         b"line ",
         line,
         b" spells no bytes: it is no hexadecimal text of a kind that is read here\n",
     );
 }
 
-fn say_too_many(named: usize, count: usize) {
-    blame(named);
+fn say_too_many(host: HostRuntime, named: usize, count: usize) {
+    blame(host, named);
     say_number(
+        host,
         b"the text spells ",
         count,
         b" bytes, more than are taken here\n",
     );
 }
 
-fn say_too_long(named: usize) {
-    blame(named);
+fn say_too_long(host: HostRuntime, named: usize) {
+    blame(host, named);
     streams::say_to(
+        host,
         STDERR_FILENO,
         b"the text has over 524,288 characters, more than are taken here\n",
     );
 }
 
-fn say_none(named: usize) {
-    blame(named);
-    streams::say_to(STDERR_FILENO, b"the text spells no byte at all\n");
+fn say_none(host: HostRuntime, named: usize) {
+    blame(host, named);
+    streams::say_to(host, STDERR_FILENO, b"the text spells no byte at all\n");
 }
 
 // The bytes that a text spells.
-fn spelt(named: usize, text: &[u8], buf: &mut [u8]) -> Input {
+fn spelt(host: HostRuntime, named: usize, text: &[u8], buf: &mut [u8]) -> Input {
     let spelt = hex_text::spell(text, buf);
     if spelt.line != 0 {
-        say_line(named, spelt.line);
+        say_line(host, named, spelt.line);
         return failed();
     }
     let count = spelt.count;
     if count == 0 {
-        say_none(named);
+        say_none(host, named);
         return failed();
     }
     if buf.len() < count {
-        say_too_many(named, count);
+        say_too_many(host, named, count);
         return failed();
     }
     Input {
@@ -99,12 +102,12 @@ fn spelt(named: usize, text: &[u8], buf: &mut [u8]) -> Input {
 }
 
 // A text of at most so many characters, and the bytes that it spells.
-fn spelt_within(named: usize, text: &[u8], buf: &mut [u8]) -> Input {
+fn spelt_within(host: HostRuntime, named: usize, text: &[u8], buf: &mut [u8]) -> Input {
     if text.len() > MOST {
-        say_too_long(named);
+        say_too_long(host, named);
         return failed();
     }
-    spelt(named, text, buf)
+    spelt(host, named, text, buf)
 }
 
 // Bytes that stand for themselves, as many as there is room for.
@@ -127,26 +130,39 @@ fn is_bytes(plain: bool, s: &[u8]) -> bool {
 }
 
 // The bytes that a text spells; or these bytes, where they may stand for themselves.
-fn bytes_of(plain: bool, named: usize, s: &[u8], buf: &mut [u8]) -> Input {
+fn bytes_of(host: HostRuntime, plain: bool, named: usize, s: &[u8], buf: &mut [u8]) -> Input {
     if is_bytes(plain, s) {
         return taken(s, buf);
     }
-    spelt_within(named, s, buf)
+    spelt_within(host, named, s, buf)
 }
 
-// Reads a text from a descriptor into lent memory, and gives its bytes.
-fn read_into(plain: bool, named: usize, fd: i32, text: &mut [u8; ROOM], buf: &mut [u8]) -> Input {
-    let got = streams::read_from(fd, text);
+// Reads a text into lent memory, and gives its bytes.
+fn read_into<R: Read + Drop>(
+    host: HostRuntime,
+    plain: bool,
+    named: usize,
+    from: R,
+    text: &mut [u8; ROOM],
+    buf: &mut [u8],
+) -> Input {
+    let got = streams::read_from(host, from, text);
     if got.failed {
         return failed();
     }
-    bytes_of(plain, named, fields::part(text, 0, got.count), buf)
+    bytes_of(host, plain, named, fields::part(text, 0, got.count), buf)
 }
 
 // Only a function that reads a text has the memory for one.
-fn read_text(plain: bool, named: usize, fd: i32, buf: &mut [u8]) -> Input {
+fn read_text<R: Read + Drop>(
+    host: HostRuntime,
+    plain: bool,
+    named: usize,
+    from: R,
+    buf: &mut [u8],
+) -> Input {
     let mut text = [0u8; ROOM];
-    read_into(plain, named, fd, &mut text, buf)
+    read_into(host, plain, named, from, &mut text, buf)
 }
 
 // What was read, which the buffer has.
@@ -161,59 +177,57 @@ fn within(got: Input, buf: &[u8]) -> Input
 }
 
 // Standard input: bytes, or where argument i is given the bytes of a text.
-fn read_all(plain: bool, i: usize, buf: &mut [u8]) -> Input {
-    if streams::given(i) {
-        return read_text(plain, 0, STDIN_FILENO, buf);
+fn read_all(host: HostRuntime, plain: bool, i: usize, buf: &mut [u8]) -> Input {
+    if streams::given(host, i) {
+        return read_text(host, plain, 0, host.stdin(), buf);
     }
-    streams::read(buf)
+    streams::read(host, buf)
 }
 
 // Without its padding, where the argument behind i says so.
-fn read_trimmed(plain: bool, i: usize, buf: &mut [u8]) -> Input
+fn read_trimmed(host: HostRuntime, plain: bool, i: usize, buf: &mut [u8]) -> Input
     ensures { IsPrefixLen result.count buf.new }
 {
-    let got = read_all(plain, i, buf);
-    let kept = trimmed(i, 0, got, buf);
+    let got = read_all(host, plain, i, buf);
+    let kept = trimmed(host, i, 0, got, buf);
     within(kept, buf)
 }
 
 // Reads standard input: bytes, or where argument i is given the bytes that a text spells. Where the argument behind it is given, no more of these than a response has by
 // its own Data Length.
-pub fn read(i: usize, buf: &mut [u8]) -> Input
+pub fn read(host: HostRuntime, i: usize, buf: &mut [u8]) -> Input
     ensures { IsPrefixLen result.count buf.new }
 {
-    read_trimmed(false, i, buf)
+    read_trimmed(host, false, i, buf)
 }
 
 // As read, but where argument i is given the input may be bytes all the same: that argument then speaks of what is written.
-pub fn read_either(i: usize, buf: &mut [u8]) -> Input
+pub fn read_either(host: HostRuntime, i: usize, buf: &mut [u8]) -> Input
     ensures { IsPrefixLen result.count buf.new }
 {
-    read_trimmed(true, i, buf)
+    read_trimmed(host, true, i, buf)
 }
 
-fn read_named_text(file: usize, named: usize, buf: &mut [u8]) -> Input {
-    let mut name = io::buffer();
-    let length = os::arg(file, &mut name);
-    let fd = os::open_read(&name[..length]);
-    let got = read_text(false, named, fd, buf);
-    libc::close(fd);
-    got
-}
-
-fn read_all_named(i: usize, file: usize, named: usize, buf: &mut [u8]) -> Input {
-    if streams::given(i) {
-        return read_named_text(file, named, buf);
+fn read_named_text(host: HostRuntime, file: usize, named: usize, buf: &mut [u8]) -> Input {
+    match streams::open_named(host, file) {
+        Ok(from) => read_text(host, false, named, from, buf),
+        Err(_) => streams::not_read(host),
     }
-    streams::read_named(file, buf)
+}
+
+fn read_all_named(host: HostRuntime, i: usize, file: usize, named: usize, buf: &mut [u8]) -> Input {
+    if streams::given(host, i) {
+        return read_named_text(host, file, named, buf);
+    }
+    streams::read_named(host, file, buf)
 }
 
 // Reads the file that an argument names, as read does; another argument has its name for printing.
-pub fn read_named(i: usize, file: usize, named: usize, buf: &mut [u8]) -> Input
+pub fn read_named(host: HostRuntime, i: usize, file: usize, named: usize, buf: &mut [u8]) -> Input
     ensures { IsPrefixLen result.count buf.new }
 {
-    let got = read_all_named(i, file, named, buf);
-    let kept = trimmed(i, named, got, buf);
+    let got = read_all_named(host, i, file, named, buf);
+    let kept = trimmed(host, i, named, got, buf);
     within(kept, buf)
 }
 
@@ -255,9 +269,10 @@ fn is_zero(s: &[u8]) -> bool {
 }
 
 // What trimming left out is told where it is no mere padding.
-fn say_left_out(named: usize, count: usize) {
-    say_name(named);
+fn say_left_out(host: HostRuntime, named: usize, count: usize) {
+    say_name(host, named);
     say_number(
+        host,
         b"--trim left out ",
         count,
         b" bytes behind the response that are not all 0\n",
@@ -265,9 +280,9 @@ fn say_left_out(named: usize, count: usize) {
 }
 
 // So many bytes of a response that has padding.
-fn cut_off(named: usize, s: &[u8], rest: &[u8]) -> Input {
+fn cut_off(host: HostRuntime, named: usize, s: &[u8], rest: &[u8]) -> Input {
     if !is_zero(rest) {
-        say_left_out(named, rest.len());
+        say_left_out(host, named, rest.len());
     }
     Input {
         failed: false,
@@ -275,20 +290,20 @@ fn cut_off(named: usize, s: &[u8], rest: &[u8]) -> Input {
     }
 }
 
-fn trim(named: usize, got: Input, s: &[u8]) -> Input {
+fn trim(host: HostRuntime, named: usize, got: Input, s: &[u8]) -> Input {
     let rest = behind(s);
     if rest.len() == 0 {
         return got;
     }
-    cut_off(named, s, rest)
+    cut_off(host, named, s, rest)
 }
 
 // What was read without its padding, where the argument behind i says so.
-fn trimmed(i: usize, named: usize, got: Input, buf: &[u8]) -> Input {
-    if !streams::given(i % 256 + 1) {
+fn trimmed(host: HostRuntime, i: usize, named: usize, got: Input, buf: &[u8]) -> Input {
+    if !streams::given(host, i % 256 + 1) {
         return got;
     }
-    trim(named, got, fields::part(buf, 0, got.count))
+    trim(host, named, got, fields::part(buf, 0, got.count))
 }
 
 // ---- a hint
@@ -315,50 +330,53 @@ fn is_text(s: &[u8]) -> bool {
 
 // Of a response that is longer than its own Data Length says: how many bytes it has by that, and what the others are. Of an input that is too long for a response only the
 // front was read.
-fn say_padded(own: usize, rest: &[u8], all: bool) {
+fn say_padded(host: HostRuntime, own: usize, rest: &[u8], all: bool) {
     say_number(
+        host,
         b"by its own Data Length the response has ",
         own,
         b" bytes; the ",
     );
     if !all {
-        streams::say_to(STDERR_FILENO, b"first ");
+        streams::say_to(host, STDERR_FILENO, b"first ");
     }
-    say_number(b"", rest.len(), b" bytes behind it are ");
+    say_number(host, b"", rest.len(), b" bytes behind it are ");
     if !is_zero(rest) {
-        streams::say_to(STDERR_FILENO, b"not ");
+        streams::say_to(host, STDERR_FILENO, b"not ");
     }
     streams::say_to(
+        host,
         STDERR_FILENO,
         b"all 0: --trim takes the response without them\n",
     );
 }
 
-fn hint_padded(s: &[u8]) {
+fn hint_padded(host: HostRuntime, s: &[u8]) {
     let rest = behind(s);
     if rest.len() > 0 {
-        say_padded(own_length(s), rest, s.len() <= LONGEST);
+        say_padded(host, own_length(s), rest, s.len() <= LONGEST);
     }
 }
 
-fn hint_bytes(s: &[u8]) {
+fn hint_bytes(host: HostRuntime, s: &[u8]) {
     if is_text(s) {
         streams::say_to(
+            host,
             STDERR_FILENO,
             b"what was read looks like text: with --hex hexadecimal text is read\n",
         );
         return;
     }
-    hint_padded(s);
+    hint_padded(host, s);
 }
 
 // Of bytes that were refused: whether they look like a text, unless argument i says that one was read; else whether they are padded.
-pub fn hint(i: usize, s: &[u8]) {
-    if streams::given(i) {
-        hint_padded(s);
+pub fn hint(host: HostRuntime, i: usize, s: &[u8]) {
+    if streams::given(host, i) {
+        hint_padded(host, s);
         return;
     }
-    hint_bytes(s);
+    hint_bytes(host, s);
 }
 
 // ---- output
@@ -368,53 +386,53 @@ fn digit(d: u8) -> u8 {
     digits[(d % 16) as usize]
 }
 
-fn say_byte(b: u8) {
-    streams::say(&[digit(b / 16), digit(b)]);
+fn say_byte(host: HostRuntime, b: u8) {
+    streams::say(host, &[digit(b / 16), digit(b)]);
 }
 
 // Byte i as a word, a blank before all but the first.
-fn say_word(bytes: &[u8], i: usize) {
+fn say_word(host: HostRuntime, bytes: &[u8], i: usize) {
     if i > 0 {
-        streams::say(b" ");
+        streams::say(host, b" ");
     }
-    say_byte(fields::byte(bytes, i));
+    say_byte(host, fields::byte(bytes, i));
 }
 
 // Writes bytes to standard output as a line of words, two digits each, as `sg_raw` takes a command.
-pub fn say_words(bytes: &[u8]) {
+pub fn say_words(host: HostRuntime, bytes: &[u8]) {
     let mut i = 0;
     while i < bytes.len() {
-        say_word(bytes, i);
+        say_word(host, bytes, i);
         i += 1;
     }
-    streams::say(b"\n");
+    streams::say(host, b"\n");
 }
 
 // The offset of a line, and a colon.
-fn say_offset(offset: usize) {
-    say_byte((offset / 16777216 % 256) as u8);
-    say_byte((offset / 65536 % 256) as u8);
-    say_byte((offset / 256 % 256) as u8);
-    say_byte((offset % 256) as u8);
-    streams::say(b":");
+fn say_offset(host: HostRuntime, offset: usize) {
+    say_byte(host, (offset / 16777216 % 256) as u8);
+    say_byte(host, (offset / 65536 % 256) as u8);
+    say_byte(host, (offset / 256 % 256) as u8);
+    say_byte(host, (offset % 256) as u8);
+    streams::say(host, b":");
 }
 
 // Byte i of a row, or blanks in its place; a blank before every other one.
-fn say_column(row: &[u8], i: usize) {
+fn say_column(host: HostRuntime, row: &[u8], i: usize) {
     if i % 2 == 0 {
-        streams::say(b" ");
+        streams::say(host, b" ");
     }
     if i < row.len() {
-        say_byte(row[i]);
+        say_byte(host, row[i]);
         return;
     }
-    streams::say(b"  ");
+    streams::say(host, b"  ");
 }
 
-fn say_columns(row: &[u8]) {
+fn say_columns(host: HostRuntime, row: &[u8]) {
     let mut i = 0;
     while i < 16 {
-        say_column(row, i);
+        say_column(host, row, i);
         i += 1;
     }
 }
@@ -427,36 +445,36 @@ fn printed(c: u8) -> u8 {
 }
 
 // The characters of a row, a point for each that is not printed.
-fn say_characters(row: &[u8]) {
+fn say_characters(host: HostRuntime, row: &[u8]) {
     let mut i = 0;
     while i < row.len() {
-        streams::say(&[printed(row[i])]);
+        streams::say(host, &[printed(row[i])]);
         i += 1;
     }
 }
 
 // A line as `xxd` prints it, of at most 16 bytes.
-fn say_row(row: &[u8], offset: usize) {
-    say_offset(offset);
-    say_columns(row);
-    streams::say(b"  ");
-    say_characters(row);
-    streams::say(b"\n");
+fn say_row(host: HostRuntime, row: &[u8], offset: usize) {
+    say_offset(host, offset);
+    say_columns(host, row);
+    streams::say(host, b"  ");
+    say_characters(host, row);
+    streams::say(host, b"\n");
 }
 
-fn say_rows(bytes: &[u8]) {
+fn say_rows(host: HostRuntime, bytes: &[u8]) {
     let mut at = 0;
     while at < bytes.len() {
-        say_row(fields::part(bytes, at, 16), at);
+        say_row(host, fields::part(bytes, at, 16), at);
         at += 16;
     }
 }
 
 // Writes bytes to standard output, or where argument i is given the text that `xxd` prints of them.
-pub fn say(i: usize, bytes: &[u8]) {
-    if streams::given(i) {
-        say_rows(bytes);
+pub fn say(host: HostRuntime, i: usize, bytes: &[u8]) {
+    if streams::given(host, i) {
+        say_rows(host, bytes);
         return;
     }
-    streams::say(bytes);
+    streams::say(host, bytes);
 }

@@ -1,6 +1,6 @@
 // An exchange as the front-end spells it, all in hexadecimal digits: how many bytes the command has (two digits), how many the response has (four), the bytes of both, and a line
 // end.
-ghost use Rattle.io.specs.Counts.{IsPrefixLen};
+ghost use Rattle.std.specs.Counts.{IsPrefixLen};
 
 use super::streams;
 
@@ -24,34 +24,38 @@ pub struct Exchange {
 }
 
 // Reads so many digits, if there is room for them.
-fn read_digits(count: usize, buf: &mut [u8]) -> usize {
+fn read_digits(host: HostRuntime, count: usize, buf: &mut [u8]) -> usize {
     if buf.len() < count {
         return 0;
     }
-    let got = streams::read(&mut buf[..count]);
+    let got = streams::read(host, &mut buf[..count]);
     got.count
 }
 
-fn read_command(count: usize, out: &mut [u8; COMMAND]) -> usize {
+fn read_command(host: HostRuntime, count: usize, out: &mut [u8; COMMAND]) -> usize {
     let mut text = [0u8; COMMAND_DIGITS];
-    let got = read_digits(count % 256 * 2, &mut text);
+    let got = read_digits(host, count % 256 * 2, &mut text);
     streams::unpacked(fields::part(&text, 0, got), out)
 }
 
-fn read_response(count: usize, out: &mut [u8; RESPONSE]) -> usize {
+fn read_response(host: HostRuntime, count: usize, out: &mut [u8; RESPONSE]) -> usize {
     let mut text = [0u8; RESPONSE_DIGITS];
-    let got = read_digits(count % 65536 * 2 + 1, &mut text);
+    let got = read_digits(host, count % 65536 * 2 + 1, &mut text);
     streams::unpacked(fields::part(&text, 0, got), out)
 }
 
 // Reads the next exchange of standard input.
-pub fn read_next(command: &mut [u8; COMMAND], response: &mut [u8; RESPONSE]) -> Exchange {
+pub fn read_next(
+    host: HostRuntime,
+    command: &mut [u8; COMMAND],
+    response: &mut [u8; RESPONSE],
+) -> Exchange {
     let mut counts = [0u8; COUNTS];
-    streams::read(&mut counts);
+    streams::read(host, &mut counts);
     let mut sizes = [0u8; 3];
     streams::unpacked(&counts, &mut sizes);
     Exchange {
-        command: read_command(fields::byte(&sizes, 0) as usize, command),
-        response: read_response(fields::get2(&sizes, 1) as usize, response),
+        command: read_command(host, fields::byte(&sizes, 0) as usize, command),
+        response: read_response(host, fields::get2(&sizes, 1) as usize, response),
     }
 }

@@ -83,10 +83,10 @@ fn shown(c: u8) -> u8 {
     }
 }
 
-fn say_text(text: &[u8]) {
+fn say_text(host: HostRuntime, text: &[u8]) {
     let mut i = 0;
     while i < text.len() {
-        say(&[shown(text[i])]);
+        say(host, &[shown(text[i])]);
         i += 1;
     }
 }
@@ -130,56 +130,56 @@ fn list_of(field: Field, descriptor: &[u8]) -> &[u8] {
 }
 
 // The numbers of a list, each of so many bytes.
-fn say_list(list: &[u8], bytes: u32) {
+fn say_list(host: HostRuntime, list: &[u8], bytes: u32) {
     let mut at: usize = 0;
     while at < list.len() {
         if at > 0 {
-            say(b", ");
+            say(host, b", ");
         }
-        say_decimal(number_in(list, at, bytes) as u64);
+        say_decimal(host, number_in(list, at, bytes) as u64);
         at = at + size(bytes);
     }
 }
 
-fn say_value(json: bool, field: Field, descriptor: &[u8]) {
+fn say_value(host: HostRuntime, json: bool, field: Field, descriptor: &[u8]) {
     if field.kind == TEXT {
-        say_either(json, b"\"", b"");
-        say_text(text_of(field, descriptor));
-        say_either(json, b"\"", b"");
+        say_either(host, json, b"\"", b"");
+        say_text(host, text_of(field, descriptor));
+        say_either(host, json, b"\"", b"");
         return;
     }
     if field.kind == LIST {
-        say_either(json, b"[", b"");
-        say_list(list_of(field, descriptor), field.bytes);
-        say_either(json, b"]", b"");
+        say_either(host, json, b"[", b"");
+        say_list(host, list_of(field, descriptor), field.bytes);
+        say_either(host, json, b"]", b"");
         return;
     }
-    say_decimal(value_of(field, descriptor) as u64);
+    say_decimal(host, value_of(field, descriptor) as u64);
 }
 
-fn say_name(kind: u32, value: u32) {
+fn say_name(host: HostRuntime, kind: u32, value: u32) {
     if kind == PHYSICAL {
-        super::names::say_physical(value);
+        super::names::say_physical(host, value);
         return;
     }
-    super::names::say_loading(value);
+    super::names::say_loading(host, value);
 }
 
 // The name of a value, where it has one.
-fn say_meaning(json: bool, kind: u32, value: u32) {
+fn say_meaning(host: HostRuntime, json: bool, kind: u32, value: u32) {
     if kind < PHYSICAL {
         return;
     }
     if kind >= TEXT {
         return;
     }
-    say_either(json, b",\"meaning\":\"", b" (");
-    say_name(kind, value);
-    say_either(json, b"\"", b")");
+    say_either(host, json, b",\"meaning\":\"", b" (");
+    say_name(host, kind, value);
+    say_either(host, json, b"\"", b")");
 }
 
 // Whether mending would change the value: then the check finds a fault there, of a cue sheet length, which alone has three bytes, 37, of any other field 36.
-fn say_fault(json: bool, field: Field, descriptor: &[u8], clean: &[u8]) {
+fn say_fault(host: HostRuntime, json: bool, field: Field, descriptor: &[u8], clean: &[u8]) {
     if field.kind >= TEXT {
         return;
     }
@@ -187,26 +187,26 @@ fn say_fault(json: bool, field: Field, descriptor: &[u8], clean: &[u8]) {
         return;
     }
     if field.bytes == 3 {
-        say_either(
+        say_either(host, 
             json,
             b",\"fault\":37",
             b", which the check finds without SAO",
         );
         return;
     }
-    say_either(json, b",\"fault\":36", b", which the check finds reserved");
+    say_either(host, json, b",\"fault\":36", b", which the check finds reserved");
 }
 
 // ---- the fields of a feature
 
-fn say_field(json: bool, name: &[u8], field: Field, descriptor: &[u8], clean: &[u8]) {
-    say_either(json, b"{\"name\":\"", b"    ");
-    say(name);
-    say_either(json, b"\",\"value\":", b": ");
-    say_value(json, field, descriptor);
-    say_meaning(json, field.kind, value_of(field, descriptor));
-    say_fault(json, field, descriptor, clean);
-    say_either(json, b"}", b"\n");
+fn say_field(host: HostRuntime, json: bool, name: &[u8], field: Field, descriptor: &[u8], clean: &[u8]) {
+    say_either(host, json, b"{\"name\":\"", b"    ");
+    say(host, name);
+    say_either(host, json, b"\",\"value\":", b": ");
+    say_value(host, json, field, descriptor);
+    say_meaning(host, json, field.kind, value_of(field, descriptor));
+    say_fault(host, json, field, descriptor, clean);
+    say_either(host, json, b"}", b"\n");
 }
 
 // Whether a descriptor has all bytes of a field, and one at least.
@@ -215,32 +215,32 @@ fn is_there(field: Field, descriptor: &[u8]) -> bool {
 }
 
 // Says a field of the table, if it is there, and whether one has been said by now.
-fn say_next(json: bool, said: bool, text: &[u8], descriptor: &[u8], clean: &[u8]) -> bool {
+fn say_next(host: HostRuntime, json: bool, said: bool, text: &[u8], descriptor: &[u8], clean: &[u8]) -> bool {
     let field = field_of(text);
     if !is_there(field, descriptor) {
         return said;
     }
     if said {
-        say_either(json, b",", b"");
+        say_either(host, json, b",", b"");
     }
-    say_field(json, name_of(text), field, descriptor, clean);
+    say_field(host, json, name_of(text), field, descriptor, clean);
     true
 }
 
 // Says the fields of a line of the table, which has a semicolon and a space between them, and whether there is one.
-fn say_listed(line: &[u8], json: bool, descriptor: &[u8], clean: &[u8]) -> bool {
+fn say_listed(host: HostRuntime, line: &[u8], json: bool, descriptor: &[u8], clean: &[u8]) -> bool {
     let mut said = false;
     let mut at = 0;
     while at < line.len() {
         let text = tables::before(line, at, b';');
-        said = say_next(json, said, text, descriptor, clean);
+        said = say_next(host, json, said, text, descriptor, clean);
         at = at + text.len() + 2;
     }
     said
 }
 
 // Says the fields of a feature's descriptor, of which `clean` is a copy that the mender has been over, and whether there is one.
-pub fn say_fields(json: bool, number: u16, descriptor: &[u8], clean: &[u8]) -> bool {
+pub fn say_fields(host: HostRuntime, json: bool, number: u16, descriptor: &[u8], clean: &[u8]) -> bool {
     let line = tables::text_of(
         b"0001 04 4 01 00 1 Physical Interface Standard; 08 1 02 02 0 INQ2; 08 1 01 02 0 DBE\n\
         0002 04 1 02 02 0 OCEvent; 04 1 01 02 0 Async\n\
@@ -298,16 +298,16 @@ pub fn say_fields(json: bool, number: u16, descriptor: &[u8], clean: &[u8]) -> b
         true,
         number as u32,
     );
-    say_listed(line, json, descriptor, clean)
+    say_listed(host, line, json, descriptor, clean)
 }
 
 // The link sizes of 0021h and 0033h, as many bytes as their byte 7 says.
-pub fn say_links(number: u16, descriptor: &[u8]) {
+pub fn say_links(host: HostRuntime, number: u16, descriptor: &[u8]) {
     let sizes = fields::part(descriptor, 8, fields::byte(descriptor, 7) as usize);
     if number == 0x0021 {
-        say_list(sizes, 1);
+        say_list(host, sizes, 1);
     }
     if number == 0x0033 {
-        say_list(sizes, 1);
+        say_list(host, sizes, 1);
     }
 }

@@ -1,44 +1,43 @@
 // Forms: what is said of numbers, in words or as JSON, each a text.
 use super::{tables, words};
-use libc::STDOUT_FILENO;
+use program_io::streams::{STDOUT_FILENO, say};
 use program_io::streams;
-use program_io::streams::say;
 
 // Says one of two texts.
-pub fn say_either(json: bool, value: &[u8], words: &[u8]) {
+pub fn say_either(host: HostRuntime, json: bool, value: &[u8], words: &[u8]) {
     if json {
-        say(value);
+        say(host, value);
         return;
     }
-    say(words);
+    say(host, words);
 }
 
 // The words of a number that is 1 or 0.
-fn say_bool(number: u32) {
+fn say_bool(host: HostRuntime, number: u32) {
     if number == 0 {
-        say(b"false");
+        say(host, b"false");
         return;
     }
-    say(b"true");
+    say(host, b"true");
 }
 
-fn say_current(number: u32) {
+fn say_current(host: HostRuntime, number: u32) {
     if number != 0 {
-        say(b", current");
+        say(host, b", current");
     }
 }
 
 // Says a number as a letter asks: x in four hexadecimal digits, b as true or false, c as whether something is current, f and p as the name of a feature and of a profile, any other in
 // decimal.
-fn say_as(letter: u8, number: u32) {
+fn say_as(host: HostRuntime, letter: u8, number: u32) {
     let short = (number % 65536) as u16;
     match letter {
-        b'x' => words::say_hex4(STDOUT_FILENO, short),
-        b'b' => say_bool(number),
-        b'c' => say_current(number),
-        b'f' => super::names::say_feature(short),
-        b'p' => super::names::say_profile(short),
-        _ => streams::say_decimal(number as u64),
+        b'x' => words::say_hex4(host, STDOUT_FILENO, short),
+        b'b' => say_bool(host, number),
+        b'c' => say_current(host, number),
+        b'f' => super::names::say_feature(host, short),
+        b'p' => super::names::say_profile(host, short),
+        _ => streams::say_decimal(host, number as u64),
     }
 }
 
@@ -51,32 +50,32 @@ fn number_at(numbers: &[u32], k: usize) -> u32 {
 }
 
 // Says a run of a form, which but for the first one begins with the letter of a number.
-fn say_run(run: &[u8], k: usize, numbers: &[u32]) {
+fn say_run(host: HostRuntime, run: &[u8], k: usize, numbers: &[u32]) {
     if k == 0 {
-        say(run);
+        say(host, run);
         return;
     }
-    say_as(fields::byte(run, 0), number_at(numbers, k - 1));
-    say(fields::part(run, 1, run.len()));
+    say_as(host, fields::byte(run, 0), number_at(numbers, k - 1));
+    say(host, fields::part(run, 1, run.len()));
 }
 
 // Says a form: a text, where a % and the letter behind it stand for the next number.
-fn say_form(form: &[u8], numbers: &[u32]) {
+fn say_form(host: HostRuntime, form: &[u8], numbers: &[u32]) {
     let mut at = 0;
     let mut k = 0;
     while at < form.len() {
         let run = tables::before(form, at, b'%');
-        say_run(run, k, numbers);
+        say_run(host, run, k, numbers);
         at = at + run.len() + 1;
         k = k + 1;
     }
 }
 
 // Says one of two forms.
-pub fn fill(json: bool, value: &[u8], words: &[u8], numbers: &[u32]) {
+pub fn fill(host: HostRuntime, json: bool, value: &[u8], words: &[u8], numbers: &[u32]) {
     if json {
-        say_form(value, numbers);
+        say_form(host, value, numbers);
         return;
     }
-    say_form(words, numbers);
+    say_form(host, words, numbers);
 }

@@ -5,22 +5,22 @@ use super::tables;
 use program_io::streams::say;
 
 // Says what a table has for a number, or what is said where it has nothing.
-fn say_named(table: &[u8], number: u32, otherwise: &[u8]) {
+fn say_named(host: HostRuntime, table: &[u8], number: u32, otherwise: &[u8]) {
     let name = tables::text_of(table, true, number);
     if name.len() == 0 {
-        say(otherwise);
+        say(host, otherwise);
         return;
     }
-    say(name);
+    say(host, name);
 }
 
 // Features, as Table 6 of document 000 and document 002 name them, and those that the published MMC has added.
-pub fn say_feature(number: u16) {
+pub fn say_feature(host: HostRuntime, number: u16) {
     if number >= 0xFF00 {
-        say(b"Vendor Unique");
+        say(host, b"Vendor Unique");
         return;
     }
-    say_named(
+    say_named(host, 
         b"0000 Profile List\n\
         0001 Core\n\
         0002 Morphing\n\
@@ -88,8 +88,8 @@ pub fn say_feature(number: u16) {
 }
 
 // Profiles: those of document 000, Table 9, and those that the published MMC has added.
-pub fn say_profile(number: u16) {
-    say_named(
+pub fn say_profile(host: HostRuntime, number: u16) {
+    say_named(host, 
         b"0000 none\n\
         0001 Non-removable disk\n\
         0002 Removable disk\n\
@@ -132,8 +132,8 @@ pub fn say_profile(number: u16) {
 }
 
 // Physical Interface Standard: document 000, Table 11, and the published MMC's from 4 on.
-pub fn say_physical(value: u32) {
-    say_named(
+pub fn say_physical(host: HostRuntime, value: u32) {
+    say_named(host, 
         b"0 Unspecified\n\
         1 SCSI Family\n\
         2 ATAPI\n\
@@ -150,8 +150,8 @@ pub fn say_physical(value: u32) {
 }
 
 // Loading Mechanism: document 000, Table 15.
-pub fn say_loading(value: u32) {
-    say_named(
+pub fn say_loading(host: HostRuntime, value: u32) {
+    say_named(host, 
         b"0 Caddy/Slot\n\
         1 Tray\n\
         2 Pop-up\n\

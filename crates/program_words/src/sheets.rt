@@ -1,7 +1,7 @@
 // What the programs that read a drive sheet say of it: how it is laid out, why it is refused, with the line that the refusal names, and what it may be instead.
 use super::words;
 use layout::Layout;
-use libc::STDERR_FILENO;
+use program_io::streams::STDERR_FILENO;
 use program_io::streams;
 use refusal::Refusal;
 
@@ -14,18 +14,18 @@ pub const LONGEST: usize = 17039356;
 pub const SHORT: usize = 1048576;
 
 // Of a sheet that fills its memory, which has one byte more than are taken: so that it is not shortened.
-pub fn say_too_long(room: usize) {
-    streams::mark_fault();
-    say(b"the sheet has ");
-    streams::say_decimal_to(STDERR_FILENO, room as u64);
-    say(b" bytes or more, more than are taken here\n");
+pub fn say_too_long(host: HostRuntime, room: usize) {
+    streams::mark_fault(host);
+    say(host, b"the sheet has ");
+    streams::say_decimal_to(host, STDERR_FILENO, room as u64);
+    say(host, b" bytes or more, more than are taken here\n");
 }
 
 // ---- how it is laid out
 
 // How the sheet that is read is laid out: in columns where this argument is given.
-pub fn layout_given(i: usize) -> Layout {
-    if streams::given(i) {
+pub fn layout_given(host: HostRuntime, i: usize) -> Layout {
+    if streams::given(host, i) {
         return Layout::Columns;
     }
     Layout::Rows
@@ -33,8 +33,8 @@ pub fn layout_given(i: usize) -> Layout {
 
 // ---- what it may be instead
 
-fn say(what: &[u8]) {
-    streams::say_to(STDERR_FILENO, what);
+fn say(host: HostRuntime, what: &[u8]) {
+    streams::say_to(host, STDERR_FILENO, what);
 }
 
 // Whether these are as many bytes as a response has by its own Data Length.
@@ -51,57 +51,57 @@ fn is_accepted(lay: Layout, s: &[u8]) -> bool {
 }
 
 // Of a sheet in rows that is refused.
-fn hint_rows(s: &[u8]) {
+fn hint_rows(host: HostRuntime, s: &[u8]) {
     if is_accepted(Layout::Columns, s) {
-        say(
+        say(host, 
             b"what was read is a drive sheet in columns: --columns takes one, and gcf rows makes rows of it\n",
         );
     }
 }
 
 // Of one in columns.
-fn hint_columns(s: &[u8]) {
+fn hint_columns(host: HostRuntime, s: &[u8]) {
     if is_accepted(Layout::Rows, s) {
-        say(
+        say(host, 
             b"what was read is a drive sheet in rows: it is taken without --columns, and gcf columns makes columns of it\n",
         );
     }
 }
 
-fn hint_layout(lay: Layout, s: &[u8]) {
+fn hint_layout(host: HostRuntime, lay: Layout, s: &[u8]) {
     match lay {
-        Layout::Rows => hint_rows(s),
-        Layout::Columns => hint_columns(s),
+        Layout::Rows => hint_rows(host, s),
+        Layout::Columns => hint_columns(host, s),
     }
 }
 
 // Where the sheet itself is refused, and no command: whether it is a response, or laid out otherwise.
-fn hint(lay: Layout, s: &[u8]) {
+fn hint(host: HostRuntime, lay: Layout, s: &[u8]) {
     if is_accepted(lay, s) {
         return;
     }
     if is_response(s) {
-        say(b"what was read looks like a response: gcf import makes a drive sheet of one\n");
+        say(host, b"what was read looks like a response: gcf import makes a drive sheet of one\n");
         return;
     }
-    hint_layout(lay, s);
+    hint_layout(host, lay, s);
 }
 
 // ---- a refusal
 
-fn say_line(refusal: Refusal, lay: Layout, sheet: &[u8]) {
+fn say_line(host: HostRuntime, refusal: Refusal, lay: Layout, sheet: &[u8]) {
     let profiles = layout::profile_count(sheet);
     if refusal.place == 0 {
-        words::say_refused(STDERR_FILENO, refusal, profiles as u64, 0);
+        words::say_refused(host, STDERR_FILENO, refusal, profiles as u64, 0);
         return;
     }
     let feature = layout::feature_at(lay, sheet, refusal.place - 1);
-    words::say_refused(STDERR_FILENO, refusal, profiles as u64, feature.0);
+    words::say_refused(host, STDERR_FILENO, refusal, profiles as u64, feature.0);
 }
 
 // A refusal of a sheet or a command, with the line of the sheet that it names.
-pub fn say_refused(refusal: Refusal, lay: Layout, sheet: &[u8]) {
-    streams::mark_fault();
-    say_line(refusal, lay, sheet);
-    hint(lay, sheet);
+pub fn say_refused(host: HostRuntime, refusal: Refusal, lay: Layout, sheet: &[u8]) {
+    streams::mark_fault(host);
+    say_line(host, refusal, lay, sheet);
+    hint(host, lay, sheet);
 }

@@ -12,28 +12,28 @@ const COMMAND: usize = 8;
 // The argument that says whether hexadecimal text is written.
 const HEX_OUT: usize = 9;
 
-fn answer_command(image: &[u8], command: &[u8]) {
+fn answer_command(host: HostRuntime, image: &[u8], command: &[u8]) {
     let mut response = [0u8; Header::RETURN_LIMIT];
     let reply = rom::respond(image, command, &mut response);
     let refusal = reply.refusal;
     if refusal.number != 0 {
-        refusing::say_capture(refusal, image);
+        refusing::say_capture(host, refusal, image);
         return;
     }
-    dumps::say(HEX_OUT, fields::part(&response, 0, reply.count));
+    dumps::say(host, HEX_OUT, fields::part(&response, 0, reply.count));
 }
 
-fn answer_made(image: &[u8], made: Made, command: &[u8; 64]) {
+fn answer_made(host: HostRuntime, image: &[u8], made: Made, command: &[u8; 64]) {
     let refusal = made.refusal;
     if refusal.number != 0 {
-        told::say_not_built(refusal);
+        told::say_not_built(host, refusal);
         return;
     }
-    answer_command(image, fields::part(command, 0, made.count));
+    answer_command(host, image, fields::part(command, 0, made.count));
 }
 
-pub fn answer(image: &[u8]) {
+pub fn answer(host: HostRuntime, image: &[u8]) {
     let mut command = [0u8; 64];
-    let made = packets::build_or_take(COMMAND, &mut command);
-    answer_made(image, made, &command);
+    let made = packets::build_or_take(host, COMMAND, &mut command);
+    answer_made(host, image, made, &command);
 }

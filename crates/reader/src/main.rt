@@ -32,50 +32,50 @@ const SPELL: u16 = 6;
 const SENSE: u16 = 7;
 
 // An image, and a capture that is spelt, may be bytes though text is read.
-fn read(input: &mut [u8]) -> Input {
-    match streams::arg(DONE) {
-        IMAGE => dumps::read_either(HEX, input),
-        SPELL => dumps::read_either(HEX, input),
-        _ => dumps::read(HEX, input),
+fn read(host: HostRuntime, input: &mut [u8]) -> Input {
+    match streams::arg(host, DONE) {
+        IMAGE => dumps::read_either(host, HEX, input),
+        SPELL => dumps::read_either(host, HEX, input),
+        _ => dumps::read(host, HEX, input),
     }
 }
 
-fn tell(s: &[u8]) {
-    match streams::arg(DONE) {
-        0 => printing::list(s),
-        1 => showing::show(s),
-        2 => checking::check(s),
-        3 => mending::mend(s),
-        4 => importing::import(s),
-        IMAGE => imaging::answer(s),
-        SPELL => streams::say(s),
-        SENSE => sensing::say_sense(s),
+fn tell(host: HostRuntime, s: &[u8]) {
+    match streams::arg(host, DONE) {
+        0 => printing::list(host, s),
+        1 => showing::show(host, s),
+        2 => checking::check(host, s),
+        3 => mending::mend(host, s),
+        4 => importing::import(host, s),
+        IMAGE => imaging::answer(host, s),
+        SPELL => streams::say(host, s),
+        SENSE => sensing::say_sense(host, s),
         _ => {}
     }
 }
 
-fn tell_input(input: &mut [u8]) {
-    let got = read(input);
+fn tell_input(host: HostRuntime, input: &mut [u8]) {
+    let got = read(host, input);
     if !got.failed {
-        tell(fields::part(input, 0, got.count));
+        tell(host, fields::part(input, 0, got.count));
     }
-    streams::mark_end();
+    streams::mark_end(host);
 }
 
-fn tell_response() {
+fn tell_response(host: HostRuntime) {
     let mut input = [0u8; ROOM];
-    tell_input(&mut input);
+    tell_input(host, &mut input);
 }
 
-fn tell_sense() {
+fn tell_sense(host: HostRuntime) {
     let mut input = [0u8; sensing::ROOM];
-    tell_input(&mut input);
+    tell_input(host, &mut input);
 }
 
-fn main() {
-    if streams::arg(DONE) == SENSE {
-        tell_sense();
+fn main(host: HostRuntime) {
+    if streams::arg(host, DONE) == SENSE {
+        tell_sense(host);
         return;
     }
-    tell_response();
+    tell_response(host);
 }

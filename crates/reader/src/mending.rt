@@ -1,8 +1,7 @@
 // Writes a captured response to RT 0 from 0 mended to descriptor 5, and says each change in words, or as a line that a program reads: the place, the feature, the byte of its descriptor, the
 // old byte and the new one. A refusal is a line on standard error, and nothing is written then. Argument: whether such lines are printed.
 use super::{HEX, ROOM};
-use libc::{STDERR_FILENO, STDOUT_FILENO};
-use program_io::streams::{say, say_decimal};
+use program_io::streams::{STDERR_FILENO, STDOUT_FILENO, say, say_decimal};
 use program_io::{dumps, streams};
 use program_words::{grounds, words};
 use refusal::Refusal;
@@ -82,59 +81,59 @@ fn is_cue_length(change: Change) -> bool {
 }
 
 // The field that a change is in: the flags, the cue sheet length, or another byte of the body, of which only reserved bits and pads change.
-fn say_field(change: Change) {
+fn say_field(host: HostRuntime, change: Change) {
     if change.byte == 2 {
-        say(b"flags");
+        say(host, b"flags");
         return;
     }
-    say(b"byte ");
-    say_decimal(change.byte as u64);
+    say(host, b"byte ");
+    say_decimal(host, change.byte as u64);
     if is_cue_length(change) {
-        say(b", cue sheet length");
+        say(host, b", cue sheet length");
         return;
     }
-    say(b", reserved bits");
+    say(host, b", reserved bits");
 }
 
-fn say_words(change: Change) {
-    say(b"feature ");
-    words::say_hex4(STDOUT_FILENO, change.feature.0);
-    say(b", ");
-    say_field(change);
-    say(b": ");
-    words::say_byte(STDOUT_FILENO, change.old);
-    say(b"h becomes ");
-    words::say_byte(STDOUT_FILENO, change.new);
-    say(b"h\n");
+fn say_words(host: HostRuntime, change: Change) {
+    say(host, b"feature ");
+    words::say_hex4(host, STDOUT_FILENO, change.feature.0);
+    say(host, b", ");
+    say_field(host, change);
+    say(host, b": ");
+    words::say_byte(host, STDOUT_FILENO, change.old);
+    say(host, b"h becomes ");
+    words::say_byte(host, STDOUT_FILENO, change.new);
+    say(host, b"h\n");
 }
 
 // ---- as lines that a program reads
 
-fn say_line(change: Change) {
-    say_decimal(change.place as u64);
-    say(b" ");
-    words::say_hex4(STDOUT_FILENO, change.feature.0);
-    say(b" ");
-    say_decimal(change.byte as u64);
-    say(b" ");
-    words::say_byte(STDOUT_FILENO, change.old);
-    say(b" ");
-    words::say_byte(STDOUT_FILENO, change.new);
-    say(b"\n");
+fn say_line(host: HostRuntime, change: Change) {
+    say_decimal(host, change.place as u64);
+    say(host, b" ");
+    words::say_hex4(host, STDOUT_FILENO, change.feature.0);
+    say(host, b" ");
+    say_decimal(host, change.byte as u64);
+    say(host, b" ");
+    words::say_byte(host, STDOUT_FILENO, change.old);
+    say(host, b" ");
+    words::say_byte(host, STDOUT_FILENO, change.new);
+    say(host, b"\n");
 }
 
 // ---- both
 
-fn say_change(change: Change) {
-    if streams::given(LIST) {
-        say_line(change);
+fn say_change(host: HostRuntime, change: Change) {
+    if streams::given(host, LIST) {
+        say_line(host, change);
         return;
     }
-    say_words(change);
+    say_words(host, change);
 }
 
 // Their places rise, so that no descriptor is passed twice.
-fn say_changes(s: &[u8], list: &[u32], count: usize) {
+fn say_changes(host: HostRuntime, s: &[u8], list: &[u32], count: usize) {
     let mut at = Header::LENGTH;
     let mut i = 0;
     while i < list.len() {
@@ -143,24 +142,24 @@ fn say_changes(s: &[u8], list: &[u32], count: usize) {
         }
         let noted = list[i];
         at = descriptor_at(s, at, place_in(noted));
-        say_change(change_in(s, at, noted));
+        say_change(host, change_in(s, at, noted));
         i += 1;
     }
 }
 
 // How many changes there are, in words.
-fn say_count(count: usize) {
-    if streams::given(LIST) {
+fn say_count(host: HostRuntime, count: usize) {
+    if streams::given(host, LIST) {
         return;
     }
-    say(b"changes ");
-    say_decimal(count as u64);
-    say(b"\n");
+    say(host, b"changes ");
+    say_decimal(host, count as u64);
+    say(host, b"\n");
 }
 
-fn say_refused(refusal: Refusal, s: &[u8]) {
-    streams::mark_fault();
-    grounds::say_refused(
+fn say_refused(host: HostRuntime, refusal: Refusal, s: &[u8]) {
+    streams::mark_fault(host);
+    grounds::say_refused(host, 
         STDERR_FILENO,
         0,
         Feature(0),
@@ -168,20 +167,20 @@ fn say_refused(refusal: Refusal, s: &[u8]) {
         refusal,
         s,
     );
-    dumps::hint(HEX, s);
+    dumps::hint(host, HEX, s);
 }
 
 // The copy has as much room as the input, so 49 is never given.
-pub fn mend(s: &[u8]) {
+pub fn mend(host: HostRuntime, s: &[u8]) {
     let mut copy = [0u8; ROOM];
     let mut list = [0u32; MOST];
     let mended = mend::mend(s, &mut copy, &mut list);
     let refusal = mended.refusal;
     if refusal.number != 0 {
-        say_refused(refusal, s);
+        say_refused(host, refusal, s);
         return;
     }
-    streams::say_to(COPY, fields::part(&copy, 0, mended.length));
-    say_changes(s, &list, mended.changes);
-    say_count(mended.changes);
+    streams::say_to(host, COPY, fields::part(&copy, 0, mended.length));
+    say_changes(host, s, &list, mended.changes);
+    say_count(host, mended.changes);
 }

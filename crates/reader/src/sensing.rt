@@ -1,6 +1,6 @@
 // Says in words what sense data means. A refusal is a line on standard error; of sense data in the fixed format its key and code are named before it, since any drive may have written it.
 use super::HEX;
-use libc::{STDERR_FILENO, STDOUT_FILENO};
+use program_io::streams::{STDERR_FILENO, STDOUT_FILENO};
 use program_io::{dumps, streams};
 use program_words::{tables, words};
 use refusal::Refusal;
@@ -10,16 +10,16 @@ use sense::{Kind, Sense};
 pub const ROOM: usize = sense::LENGTH + 1;
 
 // What each kind means, a line each.
-fn say_kind(kind: Kind) {
+fn say_kind(host: HostRuntime, kind: Kind) {
     match kind {
-        Kind::Nothing => streams::say(b"NO SENSE: the command was accepted\n"),
-        Kind::Operation => streams::say(
+        Kind::Nothing => streams::say(host, b"NO SENSE: the command was accepted\n"),
+        Kind::Operation => streams::say(host, 
             b"ILLEGAL REQUEST, invalid command operation code: the command has neither 10 nor 12 bytes, or its first byte is not 46h\n",
         ),
-        Kind::Field => streams::say(
+        Kind::Field => streams::say(host, 
             b"ILLEGAL REQUEST, invalid field in CDB, byte 1 bit 1: RT 3 is reserved\n",
         ),
-        Kind::Trouble => streams::say(
+        Kind::Trouble => streams::say(host, 
             b"HARDWARE ERROR, internal target failure: the box's own trouble, a drive sheet or an image that is refused, or a response buffer that is too short\n",
         ),
     }
@@ -28,7 +28,7 @@ fn say_kind(kind: Kind) {
 // ---- sense data that the box does not write: what any drive says by it
 
 // The name of a sense key.
-fn say_key(key: u8) {
+fn say_key(host: HostRuntime, key: u8) {
     let name = tables::text_of(
         b"0 NO SENSE\n\
         1 RECOVERED ERROR\n\
@@ -49,11 +49,11 @@ fn say_key(key: u8) {
         false,
         key as u32,
     );
-    streams::say(name);
+    streams::say(host, name);
 }
 
 // The name of an additional sense code and its qualifier, which are a byte each, of those that a drive gives for a command of this kind.
-fn say_code(code: u16) {
+fn say_code(host: HostRuntime, code: u16) {
     let name = tables::text_of(
         b"0000 no additional sense information\n\
         0400 logical unit not ready, cause not reportable\n\
@@ -88,11 +88,11 @@ fn say_code(code: u16) {
         true,
         code as u32,
     );
-    streams::say(b", additional sense code ");
-    words::say_hex4(STDOUT_FILENO, code);
+    streams::say(host, b", additional sense code ");
+    words::say_hex4(host, STDOUT_FILENO, code);
     if name.len() > 0 {
-        streams::say(b", ");
-        streams::say(name);
+        streams::say(host, b", ");
+        streams::say(host, name);
     }
 }
 
@@ -109,29 +109,29 @@ fn is_fixed(s: &[u8]) -> bool {
 }
 
 // The key and the codes of sense data in the fixed format, whoever wrote it.
-fn say_fixed(s: &[u8]) {
+fn say_fixed(host: HostRuntime, s: &[u8]) {
     if !is_fixed(s) {
         return;
     }
     let key = fields::byte(s, 2) % 16;
-    streams::say(b"sense key ");
-    streams::say_decimal(key as u64);
-    streams::say(b" ");
-    say_key(key);
-    say_code(fields::get2(s, 12));
-    streams::say(b"\n");
+    streams::say(host, b"sense key ");
+    streams::say_decimal(host, key as u64);
+    streams::say(host, b" ");
+    say_key(host, key);
+    say_code(host, fields::get2(s, 12));
+    streams::say(host, b"\n");
 }
 
-fn say_refused(refusal: Refusal, s: &[u8]) {
-    streams::mark_fault();
-    say_fixed(s);
-    words::say_refused(STDERR_FILENO, refusal, 0, 0);
-    dumps::hint(HEX, s);
+fn say_refused(host: HostRuntime, refusal: Refusal, s: &[u8]) {
+    streams::mark_fault(host);
+    say_fixed(host, s);
+    words::say_refused(host, STDERR_FILENO, refusal, 0, 0);
+    dumps::hint(host, HEX, s);
 }
 
-pub fn say_sense(s: &[u8]) {
+pub fn say_sense(host: HostRuntime, s: &[u8]) {
     match sense::read(s) {
-        Sense::Means(kind) => say_kind(kind),
-        Sense::Refused(refusal) => say_refused(refusal, s),
+        Sense::Means(kind) => say_kind(host, kind),
+        Sense::Refused(refusal) => say_refused(host, refusal, s),
     }
 }

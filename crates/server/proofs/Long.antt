@@ -1,9 +1,7 @@
 -- What a function that has memory for the longest sheet, and may call itself, asks for: how long that memory is, and that it calls itself fewer times each time. Apart from
 -- it, since an array of so many bytes is not to be in reach of a search. Assumes nothing.
-use mathlib.Core.Path.{◌≡◌, sym}
-use Prim.Native.Nat.{ℕ, ◌<◌, ◌-◌}
-use native.Mathlib.Omega.{arith}
-use lib.ListN.{length, replicate, length-replicate}
+use Rattle.std.proofs.Common.{◌≡◌, ℕ, ◌<◌, ◌-◌, length, replicate, sym, arith}
+use Rattle.std.proofs.lemmas.List.{length-replicate}
 
 -- An array of n zeros is n long, whatever n is: no look at its elements.
 pub lent : (n : ℕ) → n ≡ length {A = ℕ} (replicate n 0)

@@ -12,29 +12,29 @@ const COMMAND: usize = 8;
 // The argument that says whether hexadecimal text is written.
 const HEX_OUT: usize = 9;
 
-fn answer_command(lay: Layout, sheet: &[u8], command: &[u8]) {
+fn answer_command(host: HostRuntime, lay: Layout, sheet: &[u8], command: &[u8]) {
     let mut response = [0u8; Header::RETURN_LIMIT];
     let reply = program_room::answer_of(lay, sheet, command, &mut response);
     let refusal = reply.refusal;
     if refusal.number != 0 {
-        sheets::say_refused(refusal, lay, sheet);
+        sheets::say_refused(host, refusal, lay, sheet);
         return;
     }
     let count = reply.count;
-    dumps::say(HEX_OUT, &response[..count]);
+    dumps::say(host, HEX_OUT, &response[..count]);
 }
 
-fn answer_made(lay: Layout, sheet: &[u8], made: Made, command: &[u8; 64]) {
+fn answer_made(host: HostRuntime, lay: Layout, sheet: &[u8], made: Made, command: &[u8; 64]) {
     let refusal = made.refusal;
     if refusal.number != 0 {
-        told::say_not_built(refusal);
+        told::say_not_built(host, refusal);
         return;
     }
-    answer_command(lay, sheet, fields::part(command, 0, made.count));
+    answer_command(host, lay, sheet, fields::part(command, 0, made.count));
 }
 
-pub fn answer(lay: Layout, sheet: &[u8]) {
+pub fn answer(host: HostRuntime, lay: Layout, sheet: &[u8]) {
     let mut command = [0u8; 64];
-    let made = packets::build_or_take(COMMAND, &mut command);
-    answer_made(lay, sheet, made, &command);
+    let made = packets::build_or_take(host, COMMAND, &mut command);
+    answer_made(host, lay, sheet, made, &command);
 }

@@ -1,6 +1,6 @@
 // Writes the sheet in the other layout to standard output. A refusal is a line on standard error, and nothing is written then.
 ghost use Rattle.std.specs.Prelude.{◌≡◌, ◌≤◌, length};
-ghost use Rattle.io.specs.Counts.{IsPrefixLen};
+ghost use Rattle.std.specs.Counts.{IsPrefixLen};
 ghost use Rattle.refusal.specs.First.{unless};
 ghost use Rattle.lent.specs.Maker.{outcome, refusing, making};
 ghost use Rattle.layout.specs.Layout.{stored};
@@ -28,13 +28,13 @@ fn other(lay: Layout) -> Layout {
     }
 }
 
-pub fn convert(lay: Layout, sheet: &[u8], out: &mut [u8]) {
+pub fn convert(host: HostRuntime, lay: Layout, sheet: &[u8], out: &mut [u8]) {
     let made = laid_out(other(lay), lay, sheet, out);
     let refusal = made.refusal;
     if refusal.number != 0 {
-        sheets::say_refused(refusal, lay, sheet);
+        sheets::say_refused(host, refusal, lay, sheet);
         return;
     }
     let count = made.count;
-    streams::say(&out[..count]);
+    streams::say(host, &out[..count]);
 }

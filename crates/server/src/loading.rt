@@ -1,7 +1,7 @@
 // Writes the sheet as a medium leaves it, in the layout that it has, to standard output. A refusal is a line on standard error, which names the listed number at fault, and
 // nothing is written then. Arguments: how many features are listed; the features, and then the profiles.
 ghost use Rattle.std.specs.Prelude.{◌≡◌, ◌≤◌, length};
-ghost use Rattle.io.specs.Counts.{IsPrefixLen};
+ghost use Rattle.std.specs.Counts.{IsPrefixLen};
 ghost use Rattle.refusal.specs.First.{unless};
 ghost use Rattle.lent.specs.Maker.{outcome, refusing, making};
 ghost use Rattle.layout.specs.Layout.{stored};
@@ -9,7 +9,7 @@ ghost use Rattle.load.specs.Load.{load_fault, loaded};
 
 use layout::Layout;
 use lent::Made;
-use libc::STDERR_FILENO;
+use program_io::streams::STDERR_FILENO;
 use program_io::streams;
 use program_words::{sheets, words};
 use refusal::Refusal;
@@ -74,91 +74,91 @@ fn lacking(lay: Layout, sheet: &[u8], profile: bool, list: &[u16]) -> usize {
     i
 }
 
-fn say_error(what: &[u8]) {
-    streams::say_to(STDERR_FILENO, what);
+fn say_error(host: HostRuntime, what: &[u8]) {
+    streams::say_to(host, STDERR_FILENO, what);
 }
 
 // Says the number at an index, if there is one.
-fn say_listed(what: &[u8], list: &[u16], i: usize) -> bool {
+fn say_listed(host: HostRuntime, what: &[u8], list: &[u16], i: usize) -> bool {
     if list.len() <= i {
         return false;
     }
-    say_error(what);
-    words::say_hex4(STDERR_FILENO, list[i]);
-    say_error(b"h");
+    say_error(host, what);
+    words::say_hex4(host, STDERR_FILENO, list[i]);
+    say_error(host, b"h");
     true
 }
 
 // The first number at fault, of the features, or else of the profiles: its index in either list.
-fn say_first(features: &[u16], feature: usize, profiles: &[u16], profile: usize) {
-    if say_listed(b" at feature ", features, feature) {
+fn say_first(host: HostRuntime, features: &[u16], feature: usize, profiles: &[u16], profile: usize) {
+    if say_listed(host, b" at feature ", features, feature) {
         return;
     }
-    say_listed(b" at profile ", profiles, profile);
+    say_listed(host, b" at profile ", profiles, profile);
 }
 
-fn say_fault(refusal: Refusal, lay: Layout, sheet: &[u8], features: &[u16], profiles: &[u16]) {
+fn say_fault(host: HostRuntime, refusal: Refusal, lay: Layout, sheet: &[u8], features: &[u16], profiles: &[u16]) {
     if refusal.number == refusal::LIST_ORDER.number {
-        say_first(features, unordered(features), profiles, unordered(profiles));
+        say_first(host, features, unordered(features), profiles, unordered(profiles));
         return;
     }
     let feature = lacking(lay, sheet, false, features);
     let profile = lacking(lay, sheet, true, profiles);
-    say_first(features, feature, profiles, profile);
+    say_first(host, features, feature, profiles, profile);
 }
 
 // A refusal of a list, with the number at fault, or one of the sheet, with its line.
-fn say_refused(refusal: Refusal, lay: Layout, sheet: &[u8], features: &[u16], profiles: &[u16]) {
+fn say_refused(host: HostRuntime, refusal: Refusal, lay: Layout, sheet: &[u8], features: &[u16], profiles: &[u16]) {
     if refusal.number < refusal::LIST_ORDER.number {
-        sheets::say_refused(refusal, lay, sheet);
+        sheets::say_refused(host, refusal, lay, sheet);
         return;
     }
-    streams::mark_fault();
-    say_error(b"refused ");
-    streams::say_decimal_to(STDERR_FILENO, refusal.number as u64);
-    say_fault(refusal, lay, sheet, features, profiles);
-    say_error(b": ");
-    words::say_meaning(STDERR_FILENO, refusal);
-    say_error(b"\n");
+    streams::mark_fault(host);
+    say_error(host, b"refused ");
+    streams::say_decimal_to(host, STDERR_FILENO, refusal.number as u64);
+    say_fault(host, refusal, lay, sheet, features, profiles);
+    say_error(host, b": ");
+    words::say_meaning(host, STDERR_FILENO, refusal);
+    say_error(host, b"\n");
 }
 
 // ---- the lists
 
-fn load_sheet(lay: Layout, sheet: &[u8], features: &[u16], profiles: &[u16], out: &mut [u8]) {
+fn load_sheet(host: HostRuntime, lay: Layout, sheet: &[u8], features: &[u16], profiles: &[u16], out: &mut [u8]) {
     let made = loaded(lay, sheet, features, profiles, out);
     let refusal = made.refusal;
     if refusal.number != 0 {
-        say_refused(refusal, lay, sheet, features, profiles);
+        say_refused(host, refusal, lay, sheet, features, profiles);
         return;
     }
     let count = made.count;
-    streams::say(&out[..count]);
+    streams::say(host, &out[..count]);
 }
 
 // The numbers of both lists, as far as there is room: how many they are.
-fn take_lists(lists: &mut [u16]) -> usize
+fn take_lists(host: HostRuntime, lists: &mut [u16]) -> usize
     ensures { IsPrefixLen result lists.new }
 {
     let mut i = 0;
     while i < lists.len() {
-        if os::arg_count() <= i + FIRST {
+        if !streams::is_there(host, i + FIRST) {
             return i;
         }
-        lists[i] = streams::arg(i + FIRST);
+        lists[i] = streams::arg(host, i + FIRST);
         i += 1;
     }
     i
 }
 
-fn load_listed(lay: Layout, sheet: &[u8], lists: &[u16], out: &mut [u8]) {
-    let features = streams::arg(COUNT) as usize;
+fn load_listed(host: HostRuntime, lay: Layout, sheet: &[u8], lists: &[u16], out: &mut [u8]) {
+    let features = streams::arg(host, COUNT) as usize;
     if lists.len() < features {
         return;
     }
-    load_sheet(lay, sheet, &lists[..features], &lists[features..], out);
+    load_sheet(host, lay, sheet, &lists[..features], &lists[features..], out);
 }
 
-pub fn load(lay: Layout, sheet: &[u8], lists: &mut [u16], out: &mut [u8]) {
-    let listed = take_lists(lists);
-    load_listed(lay, sheet, &lists[..listed], out);
+pub fn load(host: HostRuntime, lay: Layout, sheet: &[u8], lists: &mut [u16], out: &mut [u8]) {
+    let listed = take_lists(host, lists);
+    load_listed(host, lay, sheet, &lists[..listed], out);
 }

@@ -2,8 +2,7 @@
 // commands are told.
 use command::Command;
 use layout::Layout;
-use libc::STDERR_FILENO;
-use program_io::streams::{say, say_decimal};
+use program_io::streams::{STDERR_FILENO, say, say_decimal};
 use program_io::{asked, dumps, packets, streams};
 use program_words::{grounds, sheets, told};
 use sweep::Sweep;
@@ -18,10 +17,10 @@ const RESPONSE: usize = 8;
 // The argument that says whether the commands are told.
 const COMMANDS: usize = 9;
 
-fn say_command(command: &[u8]) {
-    if streams::given(COMMANDS) {
-        say(b"command ");
-        dumps::say_words(command);
+fn say_command(host: HostRuntime, command: &[u8]) {
+    if streams::given(host, COMMANDS) {
+        say(host, b"command ");
+        dumps::say_words(host, command);
     }
 }
 
@@ -52,16 +51,16 @@ fn left_behind(left: usize, end: usize) -> usize {
     left - taken
 }
 
-fn tell_command(asking: Asking, start: Feature) {
+fn tell_command(host: HostRuntime, asking: Asking, start: Feature) {
     let mut command = [0u8; Command::PACKET];
     let made = Command::build(
-        packets::length(packets::LENGTH),
+        packets::length(host, packets::LENGTH),
         asking.rt,
         start,
         asking.a,
         &mut command,
     );
-    say_command(fields::part(&command, 0, made.count));
+    say_command(host, fields::part(&command, 0, made.count));
 }
 
 // What a round is asked for: how many bytes the box sends, and where the sweep has got to behind them.
@@ -97,48 +96,48 @@ fn ask(asking: Asking, sheet: &[u8], start: Feature, place: Place, response: &mu
     }
 }
 
-fn say_round(
+fn say_round(host: HostRuntime, 
     asking: Asking,
     sheet: &[u8],
     start: Feature,
     place: Place,
     response: &mut [u8],
 ) -> Place {
-    tell_command(asking, start);
+    tell_command(host, asking, start);
     let round = ask(asking, sheet, start, place, response);
-    told::say_round(asking.rt, start, fields::part(response, 0, round.count));
+    told::say_round(host, asking.rt, start, fields::part(response, 0, round.count));
     round.place
 }
 
 // A line for each start that was noted.
-fn say_rounds(asking: Asking, sheet: &[u8], starts: &[u16], commands: u32, response: &mut [u8]) {
+fn say_rounds(host: HostRuntime, asking: Asking, sheet: &[u8], starts: &[u16], commands: u32, response: &mut [u8]) {
     let mut place = first_place(asking, sheet);
     let mut i = 0;
     while i < starts.len() {
         if commands as usize <= i {
             return;
         }
-        place = say_round(asking, sheet, Feature(starts[i]), place, response);
+        place = say_round(host, asking, sheet, Feature(starts[i]), place, response);
         i += 1;
     }
 }
 
 // What is promised of the totals.
-fn say_bound(commands: u32, most: usize, collected: usize) {
-    say(b"bound: (");
-    say_decimal(commands as u64);
-    say(b" - 1) * (");
-    say_decimal(most as u64);
-    say(b" - 8) < 2 * ");
-    say_decimal(collected as u64);
-    say(b"\n");
+fn say_bound(host: HostRuntime, commands: u32, most: usize, collected: usize) {
+    say(host, b"bound: (");
+    say_decimal(host, commands as u64);
+    say(host, b" - 1) * (");
+    say_decimal(host, most as u64);
+    say(host, b" - 8) < 2 * ");
+    say_decimal(host, collected as u64);
+    say(host, b"\n");
 }
 
 // And that no list of starts receives all that was collected in fewer commands.
-fn say_fewest(commands: u32) {
-    say(b"no list of starts takes fewer than ");
-    say_decimal(commands as u64);
-    say(b"\n");
+fn say_fewest(host: HostRuntime, commands: u32) {
+    say(host, b"no list of starts takes fewer than ");
+    say_decimal(host, commands as u64);
+    say(host, b"\n");
 }
 
 // A sweep on its way to the round that is refused, and whether that was said.
@@ -150,7 +149,7 @@ struct Way {
 }
 
 // One round more of it: where it is refused, the number with the byte and the feature of the descriptor that the command has no room for.
-fn walk_on(
+fn walk_on(host: HostRuntime, 
     asking: Asking,
     sheet: &[u8],
     way: Way,
@@ -165,7 +164,7 @@ fn walk_on(
     let step = sweep.take(got, collected);
     let refusal = step.refusal;
     if refusal.number != 0 {
-        grounds::say_refused(
+        grounds::say_refused(host, 
             STDERR_FILENO,
             asking.rt,
             start,
@@ -184,7 +183,7 @@ fn walk_on(
 }
 
 // Says where a sweep is refused by 23: the box is asked again, up to that round.
-fn say_cut(asking: Asking, sheet: &[u8], response: &mut [u8], collected: &mut [u8]) {
+fn say_cut(host: HostRuntime, asking: Asking, sheet: &[u8], response: &mut [u8], collected: &mut [u8]) {
     let begun = Sweep::start(asking.rt, asking.a);
     let sweep = begun.sweep;
     let mut way = Way {
@@ -197,20 +196,20 @@ fn say_cut(asking: Asking, sheet: &[u8], response: &mut [u8], collected: &mut [u
         if way.said {
             return;
         }
-        way = walk_on(asking, sheet, way, response, collected);
+        way = walk_on(host, asking, sheet, way, response, collected);
         i += 1;
     }
 }
 
-fn sweep_into(
+fn sweep_into(host: HostRuntime, 
     lay: Layout,
     sheet: &[u8],
     response: &mut [u8],
     collected: &mut [u8],
     starts: &mut [u16],
 ) {
-    let rt = asked::rt();
-    let a = streams::arg(3);
+    let rt = asked::rt(host);
+    let a = streams::arg(host, 3);
     let asking = Asking {
         lay: lay,
         rt: rt,
@@ -219,25 +218,25 @@ fn sweep_into(
     let benched = bench::bench(lay, sheet, rt, a, response, collected, starts);
     let refusal = benched.refusal;
     if refusal.number == refusal::NONE_WHOLE.number {
-        streams::mark_fault();
-        say_cut(asking, sheet, response, collected);
+        streams::mark_fault(host);
+        say_cut(host, asking, sheet, response, collected);
         return;
     }
     if refusal.number != 0 {
-        sheets::say_refused(refusal, lay, sheet);
+        sheets::say_refused(host, refusal, lay, sheet);
         return;
     }
     let profile = Profile(fields::get2(response, 6));
-    say_rounds(asking, sheet, starts, benched.commands, response);
-    told::say_totals(benched.commands, benched.collected);
-    say_bound(benched.commands, text::most(a), benched.collected);
-    say_fewest(benched.commands);
-    if streams::given(RESPONSE) {
-        told::put_response(profile, fields::part(collected, 0, benched.collected));
+    say_rounds(host, asking, sheet, starts, benched.commands, response);
+    told::say_totals(host, benched.commands, benched.collected);
+    say_bound(host, benched.commands, text::most(a), benched.collected);
+    say_fewest(host, benched.commands);
+    if streams::given(host, RESPONSE) {
+        told::put_response(host, profile, fields::part(collected, 0, benched.collected));
     }
 }
 
-pub fn sweep(lay: Layout, sheet: &[u8], collected: &mut [u8], starts: &mut [u16]) {
+pub fn sweep(host: HostRuntime, lay: Layout, sheet: &[u8], collected: &mut [u8], starts: &mut [u16]) {
     let mut response = [0u8; Header::RETURN_LIMIT];
-    sweep_into(lay, sheet, &mut response, collected, starts);
+    sweep_into(host, lay, sheet, &mut response, collected, starts);
 }

@@ -2,27 +2,32 @@
 // else over the exported functions.
 #![tactic(auto)]
 ghost use Rattle.std.specs.Prelude.{◌≡◌};
+ghost use Rattle.std.specs.Counts.{IsPrefixLen};
 ghost use Rattle.sweep.specs.Sweep.{turn, stepped};
 
-use libc::{STDIN_FILENO, STDOUT_FILENO};
+use std::io::{Print, Read};
 use program_words::tables;
 use sweep::{Step, Sweep};
 use text::{Feature, Profile};
 
 // ---- what is said
 
-fn say(what: &[u8]) {
-    io::write_all(STDOUT_FILENO, what);
+fn say(host: HostRuntime, what: &[u8]) {
+    let _ = Print::write_all(&host.stdout(), what);
+}
+
+fn say_decimal(host: HostRuntime, n: u64) {
+    let _ = host.print(n);
 }
 
 // The title of a case, and whether it is right.
-fn say_case(title: &[u8], right: bool) {
-    say(title);
+fn say_case(host: HostRuntime, title: &[u8], right: bool) {
+    say(host, title);
     if right {
-        say(b"| ok\n");
+        say(host, b"| ok\n");
         return;
     }
-    say(b"| WRONG\n");
+    say(host, b"| WRONG\n");
 }
 
 // How many bytes of a, from the first on, are those of b.
@@ -158,7 +163,7 @@ fn behind(line: &[u8]) -> &[u8] {
 }
 
 // Runs a line: title, record, response, number and record, buffer.
-fn right_case(line: &[u8]) -> bool {
+fn right_case(host: HostRuntime, line: &[u8]) -> bool {
     let mut before = [0u8; 14];
     let mut response = [0u8; 64];
     let mut after = [0u8; 15];
@@ -179,7 +184,7 @@ fn right_case(line: &[u8]) -> bool {
         fields::part(&want, 0, length),
         &mut memory,
     );
-    say_case(title, right);
+    say_case(host, title, right);
     right
 }
 
@@ -190,11 +195,11 @@ fn is_case(line: &[u8]) -> bool {
     fields::byte(line, 0) != b'#'
 }
 
-fn right_line(line: &[u8]) -> bool {
+fn right_line(host: HostRuntime, line: &[u8]) -> bool {
     if !is_case(line) {
         return false;
     }
-    right_case(line)
+    right_case(host, line)
 }
 
 // One more, if it counts.
@@ -209,24 +214,39 @@ fn more(n: u64, counts: bool) -> u64 {
 }
 
 // Runs every line, and says how many of how many cases are right.
-fn lines(s: &[u8]) {
+fn lines(host: HostRuntime, s: &[u8]) {
     let mut cases: u64 = 0;
     let mut right: u64 = 0;
     let mut at = 0;
     while at < s.len() {
         let line = tables::line_at(s, at);
         cases = more(cases, is_case(line));
-        right = more(right, right_line(line));
+        right = more(right, right_line(host, line));
         at = at + line.len() + 1;
     }
-    io::print_decimal(STDOUT_FILENO, right);
-    say(b" of ");
-    io::print_decimal(STDOUT_FILENO, cases);
-    say(b" lines ok\n");
+    say_decimal(host, right);
+    say(host, b" of ");
+    say_decimal(host, cases);
+    say(host, b" lines ok\n");
 }
 
-fn main() {
+// Reads standard input until the buffer is full, the input ends or a read fails.
+fn read_full(host: HostRuntime, buf: &mut [u8]) -> usize
+    ensures { IsPrefixLen result buf.new }
+{
+    let mut done = 0;
+    while done < buf.len() {
+        match host.stdin().read(&mut buf[done..]) {
+            Ok(0) => break,
+            Ok(more) => done += more,
+            Err(_) => break,
+        }
+    }
+    done
+}
+
+fn main(host: HostRuntime) {
     let mut input = [0u8; 8192];
-    let received = io::read_full(STDIN_FILENO, &mut input);
-    lines(&input[..received]);
+    let received = read_full(host, &mut input);
+    lines(host, &input[..received]);
 }

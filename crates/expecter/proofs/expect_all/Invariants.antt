@@ -1,0 +1,6 @@
+-- `expecter::expect_all` is safe and ends: the index rises to the count. Assumes nothing.
+use Rattle.std.proofs.Common.{◌-◌}
+use Rattle.expecter.proofs.expect_all.Given as goal
+
+abbrev pub decreases-loop-i : goal.decreases-loop-i
+decreases-loop-i l = l.count - l.i

@@ -1,0 +1,6 @@
+-- `program_io::dumps::say_words` is safe and ends: each turn moves the place on. Assumes nothing.
+use Rattle.std.proofs.Common.{◌-◌, length}
+use Rattle.program_io.proofs.dumps.say_words.Given as goal
+
+abbrev pub decreases-loop-i : goal.decreases-loop-i
+decreases-loop-i l = length l.bytes - l.i

@@ -1,0 +1,6 @@
+-- `program_words::tables::until` is safe and ends: the index rises to the length.
+use Rattle.std.proofs.Common.{◌-◌, length}
+use Rattle.program_words.proofs.tables.until.Given as goal
+
+abbrev pub decreases-loop-i : goal.decreases-loop-i
+decreases-loop-i l = length l.s - l.i
