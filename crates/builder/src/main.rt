@@ -1,6 +1,7 @@
 // Writes the command that the arguments ask for to standard output: RT, starting feature number, allocation length, how many bytes it has (`packets`), and whether hexadecimal
 // text is written, a word for each byte. A refusal is a line on standard error, and nothing is written then.
 #![tactic(auto)]
+
 use command::Command;
 use lent::Made;
 use program_io::{dumps, packets, streams};

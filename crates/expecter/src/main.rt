@@ -2,6 +2,7 @@
 // starts at 0 starts a sweep, any other goes on with the one before it. Arguments: how many exchanges there are, and whether there is no room for what a sweep collects and for a
 // sheet. Standard input has them (`exchanges`).
 #![tactic(auto)]
+
 use command::Command;
 use lent::Made;
 use needs::Judgement;
@@ -197,7 +198,8 @@ fn expect(host: HostRuntime, now: Sweep, c: Command, response: &[u8]) -> Sweep {
 }
 
 // An exchange that was read: so many bytes of each buffer.
-fn expect_read(host: HostRuntime, 
+fn expect_read(
+    host: HostRuntime,
     now: Sweep,
     read: Exchange,
     command: &[u8; exchanges::COMMAND],

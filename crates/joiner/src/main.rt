@@ -6,6 +6,7 @@
 // That no response is left out is told by Data Length, which counts all that a drive has from the start on, however much of it is sent: of the responses of one
 // drive each has that of the first less the bytes collected before it (`crates/demands/proofs/Following.antt`), and the first has feature 0.
 #![tactic(auto)]
+
 use program_io::streams::{STDERR_FILENO, STDOUT_FILENO, say};
 use program_io::{asked, dumps, streams};
 use program_words::{grounds, told, words};
@@ -62,7 +63,8 @@ fn say_name(host: HostRuntime, shown: usize) {
 
 fn say_refused(host: HostRuntime, shown: usize, sweep: Sweep, refusal: Refusal, response: &[u8]) {
     say_name(host, shown);
-    grounds::say_refused(host, 
+    grounds::say_refused(
+        host,
         STDERR_FILENO,
         sweep.rt,
         sweep.next,
@@ -76,7 +78,8 @@ fn say_refused(host: HostRuntime, shown: usize, sweep: Sweep, refusal: Refusal, 
 fn say_open(host: HostRuntime, sweep: Sweep) {
     streams::mark_fault(host);
     let next = sweep.next;
-    streams::say_to(host, 
+    streams::say_to(
+        host,
         STDERR_FILENO,
         b"the sweep has not ended: the response to a command from feature ",
     );
@@ -86,7 +89,8 @@ fn say_open(host: HostRuntime, sweep: Sweep) {
 
 fn say_no_first(host: HostRuntime, shown: usize) {
     say_name(host, shown);
-    streams::say_to(host, 
+    streams::say_to(
+        host,
         STDERR_FILENO,
         b"no response to the first command of a sweep: that one has feature 0\n",
     );
@@ -95,9 +99,14 @@ fn say_no_first(host: HostRuntime, shown: usize) {
 fn say_no_next(host: HostRuntime, shown: usize, stated: u32, sweep: Sweep) {
     let next = sweep.next;
     say_name(host, shown);
-    streams::say_to(host, STDERR_FILENO, b"no response to a command from feature ");
+    streams::say_to(
+        host,
+        STDERR_FILENO,
+        b"no response to a command from feature ",
+    );
     words::say_hex4(host, STDERR_FILENO, next.0);
-    streams::say_to(host, 
+    streams::say_to(
+        host,
         STDERR_FILENO,
         b" on, or of another drive: its Data Length is ",
     );
@@ -135,7 +144,13 @@ fn has_zero(after: Sweep, response: &[u8]) -> bool {
 }
 
 // Takes a response that was in a file.
-fn take_file(host: HostRuntime, shown: usize, sweep: Sweep, response: &[u8], collected: &mut [u8]) -> Joined {
+fn take_file(
+    host: HostRuntime,
+    shown: usize,
+    sweep: Sweep,
+    response: &[u8],
+    collected: &mut [u8],
+) -> Joined {
     let step = sweep.take(response, collected);
     let fault = step.refusal;
     if fault.number != 0 {
@@ -167,7 +182,8 @@ fn take_first(host: HostRuntime, sweep: Sweep, response: &[u8], collected: &mut 
 }
 
 // Takes one behind it, where the first had this Data Length.
-fn take_next(host: HostRuntime, 
+fn take_next(
+    host: HostRuntime,
     first: u32,
     shown: usize,
     sweep: Sweep,
@@ -189,7 +205,13 @@ fn take_next(host: HostRuntime,
 }
 
 // Takes the files behind the first, one after the other.
-fn take_files(host: HostRuntime, first: u32, begun: Joined, input: &mut [u8], collected: &mut [u8]) -> Joined {
+fn take_files(
+    host: HostRuntime,
+    first: u32,
+    begun: Joined,
+    input: &mut [u8],
+    collected: &mut [u8],
+) -> Joined {
     let pairs = streams::arg_count(host) / 2;
     let mut now = begun;
     let mut k = SECOND;
@@ -201,7 +223,8 @@ fn take_files(host: HostRuntime, first: u32, begun: Joined, input: &mut [u8], co
         if got.failed {
             return failed(now.sweep);
         }
-        now = take_next(host, 
+        now = take_next(
+            host,
             first,
             2 * k + 1,
             now.sweep,

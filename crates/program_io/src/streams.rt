@@ -1,4 +1,6 @@
-// What every program does at its ends: it takes its arguments, reads its input, writes its output, and says how it went to the front-end that started it.
+// What every program does at its ends: it takes its arguments, reads its input, writes its output, and says how it went to the front-end that started it. What reaches
+// the system is handed `host`, the runtime that main is given: itself, since of the bounds that stand for its parts none writes bytes to standard error, and a name of a file
+// may be any bytes.
 ghost use Rattle.std.specs.Prelude.{◌≡◌};
 ghost use Rattle.std.specs.Counts.{IsPrefixLen};
 
@@ -16,29 +18,43 @@ pub const STDERR_FILENO: i32 = 2;
 // The descriptor that the front-end reads the marks from.
 const MARKS: i32 = 3;
 
-// The descriptor that a response goes to: the front-end has opened a file there.
-pub const RESPONSE: i32 = 5;
-
-// The name by which a descriptor that the front-end has opened is opened once more; any other has none.
+// The name by which a descriptor that the front-end has opened is opened once more, that of the marks or of a response; any other has none.
 fn name_of(fd: i32) -> &'static str {
     match fd {
         MARKS => "/dev/fd/3",
-        RESPONSE => "/dev/fd/5",
+        5 => "/dev/fd/5",
         _ => "",
     }
 }
 
-// Writes behind all that was written there before: what is opened once more begins at its start.
-fn append(host: HostRuntime, name: &str, what: &[u8]) -> io::Result<()> {
-    let mut file = OpenOptions::new().append(true).open(&host, name)?;
+// Opens such a descriptor once more, to write behind all that was written there before.
+fn opened(host: HostRuntime, fd: i32) -> io::Result<File> {
+    OpenOptions::new().append(true).open(&host, name_of(fd))
+}
+
+fn append(host: HostRuntime, fd: i32, what: &[u8]) -> io::Result<()> {
+    let mut file = opened(host, fd)?;
     file.write_all(what)
+}
+
+fn append_decimal(host: HostRuntime, fd: i32, n: u64) -> io::Result<()> {
+    let mut file = opened(host, fd)?;
+    write!(file, "{n}")
 }
 
 fn write_all(host: HostRuntime, fd: i32, what: &[u8]) -> io::Result<()> {
     match fd {
         STDOUT_FILENO => Print::write_all(&host.stdout(), what),
         STDERR_FILENO => Print::write_all(&host.stderr(), what),
-        _ => append(host, name_of(fd), what),
+        _ => append(host, fd, what),
+    }
+}
+
+fn print_decimal(host: HostRuntime, fd: i32, n: u64) -> io::Result<()> {
+    match fd {
+        STDOUT_FILENO => host.stdout().print(n),
+        STDERR_FILENO => host.stderr().print(n),
+        _ => append_decimal(host, fd, n),
     }
 }
 
@@ -158,26 +174,11 @@ pub fn say_to(host: HostRuntime, fd: i32, what: &[u8]) {
     }
 }
 
-// Puts the decimal digits of a number at the end of the text, and gives where they start.
-fn put_decimal(n: u64, text: &mut [u8; DIGITS]) -> usize {
-    let mut rest = n;
-    let mut at = DIGITS;
-    while at > 0 {
-        at -= 1;
-        text[at] = b'0' + (rest % 10) as u8;
-        rest /= 10;
-        if rest == 0 {
-            break;
-        }
-    }
-    at
-}
-
 // Writes a number to a descriptor, as say_to does.
 pub fn say_decimal_to(host: HostRuntime, fd: i32, n: u64) {
-    let mut text = [0u8; DIGITS];
-    let at = put_decimal(n, &mut text);
-    say_to(host, fd, fields::part(&text, at, DIGITS));
+    if let Err(why) = print_decimal(host, fd, n) {
+        mark_unwritten(host, why.kind());
+    }
 }
 
 // Writes an argument to a descriptor.
@@ -198,10 +199,8 @@ pub fn say_decimal(host: HostRuntime, n: u64) {
 
 // ---- arguments
 
-// The longest argument that is taken, and the most digits that a number has.
+// The longest argument that is taken.
 const NAME: usize = 4096;
-
-const DIGITS: usize = 20;
 
 // Puts an argument at the front, and gives its length; 0 where it is not there, or has more bytes than there is room for.
 fn word(host: HostRuntime, i: usize, buf: &mut [u8]) -> usize

@@ -1,5 +1,6 @@
 // What a program has memory for, whole: an answer, the sheet of a capture, a listing. Each is as long as it can be, so that no number for a short buffer is ever given.
 #![tactic(auto)]
+
 ghost use Rattle.std.specs.Prelude.{◌≡◌, take};
 ghost use Rattle.std.specs.Counts.{IsPrefixLen};
 ghost use Rattle.refusal.specs.First.{unless, ◌or_else◌};

@@ -187,19 +187,32 @@ fn say_fault(host: HostRuntime, json: bool, field: Field, descriptor: &[u8], cle
         return;
     }
     if field.bytes == 3 {
-        say_either(host, 
+        say_either(
+            host,
             json,
             b",\"fault\":37",
             b", which the check finds without SAO",
         );
         return;
     }
-    say_either(host, json, b",\"fault\":36", b", which the check finds reserved");
+    say_either(
+        host,
+        json,
+        b",\"fault\":36",
+        b", which the check finds reserved",
+    );
 }
 
 // ---- the fields of a feature
 
-fn say_field(host: HostRuntime, json: bool, name: &[u8], field: Field, descriptor: &[u8], clean: &[u8]) {
+fn say_field(
+    host: HostRuntime,
+    json: bool,
+    name: &[u8],
+    field: Field,
+    descriptor: &[u8],
+    clean: &[u8],
+) {
     say_either(host, json, b"{\"name\":\"", b"    ");
     say(host, name);
     say_either(host, json, b"\",\"value\":", b": ");
@@ -215,7 +228,14 @@ fn is_there(field: Field, descriptor: &[u8]) -> bool {
 }
 
 // Says a field of the table, if it is there, and whether one has been said by now.
-fn say_next(host: HostRuntime, json: bool, said: bool, text: &[u8], descriptor: &[u8], clean: &[u8]) -> bool {
+fn say_next(
+    host: HostRuntime,
+    json: bool,
+    said: bool,
+    text: &[u8],
+    descriptor: &[u8],
+    clean: &[u8],
+) -> bool {
     let field = field_of(text);
     if !is_there(field, descriptor) {
         return said;
@@ -240,7 +260,13 @@ fn say_listed(host: HostRuntime, line: &[u8], json: bool, descriptor: &[u8], cle
 }
 
 // Says the fields of a feature's descriptor, of which `clean` is a copy that the mender has been over, and whether there is one.
-pub fn say_fields(host: HostRuntime, json: bool, number: u16, descriptor: &[u8], clean: &[u8]) -> bool {
+pub fn say_fields(
+    host: HostRuntime,
+    json: bool,
+    number: u16,
+    descriptor: &[u8],
+    clean: &[u8],
+) -> bool {
     let line = tables::text_of(
         b"0001 04 4 01 00 1 Physical Interface Standard; 08 1 02 02 0 INQ2; 08 1 01 02 0 DBE\n\
         0002 04 1 02 02 0 OCEvent; 04 1 01 02 0 Async\n\

@@ -1,7 +1,7 @@
 // Forms: what is said of numbers, in words or as JSON, each a text.
 use super::{tables, words};
-use program_io::streams::{STDOUT_FILENO, say};
 use program_io::streams;
+use program_io::streams::{STDOUT_FILENO, say};
 
 // Says one of two texts.
 pub fn say_either(host: HostRuntime, json: bool, value: &[u8], words: &[u8]) {

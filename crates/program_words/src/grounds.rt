@@ -14,7 +14,8 @@ fn say(host: HostRuntime, fd: i32, what: &[u8]) {
 
 // More bytes than the command let through, though Data Length has them all.
 fn say_over(host: HostRuntime, fd: i32, most: usize) {
-    say(host, 
+    say(
+        host,
         fd,
         b"more bytes were received than the command let through, ",
     );
@@ -80,7 +81,15 @@ fn say_order(host: HostRuntime, fd: i32, rt: u8, start: Feature, stop: Stop) {
 // ---- the words
 
 // Says what a refusal of a response means.
-pub fn say_meaning(host: HostRuntime, fd: i32, rt: u8, start: Feature, most: usize, refusal: Refusal, s: &[u8]) {
+pub fn say_meaning(
+    host: HostRuntime,
+    fd: i32,
+    rt: u8,
+    start: Feature,
+    most: usize,
+    refusal: Refusal,
+    s: &[u8],
+) {
     let number = refusal.number;
     match number {
         16 => say_too_long(host, fd, most, s),
@@ -123,7 +132,15 @@ fn say_place(host: HostRuntime, fd: i32, stop: Stop, received: usize) {
 }
 
 // Says the number of a refusal, where it stands, and what it means.
-fn say_found(host: HostRuntime, fd: i32, rt: u8, start: Feature, most: usize, refusal: Refusal, s: &[u8]) {
+fn say_found(
+    host: HostRuntime,
+    fd: i32,
+    rt: u8,
+    start: Feature,
+    most: usize,
+    refusal: Refusal,
+    s: &[u8],
+) {
     streams::say_decimal_to(host, fd, refusal.number as u64);
     if has_place(refusal.number) {
         say_place(host, fd, reading::stops(most, rt, start, s), s.len());
@@ -134,13 +151,29 @@ fn say_found(host: HostRuntime, fd: i32, rt: u8, start: Feature, most: usize, re
 }
 
 // The same behind `refused`.
-pub fn say_refused(host: HostRuntime, fd: i32, rt: u8, start: Feature, most: usize, refusal: Refusal, s: &[u8]) {
+pub fn say_refused(
+    host: HostRuntime,
+    fd: i32,
+    rt: u8,
+    start: Feature,
+    most: usize,
+    refusal: Refusal,
+    s: &[u8],
+) {
     say(host, fd, b"refused ");
     say_found(host, fd, rt, start, most, refusal, s);
 }
 
 // The same of a refusal that stands at a place, and nothing of any other.
-pub fn say_placed(host: HostRuntime, fd: i32, rt: u8, start: Feature, most: usize, refusal: Refusal, s: &[u8]) {
+pub fn say_placed(
+    host: HostRuntime,
+    fd: i32,
+    rt: u8,
+    start: Feature,
+    most: usize,
+    refusal: Refusal,
+    s: &[u8],
+) {
     if has_place(refusal.number) {
         say_found(host, fd, rt, start, most, refusal, s);
     }

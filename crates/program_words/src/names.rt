@@ -20,7 +20,8 @@ pub fn say_feature(host: HostRuntime, number: u16) {
         say(host, b"Vendor Unique");
         return;
     }
-    say_named(host, 
+    say_named(
+        host,
         b"0000 Profile List\n\
         0001 Core\n\
         0002 Morphing\n\
@@ -89,7 +90,8 @@ pub fn say_feature(host: HostRuntime, number: u16) {
 
 // Profiles: those of document 000, Table 9, and those that the published MMC has added.
 pub fn say_profile(host: HostRuntime, number: u16) {
-    say_named(host, 
+    say_named(
+        host,
         b"0000 none\n\
         0001 Non-removable disk\n\
         0002 Removable disk\n\
@@ -133,7 +135,8 @@ pub fn say_profile(host: HostRuntime, number: u16) {
 
 // Physical Interface Standard: document 000, Table 11, and the published MMC's from 4 on.
 pub fn say_physical(host: HostRuntime, value: u32) {
-    say_named(host, 
+    say_named(
+        host,
         b"0 Unspecified\n\
         1 SCSI Family\n\
         2 ATAPI\n\
@@ -151,7 +154,8 @@ pub fn say_physical(host: HostRuntime, value: u32) {
 
 // Loading Mechanism: document 000, Table 15.
 pub fn say_loading(host: HostRuntime, value: u32) {
-    say_named(host, 
+    say_named(
+        host,
         b"0 Caddy/Slot\n\
         1 Tray\n\
         2 Pop-up\n\

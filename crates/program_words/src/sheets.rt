@@ -1,8 +1,8 @@
 // What the programs that read a drive sheet say of it: how it is laid out, why it is refused, with the line that the refusal names, and what it may be instead.
 use super::words;
 use layout::Layout;
-use program_io::streams::STDERR_FILENO;
 use program_io::streams;
+use program_io::streams::STDERR_FILENO;
 use refusal::Refusal;
 
 // ---- how long it may be
@@ -53,7 +53,8 @@ fn is_accepted(lay: Layout, s: &[u8]) -> bool {
 // Of a sheet in rows that is refused.
 fn hint_rows(host: HostRuntime, s: &[u8]) {
     if is_accepted(Layout::Columns, s) {
-        say(host, 
+        say(
+            host,
             b"what was read is a drive sheet in columns: --columns takes one, and gcf rows makes rows of it\n",
         );
     }
@@ -62,7 +63,8 @@ fn hint_rows(host: HostRuntime, s: &[u8]) {
 // Of one in columns.
 fn hint_columns(host: HostRuntime, s: &[u8]) {
     if is_accepted(Layout::Rows, s) {
-        say(host, 
+        say(
+            host,
             b"what was read is a drive sheet in rows: it is taken without --columns, and gcf columns makes columns of it\n",
         );
     }
@@ -81,7 +83,10 @@ fn hint(host: HostRuntime, lay: Layout, s: &[u8]) {
         return;
     }
     if is_response(s) {
-        say(host, b"what was read looks like a response: gcf import makes a drive sheet of one\n");
+        say(
+            host,
+            b"what was read looks like a response: gcf import makes a drive sheet of one\n",
+        );
         return;
     }
     hint_layout(host, lay, s);

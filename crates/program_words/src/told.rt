@@ -1,9 +1,12 @@
 // What the programs tell of a sweep and of a capture: a line a round, the totals, the collected descriptors as one response, the line that a refusal names.
 use super::{grounds, words};
-use program_io::streams::{RESPONSE, STDERR_FILENO, STDOUT_FILENO, say, say_decimal};
 use program_io::streams;
+use program_io::streams::{STDERR_FILENO, STDOUT_FILENO, say, say_decimal};
 use refusal::Refusal;
 use text::{Feature, Header, Profile};
+
+// The descriptor that a response goes to: the front-end has opened a file there.
+const RESPONSE: i32 = 5;
 
 // A round: the start of its command, the bytes that came, and what a reading of them gives.
 pub fn say_round(host: HostRuntime, rt: u8, start: Feature, response: &[u8]) {
@@ -32,7 +35,8 @@ pub fn say_totals(host: HostRuntime, commands: u32, collected: usize) {
 
 fn say_too_many(host: HostRuntime) {
     streams::mark_fault(host);
-    streams::say_to(host, 
+    streams::say_to(
+        host,
         STDERR_FILENO,
         b"the collected descriptors and a header are over 65,534 bytes, more than a response may have: no response is written\n",
     );
@@ -73,7 +77,8 @@ fn feature_of(response: &[u8], entry: u16) -> Feature {
 pub fn say_capture_refused(host: HostRuntime, refusal: Refusal, response: &[u8]) {
     streams::mark_fault(host);
     if refusal.place == 0 {
-        grounds::say_refused(host, 
+        grounds::say_refused(
+            host,
             STDERR_FILENO,
             0,
             Feature(0),

@@ -53,7 +53,14 @@ fn has_bit(number: u8) -> bool {
 }
 
 // A fault of the feature whose descriptor stands at a place, or would stand there.
-fn say_fault(host: HostRuntime, refusal: Refusal, feature: Feature, s: &[u8], clean: &[u8], at: usize) {
+fn say_fault(
+    host: HostRuntime,
+    refusal: Refusal,
+    feature: Feature,
+    s: &[u8],
+    clean: &[u8],
+    at: usize,
+) {
     streams::mark_fault(host);
     say(host, b"descriptors: ");
     streams::say_decimal(host, refusal.number as u64);
@@ -64,7 +71,8 @@ fn say_fault(host: HostRuntime, refusal: Refusal, feature: Feature, s: &[u8], cl
     say(host, b": ");
     words::say_meaning(host, STDOUT_FILENO, refusal);
     if has_bit(refusal.number) {
-        say_bit(host, 
+        say_bit(
+            host,
             fields::part(s, at, s.len()),
             fields::part(clean, at, s.len()),
         );
@@ -75,7 +83,8 @@ fn say_fault(host: HostRuntime, refusal: Refusal, feature: Feature, s: &[u8], cl
 // The first fault.
 fn say_first(host: HostRuntime, finding: Finding, s: &[u8], clean: &[u8]) {
     let feature = finding.feature;
-    say_fault(host, 
+    say_fault(
+        host,
         finding.refusal,
         feature,
         s,
@@ -91,7 +100,8 @@ fn reports(feature: Feature, s: &[u8]) -> bool {
 // 30 of a feature that every response has to report.
 fn say_if_missing(host: HostRuntime, feature: Feature, s: &[u8], clean: &[u8]) {
     if !reports(feature, s) {
-        say_fault(host, 
+        say_fault(
+            host,
             refusal::CORE_MISSING,
             feature,
             s,

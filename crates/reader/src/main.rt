@@ -2,6 +2,7 @@
 // that it spells are written. Arguments: what is asked (`asked`), and how many bytes a command has (`packets`); whether hexadecimal text is read; whether padding is trimmed; what is done;
 // and what that takes beyond, from the eighth on. With none the response is listed.
 #![tactic(auto)]
+
 mod checking;
 mod imaging;
 mod importing;

@@ -159,7 +159,8 @@ fn say_count(host: HostRuntime, count: usize) {
 
 fn say_refused(host: HostRuntime, refusal: Refusal, s: &[u8]) {
     streams::mark_fault(host);
-    grounds::say_refused(host, 
+    grounds::say_refused(
+        host,
         STDERR_FILENO,
         0,
         Feature(0),

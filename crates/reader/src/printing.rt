@@ -7,7 +7,8 @@ use program_words::grounds;
 // What is said on standard error of a response that is refused: where it is at fault, and what it may be.
 fn say_more(host: HostRuntime, s: &[u8]) {
     streams::mark_fault(host);
-    grounds::say_placed(host, 
+    grounds::say_placed(
+        host,
         STDERR_FILENO,
         asked::rt(host),
         asked::from(host),

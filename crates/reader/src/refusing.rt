@@ -7,7 +7,8 @@ use refusal::Refusal;
 
 // Of one that is read as the answer to the command that is asked for: to standard output.
 pub fn say_asked(host: HostRuntime, fault: Refusal, s: &[u8]) {
-    grounds::say_refused(host, 
+    grounds::say_refused(
+        host,
         STDOUT_FILENO,
         asked::rt(host),
         asked::from(host),

@@ -13,13 +13,16 @@ pub const ROOM: usize = sense::LENGTH + 1;
 fn say_kind(host: HostRuntime, kind: Kind) {
     match kind {
         Kind::Nothing => streams::say(host, b"NO SENSE: the command was accepted\n"),
-        Kind::Operation => streams::say(host, 
+        Kind::Operation => streams::say(
+            host,
             b"ILLEGAL REQUEST, invalid command operation code: the command has neither 10 nor 12 bytes, or its first byte is not 46h\n",
         ),
-        Kind::Field => streams::say(host, 
+        Kind::Field => streams::say(
+            host,
             b"ILLEGAL REQUEST, invalid field in CDB, byte 1 bit 1: RT 3 is reserved\n",
         ),
-        Kind::Trouble => streams::say(host, 
+        Kind::Trouble => streams::say(
+            host,
             b"HARDWARE ERROR, internal target failure: the box's own trouble, a drive sheet or an image that is refused, or a response buffer that is too short\n",
         ),
     }

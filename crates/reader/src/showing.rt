@@ -28,7 +28,8 @@ fn say_comma(host: HostRuntime, json: bool, later: bool) {
 // ---- a descriptor
 
 fn say_head(host: HostRuntime, json: bool, number: u16, flags: Flags, length: u8) {
-    forms::fill(host, 
+    forms::fill(
+        host,
         json,
         b"{\"feature\":%d,\"name\":\"%f\",\"version\":%d,\"persistent\":%b,\"current\":%b,\"length\":%d",
         b"%xh %f: Version %d, Persistent %d, Current %d, Additional Length %d\n",
@@ -50,7 +51,8 @@ fn say_profiles(host: HostRuntime, json: bool, body: &[u8]) {
         let profile = fields::get2(body, at) as u32;
         let current = fields::byte(body, at + 2) % 2;
         say_comma(host, json, at > 0);
-        forms::fill(host, 
+        forms::fill(
+            host,
             json,
             b"{\"profile\":%d,\"name\":\"%p\",\"current\":%b}",
             b"    %xh %p%c\n",
@@ -118,7 +120,8 @@ fn say_inside_json(host: HostRuntime, number: u16, descriptor: &[u8], clean: &[u
     let said = bodies::say_fields(host, true, number, descriptor, clean);
     say(host, b"],\"link_sizes\":[");
     bodies::say_links(host, number, descriptor);
-    forms::say_either(host, 
+    forms::say_either(
+        host,
         is_decoded(said, number, body),
         b"],\"decoded\":true}",
         b"],\"decoded\":false}",
@@ -131,7 +134,8 @@ fn say_descriptor(host: HostRuntime, json: bool, s: &[u8], clean: &[u8], at: usi
     let body = reading::body_at(s, at);
     let descriptor = fields::part(s, at, body.len() + 4);
     let same = fields::part(clean, at, body.len() + 4);
-    say_head(host, 
+    say_head(
+        host,
         json,
         number.0,
         reading::flags_at(s, at),
@@ -165,7 +169,8 @@ fn say_descriptors(host: HostRuntime, json: bool, s: &[u8], clean: &[u8], end: u
 fn say_top(host: HostRuntime, json: bool, refused: bool, s: &[u8]) {
     let reading = reading::read(asked::rt(host), asked::from(host), s);
     let profile = fields::get2(s, 6) as u32;
-    forms::fill(host, 
+    forms::fill(
+        host,
         json,
         b",\"profile\":%d,\"profile_name\":\"%p\",\"data_length\":%d,\"received\":%d,\"complete\":%b,\"features\":[",
         b"Current Profile %xh %p\nData Length %d, bytes received %d",
@@ -184,7 +189,8 @@ fn say_top(host: HostRuntime, json: bool, refused: bool, s: &[u8]) {
         say(host, b", refused\n");
         return;
     }
-    forms::fill(host, 
+    forms::fill(
+        host,
         reading.complete,
         b", whole descriptors %d, complete\n",
         b", whole descriptors %d, cut\n",
@@ -193,7 +199,8 @@ fn say_top(host: HostRuntime, json: bool, refused: bool, s: &[u8]) {
 }
 
 fn say_meaning(host: HostRuntime, fault: Refusal, s: &[u8]) {
-    grounds::say_meaning(host, 
+    grounds::say_meaning(
+        host,
         STDOUT_FILENO,
         asked::rt(host),
         asked::from(host),
@@ -207,7 +214,8 @@ fn say_meaning(host: HostRuntime, fault: Refusal, s: &[u8]) {
 fn say_place_json(host: HostRuntime, stop: Stop, s: &[u8]) {
     let feature = stop.feature;
     let place = (stop.at % 65536) as u32;
-    forms::fill(host, 
+    forms::fill(
+        host,
         grounds::is_headed(stop.at, s.len()),
         b",\"byte\":%d,\"feature\":%d",
         b",\"byte\":%d",

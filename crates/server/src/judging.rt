@@ -68,20 +68,25 @@ fn say_place(host: HostRuntime, due: &[u8], at: usize) {
 
 fn say_mistake(host: HostRuntime, why: Mistake) {
     match why {
-        Mistake::OnlyAbove => say(host, 
+        Mistake::OnlyAbove => say(
+            host,
             b": it sends only the features above the starting feature number",
         ),
         Mistake::LengthCut => say(host, b": its Data Length is cut with the allocation length"),
-        Mistake::LengthOfAll => say(host, 
+        Mistake::LengthOfAll => say(
+            host,
             b": its Data Length counts all features, not only those asked for",
         ),
-        Mistake::HighestCurrent => say(host, 
+        Mistake::HighestCurrent => say(
+            host,
             b": its Current Profile is the highest of the current profiles, not the first",
         ),
-        Mistake::HighestListed => say(host, 
+        Mistake::HighestListed => say(
+            host,
             b": its Current Profile is the highest of all profiles, not the first current one",
         ),
-        Mistake::NotOnlyCurrent => say(host, 
+        Mistake::NotOnlyCurrent => say(
+            host,
             b": it gives RT 1 what RT 0 gets, features that are not current too",
         ),
         Mistake::NotOnlyOne => say(host, b": it gives RT 2 what RT 0 gets, not the one feature"),
@@ -168,7 +173,13 @@ fn judged(
     judge::judge(lay, sheet, command, response, scratch)
 }
 
-fn tell(host: HostRuntime, verdict: Verdict, scratch: &[u8; Header::RETURN_LIMIT], command: &[u8], response: &[u8]) {
+fn tell(
+    host: HostRuntime,
+    verdict: Verdict,
+    scratch: &[u8; Header::RETURN_LIMIT],
+    command: &[u8],
+    response: &[u8],
+) {
     let due = fields::part(scratch, 0, due_length(scratch, command));
     say_verdict(host, verdict, due, response);
     if !is_exact(verdict) {
@@ -185,14 +196,16 @@ fn judge_one(host: HostRuntime, lay: Layout, sheet: &[u8], command: &[u8], respo
 // ---- the program
 
 // An exchange that was read: so many bytes of each buffer.
-fn judge_read(host: HostRuntime, 
+fn judge_read(
+    host: HostRuntime,
     lay: Layout,
     sheet: &[u8],
     read: Exchange,
     command: &[u8; exchanges::COMMAND],
     response: &[u8; exchanges::RESPONSE],
 ) {
-    judge_one(host, 
+    judge_one(
+        host,
         lay,
         sheet,
         fields::part(command, 0, read.command),

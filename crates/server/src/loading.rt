@@ -9,8 +9,8 @@ ghost use Rattle.load.specs.Load.{load_fault, loaded};
 
 use layout::Layout;
 use lent::Made;
-use program_io::streams::STDERR_FILENO;
 use program_io::streams;
+use program_io::streams::STDERR_FILENO;
 use program_words::{sheets, words};
 use refusal::Refusal;
 use text::{Feature, Profile};
@@ -90,16 +90,35 @@ fn say_listed(host: HostRuntime, what: &[u8], list: &[u16], i: usize) -> bool {
 }
 
 // The first number at fault, of the features, or else of the profiles: its index in either list.
-fn say_first(host: HostRuntime, features: &[u16], feature: usize, profiles: &[u16], profile: usize) {
+fn say_first(
+    host: HostRuntime,
+    features: &[u16],
+    feature: usize,
+    profiles: &[u16],
+    profile: usize,
+) {
     if say_listed(host, b" at feature ", features, feature) {
         return;
     }
     say_listed(host, b" at profile ", profiles, profile);
 }
 
-fn say_fault(host: HostRuntime, refusal: Refusal, lay: Layout, sheet: &[u8], features: &[u16], profiles: &[u16]) {
+fn say_fault(
+    host: HostRuntime,
+    refusal: Refusal,
+    lay: Layout,
+    sheet: &[u8],
+    features: &[u16],
+    profiles: &[u16],
+) {
     if refusal.number == refusal::LIST_ORDER.number {
-        say_first(host, features, unordered(features), profiles, unordered(profiles));
+        say_first(
+            host,
+            features,
+            unordered(features),
+            profiles,
+            unordered(profiles),
+        );
         return;
     }
     let feature = lacking(lay, sheet, false, features);
@@ -108,7 +127,14 @@ fn say_fault(host: HostRuntime, refusal: Refusal, lay: Layout, sheet: &[u8], fea
 }
 
 // A refusal of a list, with the number at fault, or one of the sheet, with its line.
-fn say_refused(host: HostRuntime, refusal: Refusal, lay: Layout, sheet: &[u8], features: &[u16], profiles: &[u16]) {
+fn say_refused(
+    host: HostRuntime,
+    refusal: Refusal,
+    lay: Layout,
+    sheet: &[u8],
+    features: &[u16],
+    profiles: &[u16],
+) {
     if refusal.number < refusal::LIST_ORDER.number {
         sheets::say_refused(host, refusal, lay, sheet);
         return;
@@ -124,7 +150,14 @@ fn say_refused(host: HostRuntime, refusal: Refusal, lay: Layout, sheet: &[u8], f
 
 // ---- the lists
 
-fn load_sheet(host: HostRuntime, lay: Layout, sheet: &[u8], features: &[u16], profiles: &[u16], out: &mut [u8]) {
+fn load_sheet(
+    host: HostRuntime,
+    lay: Layout,
+    sheet: &[u8],
+    features: &[u16],
+    profiles: &[u16],
+    out: &mut [u8],
+) {
     let made = loaded(lay, sheet, features, profiles, out);
     let refusal = made.refusal;
     if refusal.number != 0 {
@@ -155,7 +188,14 @@ fn load_listed(host: HostRuntime, lay: Layout, sheet: &[u8], lists: &[u16], out:
     if lists.len() < features {
         return;
     }
-    load_sheet(host, lay, sheet, &lists[..features], &lists[features..], out);
+    load_sheet(
+        host,
+        lay,
+        sheet,
+        &lists[..features],
+        &lists[features..],
+        out,
+    );
 }
 
 pub fn load(host: HostRuntime, lay: Layout, sheet: &[u8], lists: &mut [u16], out: &mut [u8]) {

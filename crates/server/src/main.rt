@@ -2,6 +2,7 @@
 // Arguments: what a command asks for (`asked`), and how many bytes it has (`packets`), with none RT 0 from 0, allocation length 65,535; whether the sheet is in columns; whether there is a
 // stack for the longest sheet; what is done; and what that takes beyond, from the eighth on.
 #![tactic(auto)]
+
 mod answering;
 mod converting;
 mod judging;
@@ -11,8 +12,8 @@ mod sweeping;
 ghost use Rattle.std.specs.Counts.{IsPrefixLen};
 
 use layout::Layout;
-use program_io::streams::Input;
 use program_io::streams;
+use program_io::streams::Input;
 use program_words::sheets;
 
 // The argument that says whether the sheet is in columns.
@@ -58,7 +59,13 @@ fn serve_input(host: HostRuntime, input: &mut [u8], out: &mut [u8], numbers: &mu
         sheets::say_too_long(host, count);
         return;
     }
-    serve_sheet(host, sheets::layout_given(host, COLUMNS), &input[..count], out, numbers);
+    serve_sheet(
+        host,
+        sheets::layout_given(host, COLUMNS),
+        &input[..count],
+        out,
+        numbers,
+    );
 }
 
 fn serve(host: HostRuntime) {

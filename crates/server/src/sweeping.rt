@@ -96,7 +96,8 @@ fn ask(asking: Asking, sheet: &[u8], start: Feature, place: Place, response: &mu
     }
 }
 
-fn say_round(host: HostRuntime, 
+fn say_round(
+    host: HostRuntime,
     asking: Asking,
     sheet: &[u8],
     start: Feature,
@@ -105,12 +106,24 @@ fn say_round(host: HostRuntime,
 ) -> Place {
     tell_command(host, asking, start);
     let round = ask(asking, sheet, start, place, response);
-    told::say_round(host, asking.rt, start, fields::part(response, 0, round.count));
+    told::say_round(
+        host,
+        asking.rt,
+        start,
+        fields::part(response, 0, round.count),
+    );
     round.place
 }
 
 // A line for each start that was noted.
-fn say_rounds(host: HostRuntime, asking: Asking, sheet: &[u8], starts: &[u16], commands: u32, response: &mut [u8]) {
+fn say_rounds(
+    host: HostRuntime,
+    asking: Asking,
+    sheet: &[u8],
+    starts: &[u16],
+    commands: u32,
+    response: &mut [u8],
+) {
     let mut place = first_place(asking, sheet);
     let mut i = 0;
     while i < starts.len() {
@@ -149,7 +162,8 @@ struct Way {
 }
 
 // One round more of it: where it is refused, the number with the byte and the feature of the descriptor that the command has no room for.
-fn walk_on(host: HostRuntime, 
+fn walk_on(
+    host: HostRuntime,
     asking: Asking,
     sheet: &[u8],
     way: Way,
@@ -164,7 +178,8 @@ fn walk_on(host: HostRuntime,
     let step = sweep.take(got, collected);
     let refusal = step.refusal;
     if refusal.number != 0 {
-        grounds::say_refused(host, 
+        grounds::say_refused(
+            host,
             STDERR_FILENO,
             asking.rt,
             start,
@@ -183,7 +198,13 @@ fn walk_on(host: HostRuntime,
 }
 
 // Says where a sweep is refused by 23: the box is asked again, up to that round.
-fn say_cut(host: HostRuntime, asking: Asking, sheet: &[u8], response: &mut [u8], collected: &mut [u8]) {
+fn say_cut(
+    host: HostRuntime,
+    asking: Asking,
+    sheet: &[u8],
+    response: &mut [u8],
+    collected: &mut [u8],
+) {
     let begun = Sweep::start(asking.rt, asking.a);
     let sweep = begun.sweep;
     let mut way = Way {
@@ -201,7 +222,8 @@ fn say_cut(host: HostRuntime, asking: Asking, sheet: &[u8], response: &mut [u8],
     }
 }
 
-fn sweep_into(host: HostRuntime, 
+fn sweep_into(
+    host: HostRuntime,
     lay: Layout,
     sheet: &[u8],
     response: &mut [u8],
@@ -236,7 +258,13 @@ fn sweep_into(host: HostRuntime,
     }
 }
 
-pub fn sweep(host: HostRuntime, lay: Layout, sheet: &[u8], collected: &mut [u8], starts: &mut [u16]) {
+pub fn sweep(
+    host: HostRuntime,
+    lay: Layout,
+    sheet: &[u8],
+    collected: &mut [u8],
+    starts: &mut [u16],
+) {
     let mut response = [0u8; Header::RETURN_LIMIT];
     sweep_into(host, lay, sheet, &mut response, collected, starts);
 }

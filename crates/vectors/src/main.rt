@@ -1,12 +1,13 @@
 // Compares what no other test can, since no function exports it: each step of a sweep whose record is lent, a line each of standard input. tests/cases compares all
 // else over the exported functions.
 #![tactic(auto)]
+
 ghost use Rattle.std.specs.Prelude.{◌≡◌};
 ghost use Rattle.std.specs.Counts.{IsPrefixLen};
 ghost use Rattle.sweep.specs.Sweep.{turn, stepped};
 
-use std::io::{Print, Read};
 use program_words::tables;
+use std::io::{Print, Read};
 use sweep::{Step, Sweep};
 use text::{Feature, Profile};
 
