@@ -10,7 +10,8 @@ use Rattle.judge.specs.Verdict.{Judgement, judgement}
 use Rattle.judge.specs.Boxes.{mistakes, mistake_number}
 use Rattle.judge.specs.declared.Mistake.{Mistake}
 use Rattle.judge.specs.declared.Mistake.TheVariants.{OnlyAbove, LengthCut, LengthOfAll, HighestCurrent, HighestListed, NotOnlyCurrent, NotOnlyOne, Unexplained}
-use Rattle.judge.proofs.Promised.{rank, Judges, judges}
+use Rattle.judge.proofs.Order.{rank}
+use Rattle.judge.proofs.Promised.{Judges, judges}
 use Rattle.judge.specs.contracts.judge as judge
 use Rattle.demands.proofs.Named.{named}
 

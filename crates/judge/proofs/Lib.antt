@@ -2,4 +2,5 @@
 pub mod Same
 pub mod Boxes
 pub mod Search
+pub mod Order
 pub mod Promised

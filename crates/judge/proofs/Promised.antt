@@ -26,9 +26,10 @@ use Rattle.responder.specs.Answer.{due}
 use Rattle.judge.specs.Boxes.{sent_by, right, zero_for, box_of, mistakes, sent_with}
 use Rattle.judge.specs.Verdict.{common, all_zero, compared, is_right, because, explained, Judgement, judgement, alone, requested, judged}
 use Rattle.judge.specs.declared.Mistake.{Mistake}
-use Rattle.judge.specs.declared.Mistake.TheVariants.{OnlyAbove, LengthCut, LengthOfAll, HighestCurrent, HighestListed, NotOnlyCurrent, NotOnlyOne, Unexplained}
+use Rattle.judge.specs.declared.Mistake.TheVariants.{OnlyAbove, LengthCut, LengthOfAll, NotOnlyCurrent, NotOnlyOne, Unexplained}
 use Rattle.judge.specs.declared.Verdict.{Verdict}
 use Rattle.judge.specs.declared.Verdict.TheVariants.{Exact, Padded, Short, Wrong, Answered, Refused}
+use Rattle.judge.proofs.Order.{rank, each_mistake}
 use Rattle.judge.proofs.Same.{met_wrong, met_short, met_exact, met_padded, met_other, unasked_none, unasked_some}
 use Rattle.judge.proofs.Boxes.{above_next}
 use Rattle.judge.proofs.Search.{sends, judged_sheet, judged_command, judged_room, judged_asked}
@@ -244,17 +245,6 @@ module _ (test : Mistake → Bool) where
       go true e more = inr e
       go false e more = more
 
--- the order of the mistakes; none comes behind them all
-unfoldable pub rank : Mistake → ℕ
-rank OnlyAbove = 1
-rank LengthCut = 2
-rank LengthOfAll = 3
-rank HighestCurrent = 4
-rank HighestListed = 5
-rank NotOnlyCurrent = 6
-rank NotOnlyOne = 7
-rank Unexplained = 8
-
 -- they rise, from lo on
 unfoldable pub Rises : (lo : ℕ) → List Mistake → Type 0
 Rises lo [] = Unit
@@ -280,29 +270,6 @@ module _ (test : Mistake → Bool) where
       go true e more =
           (λ h. absurd (omega (arith, h)), all_map (λ (v : Mistake). suc (rank w) ≤ rank v) (λ (v : Mistake). rank v < rank w → test v ≡ false) (λ v above h. absurd (omega (arith, h, above))) ws (rises_above (suc (rank w)) ws r.1))
       go false e more = (λ h. e, more)
-
-rank_most : (w : Mistake) → rank w ≤ 8
-unfolding rank
-rank_most OnlyAbove = omega arith
-rank_most LengthCut = omega arith
-rank_most LengthOfAll = omega arith
-rank_most HighestCurrent = omega arith
-rank_most HighestListed = omega arith
-rank_most NotOnlyCurrent = omega arith
-rank_most NotOnlyOne = omega arith
-rank_most Unexplained = omega arith
-
--- all of them but none
-each_mistake : (P : Mistake → Type 0) → All P mistakes → (v w : Mistake) → rank v < rank w → P v
-unfolding mistakes rank
-each_mistake P a OnlyAbove w h = a.0
-each_mistake P a LengthCut w h = a.1.0
-each_mistake P a LengthOfAll w h = a.1.1.0
-each_mistake P a HighestCurrent w h = a.1.1.1.0
-each_mistake P a HighestListed w h = a.1.1.1.1.0
-each_mistake P a NotOnlyCurrent w h = a.1.1.1.1.1.0
-each_mistake P a NotOnlyOne w h = a.1.1.1.1.1.1.0
-each_mistake P a Unexplained w h = absurd (omega (arith, h, rank_most w))
 
 -- ---- the boxes, in other words: the right one; those that take the request for another; those that state something else in the header
 

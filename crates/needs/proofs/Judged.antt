@@ -3,13 +3,12 @@
 use borrow.Author.Tests.{not-false}
 use mathlib.Core.Path.{◌≡◌, refl, sym, ap, subst, ◌∙◌}
 use mathlib.Core.Logic.{◌⊎◌, inl, inr}
-use mathlib.Core.Bool.{Bool, true, false, not, true≢false}
+use mathlib.Core.Bool.{Bool, true, false, not}
 use mathlib.Core.List.{List, [], ◌∷◌}
 use Prim.Native.Nat.{ℕ, zero, suc, ◌<◌}
 use native.Mathlib.Omega.{arith}
 use lib.Dec.{eqb}
 use Rattle.base.specs.Lists.{All}
-use Rattle.base.proofs.Lists.{all_map}
 use Rattle.base.specs.Pick.{pick, some}
 use Rattle.base.proofs.Pick.{pick_here, pick_past}
 use Rattle.refusal.specs.declared.Refusal.{Refusal}
@@ -28,8 +27,9 @@ use Rattle.needs.specs.Required.{required, columns, column_of, no_column, has_ta
 use Rattle.needs.specs.Judge.{Said, says_conforms, says_broken, says, said, wrong_number, line_wrong, desc_wrong, wrong_of, wrong_in, lowest_from, lowest_in, lowest, judge_fault, judged}
 use Rattle.needs.proofs.Broken.{tabled, Breaks, Reason}
 use Rattle.needs.proofs.Rules.{every_all, chosen_case}
+use Rattle.needs.proofs.Covered.{covers_plain}
 use Rattle.needs.proofs.Lowest.{lowest_upto, none_lowest, found_lowest}
-use Rattle.needs.proofs.Judgements.{column_all, column_ascends, judge_input}
+use Rattle.needs.proofs.Judgements.{column_ascends, judge_input}
 use Rattle.needs.proofs.Breaks.{wrong_breaks, breaks_wrong, wrong_reason, covers, breaks_covered}
 
 -- an answer without a number: nothing was refused before it
@@ -188,13 +188,7 @@ module _ (s : List ℕ) where
   unfolding has_table column_of columns required marked pick
   archive_too e = conforms_too 0x0000 0x0012 refl refl e
 
-  -- what conforms to any profile conforms to FFFFh: one computed test over all columns
-  covers_plain : (p : ℕ) → has_table p ≡ true → covers (column_of p) (column_of 0xFFFF) ≡ true
-  unfolding has_table column_of columns required marked pick
-  covers_plain p =
-      column_all (λ c. not (eqb c.1 0) ≡ true → covers c (column_of 0xFFFF) ≡ true) (λ z. absurd (true≢false (sym z)))
-      (all_map (λ c. covers c (column_of 0xFFFF) ≡ true) (λ c. not (eqb c.1 0) ≡ true → covers c (column_of 0xFFFF) ≡ true) (λ c e z. e) columns (every_all (λ (c : Column). covers c (column_of 0xFFFF)) columns refl)) p
-
+  -- what conforms to any profile conforms to FFFFh
   pub plain_too : (p : ℕ) → judged p s ≡ says_conforms → judged 0xFFFF s ≡ says_conforms
   unfolding has_table column_of columns pick judge_fault
   plain_too p e =

@@ -7,6 +7,7 @@ pub mod Judgements
 pub mod Alone
 pub mod Broken
 pub mod Breaks
+pub mod Covered
 pub mod Judged
 pub mod Singly
 pub mod Promised
