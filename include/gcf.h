@@ -3,7 +3,7 @@
  * Link libgcf.a, which ./install makes (pkg-config --cflags --libs gcf). docs/MANUAL.md has every number and a worked example.
  *
  * Every function takes any bytes and any numbers: nothing that is handed in makes it misbehave or run on. It keeps nothing, allocates nothing,
- * calls nothing but memcpy and memset, and may be called from several threads at once.
+ * calls nothing but memcpy, memmove and memset, and may be called from several threads at once.
  *
  * Of the caller is asked only what C cannot say:
  *   - a pointer and the count behind it name that many elements; the pointer is not null and is aligned for its type, also where the count is 0;

@@ -7,8 +7,11 @@ import functools
 import hashlib
 import os
 import re
+import shutil
+import tempfile
 from collections import Counter
 from concurrent.futures import ThreadPoolExecutor
+from contextlib import contextmanager
 from pathlib import Path
 
 import kit
@@ -149,11 +152,16 @@ def in_folder(folder):
 # An error of a log: its place in the crate and its words, up to the next line that is not indented; the declaration that it is in is left out.
 ERROR = re.compile(r"^(?:\./)?(\S+?):\d+:\d+: error(?:\[[\w-]+\])?: (?:`[^`\n]+`: )?(.*(?:\n  .*)*)", re.M)
 # What only follows from a declaration above that was refused.
-FOLLOWS = re.compile(r"`[^`]+` (was not admitted|cannot be unfolded because it was not admitted)")
+FOLLOWS = re.compile(r"`[^`]+` (was not admitted|cannot be unfolded because it was not admitted)|\d+ declarations? that depends? on `[^`]+`")
 # A fact that was looked at and was not shown: a procedure or a rewriting step that does not reach its goal, or a proof of another statement.
 FACT = re.compile(r"`(search|grind|omega|cc|simp|rw|grw|decide)`( |: )|expected type `[^`]*`,?\s+but this has type `")
 # What is refused before any fact is looked at, whatever else is said.
 FORM = re.compile(r"has no field|not in scope(?! here| at this)|that can be named from here|has \d+ binders?, but its type has room")
+# An answer to a goal that has another name now, since the name says which test leads there: the goal is looked at without it.
+RENAMED = re.compile(r"(?:`[^`]+`: )?module `Rattle\.\w+\.proofs\.[\w.]+\.Goals` has no `")
+LOST = re.compile(r"record `Rattle\.\w+\.proofs\.[\w.-]+` has no field `")
+# A name that a proof file has of a test or of a call, and those that are there now.
+NAMED = re.compile(r"^(?:\./)?(proofs/\S+?\.antt):\d+:\d+: error: .*has no field `([\w-]+)` \(nearest: ([^)]*)\)", re.M)
 # The same of a goal that no proof file answers: the proof that the toolchain makes is refused there.
 NEED = re.compile(r"^note: \S+:\d+:\d+: it is not proved that ", re.M)
 # Such a function without a proof, and why: the search does not show a goal, or a function that it calls is not proved.
@@ -172,17 +180,99 @@ def stamp_of(crate):
     return hashlib.sha256(b"".join(str(path).encode() + path.read_bytes() for path in files)).hexdigest()
 
 
+# Of a crate whose edits are tried, the folder with what a check of it as it stands has proved: each try begins with a copy of that.
+SEEDS = {}
+
+
+@contextmanager
+def seeded(crate):
+    """Keeps such a folder while the crate's edits are tried."""
+    with tempfile.TemporaryDirectory() as seed:
+        kept = Path(f"crates/{crate}/out/incremental")
+        if kept.is_dir():
+            linked(kept, f"{seed}/seed")
+        status, _ = kit.changed(crate, {}, "--jobs", "1", "--incremental", f"{seed}/seed")
+        if status == 0:
+            SEEDS[crate] = f"{seed}/seed"
+        try:
+            yield
+        finally:
+            SEEDS.pop(crate, None)
+
+
+@contextmanager
+def begun(crate):
+    """The words for a check that begins so."""
+    if crate not in SEEDS:
+        yield ()
+        return
+    with tempfile.TemporaryDirectory() as room:
+        linked(SEEDS[crate], f"{room}/kept")
+        yield "--incremental", f"{room}/kept"
+
+
+def linked(folder, to):
+    """A copy of such a folder, what was proved by links where these can be made: a check replaces such a file, and changes none."""
+    def copy(one, other):
+        try:
+            return os.link(one, other) if one.endswith(".oantt") else shutil.copy2(one, other)
+        except OSError:
+            return shutil.copy2(one, other)
+    shutil.copytree(folder, to, copy_function=copy)
+
+
+def try_crate(crate):
+    """Tries all edits of a crate that are not kept."""
+    edits = [edit for edit in in_folder("must-fail") if edit.crate == crate]
+    if not kit.are_built(crate) or not [edit for edit in edits if log_of(edit, edit.pairs, (), edit.label, True) is None]:
+        for edit in edits:
+            refusal_wrong(edit, False)
+        return
+    with seeded(crate):
+        for edit in edits:
+            refusal_wrong(edit, False)
+
+
 def log_of(edit, pairs, words, name, quick):
-    """All that the prover says of an edit, or of some of its replacements; nothing where its libraries are not there, or, if it is to be quick, where it was not tried."""
-    stamp, kept = stamp_of(edit.crate), Path(f"target/edits/{edit.crate}/{name}.log")
+    """All that the prover says of an edit, or of some of its replacements; nothing where its libraries are not there, or, if it is to be quick, where it was not tried.
+    A proof file speaks of a test by a name that is made from the test's text, which the edit may have changed. Where nothing else of that function is refused, it is tried
+    again with the name that the test has now."""
     texts, wrong = replaced(pairs, f"crates/{edit.crate}/")
-    if wrong or stamp is None:
+    if wrong or stamp_of(edit.crate) is None:
         return None
-    first = hashlib.sha256(repr((stamp, pairs, words)).encode()).hexdigest() + "\n"
+    texts = {file.removeprefix(f"crates/{edit.crate}/"): text for file, text in texts.items()}
+    for again in range(4):
+        log = checked(edit, texts, words, f"{name}-again-{again}" if again else name, quick)
+        follow = following(edit.crate, texts, log) if log else {}
+        if not follow:
+            break
+        texts |= follow
+    return log
+
+
+def following(crate, texts, log):
+    """The proof files that name a test or a call which has another name now, with that name."""
+    found = {}
+    for file, old, nearest in NAMED.findall(log):
+        if refused_beside(file, crate, log):
+            continue
+        text = found.get(file) or texts.get(file) or text_of(f"crates/{crate}/{file}")
+        # one that is new, and of these the one that begins most like it
+        names = [name for name in re.findall(r"\.([\w-]+)", nearest) if name.removeprefix("if-") not in text]
+        new = max(names, key=lambda name: len(os.path.commonprefix([name, old])), default=None)
+        if new and re.search(rf"(?<![\w-]){re.escape(old)}(?![\w-])", text):
+            found[file] = re.sub(rf"(?<!\w){re.escape(old.removeprefix('if-'))}(?![\w-])", new.removeprefix("if-"), text)
+    return found
+
+
+def checked(edit, changed, words, name, quick):
+    """All that the prover says of a crate in which some files have other texts, kept by that name."""
+    stamp, kept = stamp_of(edit.crate), Path(f"target/edits/{edit.crate}/{name}.log")
+    first = hashlib.sha256(repr((stamp, sorted(changed.items()), words)).encode()).hexdigest() + "\n"
     there = kept.read_text(encoding="utf-8") if kept.exists() else ""
     if not there.startswith(first) and not quick:
-        changed = {file.removeprefix(f"crates/{edit.crate}/"): text for file, text in texts.items()}
-        status, said = kit.changed(edit.crate, changed, "--jobs", "1", *words)
+        with begun(edit.crate) as over:
+            status, said = kit.changed(edit.crate, changed, "--jobs", "1", *words, *over)
         there = f"{first}status={status}\n{said}"
         kept.parent.mkdir(parents=True, exist_ok=True)
         kept.with_suffix(".part").write_text(there, encoding="utf-8")
@@ -192,6 +282,18 @@ def log_of(edit, pairs, words, name, quick):
 
 def errors_of(log):
     return [(place, words) for place, words in ERROR.findall(log) if not FOLLOWS.match(words)]
+
+
+def refused_beside(file, crate, log):
+    """Whether something else of the function that a proof file is about is refused, at a fact or at a goal that no file answers."""
+    own = file.rpartition("/")[0]
+    others = [words for place, words in errors_of(log) if place.startswith(own + "/") and not error_wrong(place, words)]
+    return bool(others or needs_of(f"{crate}::{own.removeprefix('proofs/').replace('/', '::')}", log))
+
+
+def is_renamed(place, words, crate, log):
+    """Whether an error only says that a goal, a test or a call has another name now, since the code is another one, and the function is refused for more than that."""
+    return bool(RENAMED.match(words) or LOST.match(words)) and refused_beside(place, crate, log)
 
 
 def error_wrong(place, words):
@@ -204,12 +306,12 @@ def error_wrong(place, words):
     return None
 
 
-def log_wrong(log, last):
+def log_wrong(log, last, crate):
     """What is wrong with a log: the prover did not refuse what was tried, or not at a fact alone."""
     lines = log.splitlines()
     if lines[0] != "status=1" or not re.match(last, lines[-1]):
         return [f"the prover did not refuse it: {lines[0]}, {lines[-1][:160]}"]
-    faults = [wrong for place, words in errors_of(log) if (wrong := error_wrong(place, words))]
+    faults = [wrong for place, words in errors_of(log) if not is_renamed(place, words, crate, log) and (wrong := error_wrong(place, words))]
     faults += [f"{name} has no proof: {why[:160]}" for name, why in NO_PROOF.findall(log)]
     return faults if errors_of(log) or NEED.search(log) else [*faults, "its log names no fact"]
 
@@ -221,27 +323,32 @@ def refusal_wrong(edit, quick):
     log = log_of(edit, edit.pairs, (), edit.label, quick)
     if log is None:
         return "it was not tried"
-    faults = log_wrong(log, "logic=not-proved")
+    faults = log_wrong(log, "logic=not-proved", edit.crate)
     for about, place, what in edit.answers:
-        # an edit that weakens a contract leaves the function proved, and is refused at the theorem that its contract decides everything
-        if f"\nfn {about}: proved\n" in log and not what.startswith("a contract"):
+        # an edit that weakens a contract leaves the function proved, and is refused at the theorem that its contract decides everything; one of a definition may
+        # change the function of that name along
+        is_stated = what.startswith("a contract") or (edit.declares("specs", about.split("::")[-1]) and not is_function(edit.crate, place))
+        if f"\nfn {about}: proved\n" in log and not is_stated:
             faults.append(f"{about} is still proved")
         elif (len(edit.answers) > 1 or place != about.split("::", 1)[-1]) and not refused_at(f"{edit.crate}::{place}", log):
             faults += alone_wrong(edit, about, place, quick)
     return "; ".join(faults)
 
 
+def is_function(crate, place):
+    return any(f.path == f"{crate}::{place.split('/')[0]}" for f in source.functions())
+
+
 def alone_wrong(edit, about, place, quick):
     """What is wrong with a wrong answer that is tried by itself, since in the check of its file a function that it calls was refused before."""
     pairs = next(pairs for answers, pairs in edit.groups if (about, place) in [answer[:2] for answer in answers])
     function = place.split("/")[0]
-    is_function = any(f.path == f"{edit.crate}::{function}" for f in source.functions())
-    words = ("--only", function) if is_function else ()
+    words = ("--only", function) if is_function(edit.crate, place) else ()
     name = f"{edit.label}-{place}".replace("/", "-").replace("::", "-")
     log = log_of(edit, pairs, words, name, quick)
     if log is None:
         return [f"{about} is not refused at {place}, and was not tried alone"]
-    faults = log_wrong(log, r"only=\d+ proved=\d+" if is_function else "logic=not-proved")
+    faults = log_wrong(log, r"only=\d+ proved=\d+" if words else "logic=not-proved", edit.crate)
     return faults if refused_at(f"{edit.crate}::{place}", log) else [*faults, f"{about} is not refused at {place}"]
 
 
@@ -268,9 +375,12 @@ def refused_at(path, log):
 def cases(quick):
     edits = in_folder("must-fail")
     if not quick:
-        # all at once, as far as there are processors; each is kept
-        with ThreadPoolExecutor(os.cpu_count()) as pool:
-            list(pool.map(lambda edit: refusal_wrong(edit, False), edits))
+        # crates side by side, as many as there are processors, those with the most to try first; each log is kept
+        count = Counter({edit.crate: 0 for edit in edits})
+        for edit in edits:
+            count[edit.crate] += len(edit.answers)
+        with ThreadPoolExecutor(len(os.sched_getaffinity(0))) as pool:
+            list(pool.map(try_crate, [crate for crate, _ in count.most_common()]))
     for edit in edits:
         if edit.label.startswith("mixed_"):
             yield Case("edit", f"{edit.name()}: the edit", f"it belongs in crates/{edit.crate}/mixed/: code that does not compile never reaches the prover")
