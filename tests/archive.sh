@@ -105,7 +105,7 @@ archive_libraries() { # FOLDER
 
 # The kit's toolchain, but for a compiler that also keeps the code it is handed and the words it is called with.
 archive_keeping_tools() { # FOLDER NAME
-    local tools=$1/tools part
+    local tools=$1/tools.$2 part
     rm -rf "$tools" && mkdir -p "$tools/bin" || return 1
     for part in "$archive_tools"/*; do [ "${part##*/}" = bin ] || ln -s "$part" "$tools/" || return 1; done
     for part in "$archive_tools"/bin/*; do [ "${part##*/}" = clang ] || ln -s "$part" "$tools/bin/" || return 1; done
@@ -122,7 +122,7 @@ archive_build() { # FOLDER NAME OUT
     local words
     mapfile -t words < <(python3 tests/lib/kit.py words "$2")
     [ ${#words[@]} != 0 ] && archive_keeping_tools "$1" "$2" || return 1
-    (cd "crates/$2" && "$archive_kit/bin/rattle" build "${words[@]}" --jobs 2 --toolchain "$1/tools" --backend llvm -o "$3" </dev/null) >>"$1/log" 2>&1 && [ -f "$1/$2.bc" ]
+    (cd "crates/$2" && "$archive_kit/bin/rattle" build "${words[@]}" --jobs 2 --toolchain "$1/tools.$2" --backend llvm -o "$3" </dev/null) >"$1/$2.log" 2>&1 && [ -f "$1/$2.bc" ]
 }
 
 # The archive and its code, once for each stamp, whoever asks first: target/own/libabi_c.a, target/own/abi_c.bc and target/own/abi_c.words. One at a time, and not
@@ -130,14 +130,16 @@ archive_build() { # FOLDER NAME OUT
 archive_made() {
     local here=$PWD/target/own
     mkdir -p "$here" || return 1
+    ! archive_is_made "$here" || return 0
     (
         flock 7 || exit 1
-        stamp=$(archive_stamp)
-        [ ! -f "$here/libabi_c.a" ] || [ ! -f "$here/abi_c.words" ] || [ "$stamp" != "$(cat "$here/stamp" 2>/dev/null)" ] || exit 0
+        ! archive_is_made "$here" || exit 0
         rm -f "$here/stamp" "$here/abi_c.bc" "$here/code.ll" "$here/log"
+        stamp=$(archive_stamp)
         archive_libraries "$here" && archive_build "$here" abi_c "$here/libabi_c.a" && printf '%s\n' "$stamp" >"$here/stamp"
     ) 7>target/gcf.lock
 }
+archive_is_made() { [ -f "$1/libabi_c.a" ] && [ -f "$1/abi_c.words" ] && [ "$(archive_stamp)" = "$(cat "$1/stamp" 2>/dev/null)" ]; } # FOLDER
 
 # The same code without the processor that it names: target/own/code.ll.
 archive_ll() {
@@ -189,17 +191,17 @@ archive_target() { # TRIPLE FOLDER
     mv "$part/libgcf.a" "$2/libgcf.a" && rm -r "$part"
 }
 
-# The code of programs, as target/own/NAME.bc. Each is built by rt before, and with it what it stands on.
+# The code of programs, as target/own/NAME.bc, one at a time. Each is built by rt before, and with it what it stands on.
 archive_programs() { # NAME..
     local here=$PWD/target/own
     mkdir -p "$here" || return 1
     (
-        flock 7 || exit 1
+        flock 5 || exit 1
         for name in "$@"; do
             made=crates/$name/out/$name
             [ -f "$here/$name.bc" ] && [ -x "$made" ] && [ "$here/$name.bc" -nt "$made" ] || { rm -f "$here/$name.bc" && archive_build "$here" "$name" "$here/$name.x86.o" || exit 1; }
         done
-    ) 7>target/gcf.lock
+    ) 5>target/own/programs.lock
 }
 
 # One of them compiled and linked for Arm, with what it calls. It needs no C library, and nothing of the kit.
