@@ -24,6 +24,18 @@ module _ {A B : Type 0} (test : A → Bool) (found : A → B) (none : B) where
   pick_never [] h = refl
   pick_never (x ∷ xs) h = pick_past x xs h.0 ∙ pick_never xs h.1
 
+  -- a walk from element to element, where w is what it looks for in those that are left, xs, the first of which is x: it is found, the walk goes on, the end
+  module _ (w : B) (xs : List A) (e : w ≡ pick test found none xs) where
+    pub walk_found : (x : A) (ys : List A) (v : B) → xs ≡ x ∷ ys → test x ≡ true → v ≡ found x → v ≡ w
+    walk_found x ys v h y g = g ∙ sym (e ∙ ap (pick test found none) h ∙ pick_here x ys y)
+
+    pub walk_next : (x : A) (ys : List A) → xs ≡ x ∷ ys → test x ≡ false → w ≡ pick test found none ys
+    walk_next x ys h n = e ∙ ap (pick test found none) h ∙ pick_past x ys n
+
+    pub walk_none : xs ≡ [] → none ≡ w
+    unfolding pick
+    walk_none h = sym (e ∙ ap (pick test found none) h)
+
   -- a walk over a table t by index: what is left of it at index i
   module _ (t : List A) where
     abbrev pub left : ℕ → B

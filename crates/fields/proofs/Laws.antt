@@ -1,15 +1,12 @@
 -- What holds of big-endian fields at every width. Assumes nothing.
 use mathlib.Core.Path.{◌≡◌, refl, sym, ap, ◌∙◌}
-use mathlib.Core.Bool.{Bool, true, false}
 use mathlib.Core.List.{List, [], ◌∷◌, ◌++◌, append_assoc, append-nil}
-use Prim.Native.Nat.{ℕ, zero, suc, ◌+◌, ◌-◌, ◌*◌, ◌/◌, ◌%◌, ◌^◌, ◌≤◌, ◌<◌}
+use Prim.Native.Nat.{ℕ, zero, suc, ◌+◌, ◌*◌, ◌/◌, ◌%◌, ◌^◌, ◌≤◌, ◌<◌}
 use native.Mathlib.Nat.{add-zero, add-suc, add_assoc, pow-suc, pow-succ', mod-one, mod-lt, mod-eq_of_lt, div-one, div-div-eq-div-mul}
 use native.Mathlib.Omega.{arith}
-use lib.Dec.{leb}
-use lib.ListN.{length, take, drop, get_or, length-drop, length-append, drop_of_length-le, get_or-eq_default}
-use lib.Seq.{take-suc, take_all, take-nil, get_or-take, get_or-drop, get_or_at, append_snoc}
+use lib.ListN.{length, take, drop, get_or, length-drop, length-append}
+use lib.Seq.{take-suc, take_all, get_or-take, get_or-drop, get_or_at, append_snoc}
 use lib.Arith.{digits_lt, digits_div, digits_mod, mod-mul}
-use borrow.Author.Tests.{leb-true, leb-false, le-leb, lt-leb}
 use Rattle.base.specs.Lists.{Bytes}
 use Rattle.base.proofs.Lists.{bytes_one, bytes_append}
 use Rattle.fields.specs.Field.{field, spell}
@@ -24,13 +21,10 @@ pub field_one : (s : List ℕ) (at : ℕ) → field 1 s at ≡ get_or s at 0
 unfolding field
 field_one s at = rw add-zero (omega arith)
 
--- the last byte of a field, and a field whose last byte lies behind the end
+-- the last byte of a field
 pub field_last : (w : ℕ) (s : List ℕ) (at : ℕ) → field (suc w) s at ≡ field w s at * 256 + get_or s (at + w) 0
 unfolding field
 field_last w s at = refl
-
-pub field_short : (w : ℕ) (s : List ℕ) (at : ℕ) → length s ≤ at + w → field (suc w) s at ≡ field w s at * 256
-field_short w s at h = omega (arith, field_last w s at, get_or-eq_default s 0 h)
 
 -- a field in two parts: what reads a wider field from narrower ones
 pub field_split : (v w : ℕ) (s : List ℕ) (at : ℕ) → field (v + w) s at ≡ field v s at * 256 ^ w + field w s (at + v)
@@ -96,26 +90,6 @@ spell_mod w v =
     ap (spell w) (sym (field_spell w v []) ∙ rw append-nil)
     ∙ spell_field w (spell w v) 0 (bytes_spell w v) (omega arith)
     ∙ take_all w (spell w v) (omega arith)
-
--- ---- a part of a slice
-
--- whether it has k elements from an index on, asked of the index alone
-pub shifted : (at k n : ℕ) → k ≤ n → leb at (n - k) ≡ leb (at + k) n
-shifted at k n h = same (leb (at + k) n) refl
-  where
-    same : (b : Bool) → leb (at + k) n ≡ b → leb at (n - k) ≡ b
-    same true e = le-leb at (n - k) (omega (arith, leb-true (at + k) n e))
-    same false e = lt-leb at (n - k) (omega (arith, leb-false (at + k) n e))
-
-pub part_none : (k n at : ℕ) (s : List ℕ) → length s ≤ at → take (k - k) (drop k s) ≡ take n (drop at s)
-part_none k n at s h =
-    let e : k - k ≡ 0 = omega arith in
-    rw (drop_of_length-le s h, take-nil, e)
-
-pub part_rest : (n at : ℕ) (s : List ℕ) → length s - at ≤ n → take (length s - at) (drop at s) ≡ take n (drop at s)
-part_rest n at s h =
-    let l : length (drop at s) ≡ length s - at = length-drop at s in
-    take_all (length s - at) (drop at s) (omega arith) ∙ sym (take_all n (drop at s) (omega arith))
 
 -- ---- what is read at an index where a piece stands
 

@@ -5,7 +5,7 @@ ghost use Rattle.std.specs.Prelude.{◌≡◌, ◌+◌, ◌-◌, ◌≤◌, ◌<
 ghost use Rattle.fields.specs.Field.{field};
 ghost use Rattle.fields.specs.Part.{PartOf};
 
-// The byte at an index.
+// The byte at an index. No `get`: the C library's code for 32 bits cannot hand out an `Option` of a reference.
 pub fn byte(s: &[u8], at: usize) -> u8
     ensures { result ≡ get_or s.now at 0 }
 {
@@ -26,35 +26,24 @@ pub fn inside(s: &[u8], at: usize) -> u8
 }
 
 // Asks: a slice that has the two bytes; whoever reads has looked at its length.
+#[tactic(auto, unfolding(crate::specs::Field::field))]
 pub fn inside2(s: &[u8], at: usize) -> u16
     requires { at + 2 ≤ length s.now }
     ensures { result ≡ field 2 s.now at }
 {
-    inside(s, at) as u16 * 256 + inside(s, at + 1) as u16
+    u16::from_be_bytes([s[at], s[at + 1]])
 }
 
 // Asks: a slice that has the four bytes; whoever reads has looked at its length.
+#[tactic(auto, unfolding(crate::specs::Field::field))]
 pub fn inside4(s: &[u8], at: usize) -> u32
     requires { at + 4 ≤ length s.now }
     ensures { result ≡ field 4 s.now at }
 {
-    inside(s, at) as u32 * 16777216
-        + inside(s, at + 1) as u32 * 65536
-        + inside(s, at + 2) as u32 * 256
-        + inside(s, at + 3) as u32
+    u32::from_be_bytes([s[at], s[at + 1], s[at + 2], s[at + 3]])
 }
 
 // ---- of any slice
-
-// How many bytes there are from an index on.
-fn left(s: &[u8], at: usize) -> usize
-    ensures { result ≡ length s.now - at }
-{
-    if s.len() <= at {
-        return 0;
-    }
-    s.len() - at
-}
 
 // Whether the slice has two bytes at an index. The index is looked at last, so that a search, which reads in a loop, looks at the length once.
 fn has2(s: &[u8], at: usize) -> bool
@@ -67,6 +56,7 @@ fn has2(s: &[u8], at: usize) -> bool
 }
 
 // The two bytes at an index.
+#[tactic(auto, unfolding(crate::specs::Field::field))]
 pub fn get2(s: &[u8], at: usize) -> u16
     ensures { result ≡ field 2 s.now at }
 {
@@ -78,22 +68,22 @@ pub fn get2(s: &[u8], at: usize) -> u16
 }
 
 // The three bytes at an index.
+#[tactic(auto, unfolding(crate::specs::Field::field))]
 pub fn get3(s: &[u8], at: usize) -> u32
     ensures { result ≡ field 3 s.now at }
 {
-    if 3 <= left(s, at) {
-        return inside(s, at) as u32 * 65536
-            + inside(s, at + 1) as u32 * 256
-            + inside(s, at + 2) as u32;
+    if 3 <= s.len().saturating_sub(at) {
+        return u32::from_be_bytes([0, s[at], s[at + 1], s[at + 2]]);
     }
     get2(s, at) as u32 * 256
 }
 
 // The four bytes at an index.
+#[tactic(auto, unfolding(crate::specs::Field::field))]
 pub fn get4(s: &[u8], at: usize) -> u32
     ensures { result ≡ field 4 s.now at }
 {
-    if 4 <= left(s, at) {
+    if 4 <= s.len().saturating_sub(at) {
         return inside4(s, at);
     }
     get3(s, at) * 256

@@ -1,7 +1,7 @@
 // Where a drive sheet's fields stand, read and written: nothing above this crate knows the layout of the contents. A field behind the sheet's end reads as 0.
 #![tactic(auto)]
 
-ghost use Rattle.std.specs.Prelude.{◌≡◌, ◌+◌, ◌*◌, ◌≤◌, ◌<◌, [], ◌∷◌, ◌++◌, length, get_or, set, take, drop};
+ghost use Rattle.std.specs.Prelude.{List, ℕ, ◌≡◌, ◌+◌, ◌*◌, ◌≤◌, ◌<◌, [], ◌∷◌, ◌++◌, length, get_or, set, take, drop};
 ghost use Rattle.fields.specs.Field.{spell};
 ghost use Rattle.fields.specs.Part.{PartOf};
 ghost use Rattle.lent.specs.Wrote.{Wrote};
@@ -9,7 +9,6 @@ ghost use Rattle.layout.specs.Layout.{stored, features, profiles, profiles_behin
 ghost use Rattle.base.specs.Lists.{each, flat};
 ghost use Rattle.layout.specs.Contents.{entry_of, head_bytes, row_bytes, contents};
 ghost use Rattle.layout.specs.inner.Found.{found_of};
-ghost use Rattle.layout.specs.inner.Piece.{piece_bytes};
 ghost use Rattle.layout.specs.inner.Room.{Room};
 
 use text::{Feature, Flags};
@@ -23,12 +22,14 @@ pub enum Layout {
 
 // ---- what stands alike in both layouts
 
+#[tactic(auto, unfolding(crate::specs::Layout::features))]
 pub fn feature_count(s: &[u8]) -> u16
     ensures { result ≡ features s.now }
 {
     fields::get2(s, 0)
 }
 
+#[tactic(auto, unfolding(crate::specs::Layout::profiles))]
 pub fn profile_count(s: &[u8]) -> u16
     ensures { result ≡ profiles s.now }
 {
@@ -50,6 +51,7 @@ pub fn bodies_at(s: &[u8]) -> usize
 }
 
 // The profiles as they stand, which is as feature 0 sends them.
+#[tactic(auto, using(fields::proofs::Parts::part_is), unfolding(crate::specs::Layout::profiles_in))]
 pub fn profiles_part(s: &[u8]) -> &[u8]
     ensures { PartOf s.entry (profiles_behind (features s.now)) (profiles_in s.now) result }
 {
@@ -57,7 +59,7 @@ pub fn profiles_part(s: &[u8]) -> &[u8]
     fields::part(s, at, 4 * (profile_count(s) as usize))
 }
 
-// ---- where the fields of an entry stand
+// ---- where the fields of an entry stand: a formula each, as the format has them; one of constants would need four lines to name these
 
 // Which entry: how the contents stand, how many entries they have, and the index of the one. They go together to whoever looks at an entry.
 #[derive(Clone, Copy)]
@@ -67,41 +69,41 @@ pub struct Nth {
     pub i: u16,
 }
 
+#[tactic(auto, unfolding(crate::specs::Layout::number_place))]
 fn number_place(nth: Nth) -> usize
     ensures { result ≡ number_place nth.lay nth.n nth.i }
 {
-    let lay = nth.lay;
-    match lay {
+    match nth.lay {
         Layout::Rows => 4 + 8 * (nth.i as usize),
         Layout::Columns => 4 + 2 * (nth.i as usize),
     }
 }
 
+#[tactic(auto, unfolding(crate::specs::Layout::flags_place))]
 fn flags_place(nth: Nth) -> usize
     ensures { result ≡ flags_place nth.lay nth.n nth.i }
 {
-    let lay = nth.lay;
-    match lay {
+    match nth.lay {
         Layout::Rows => 4 + 8 * (nth.i as usize) + 2,
         Layout::Columns => 4 + 2 * (nth.n as usize) + nth.i as usize,
     }
 }
 
+#[tactic(auto, unfolding(crate::specs::Layout::length_place))]
 fn length_place(nth: Nth) -> usize
     ensures { result ≡ length_place nth.lay nth.n nth.i }
 {
-    let lay = nth.lay;
-    match lay {
+    match nth.lay {
         Layout::Rows => 4 + 8 * (nth.i as usize) + 3,
         Layout::Columns => 4 + 3 * (nth.n as usize) + nth.i as usize,
     }
 }
 
+#[tactic(auto, unfolding(crate::specs::Layout::offset_place))]
 fn offset_place(nth: Nth) -> usize
     ensures { result ≡ offset_place nth.lay nth.n nth.i }
 {
-    let lay = nth.lay;
-    match lay {
+    match nth.lay {
         Layout::Rows => 4 + 8 * (nth.i as usize) + 4,
         Layout::Columns => 4 + 4 * (nth.n as usize) + 4 * (nth.i as usize),
     }
@@ -121,24 +123,28 @@ fn nth_of(lay: Layout, s: &[u8], i: u16) -> Nth
 }
 
 // The feature number of entry i.
+#[tactic(auto, unfolding(crate::specs::Layout::number))]
 pub fn feature_at(lay: Layout, s: &[u8], i: u16) -> Feature
     ensures { result.0 ≡ number (stored lay s.now) i }
 {
     Feature(fields::get2(s, number_place(nth_of(lay, s, i))))
 }
 
+#[tactic(auto, unfolding(crate::specs::Layout::flags))]
 pub fn flags_at(lay: Layout, s: &[u8], i: u16) -> Flags
     ensures { result.0 ≡ flags (stored lay s.now) i }
 {
     Flags(fields::byte(s, flags_place(nth_of(lay, s, i))))
 }
 
+#[tactic(auto, unfolding(crate::specs::Layout::body_length))]
 pub fn length_at(lay: Layout, s: &[u8], i: u16) -> u8
     ensures { result ≡ body_length (stored lay s.now) i }
 {
     fields::byte(s, length_place(nth_of(lay, s, i)))
 }
 
+#[tactic(auto, unfolding(crate::specs::Layout::offset))]
 pub fn offset_at(lay: Layout, s: &[u8], i: u16) -> u32
     ensures { result ≡ offset (stored lay s.now) i }
 {
@@ -157,6 +163,7 @@ pub struct Entry {
 
 // That entry, with no look at the sheet's end.
 // Asks: a sheet of so many features that has its contents, and one of their indices; its length was held to `profiles_behind` or `bodies_at` before.
+#[tactic(auto, using(crate::proofs::Laws::fields_inside), unfolding(crate::specs::Contents::entry_of, crate::specs::Layout::number, crate::specs::Layout::flags, crate::specs::Layout::body_length, crate::specs::Layout::offset))]
 pub fn entry_in(s: &[u8], nth: Nth) -> Entry
     requires { Room s.now nth.n × (nth.i < nth.n) }
     ensures { result ≡ entry_of (stored nth.lay s.now) nth.i }
@@ -178,6 +185,7 @@ pub struct Found {
 }
 
 // Asks: the same as `entry_in`.
+#[tactic(auto, unfolding(crate::specs::inner::Found::found_of, crate::specs::Layout::flags, crate::specs::Layout::body_length))]
 pub fn find(s: &[u8], nth: Nth) -> Found
     requires { Room s.now nth.n × (nth.i < nth.n) }
     ensures { result ≡ found_of (stored nth.lay s.now) nth.i }
@@ -212,8 +220,7 @@ pub fn put_head(out: &mut [u8], at: usize, s: &[u8], nth: Nth) -> usize
     ensures { Wrote out.old at (head_bytes (entry_of (stored nth.lay s.now) nth.i)) result out.new }
 {
     let number = number_place(nth);
-    let lay = nth.lay;
-    match lay {
+    match nth.lay {
         Layout::Rows => {
             let end = number + 4;
             lent::place4(out, at, &s[number..end])
@@ -245,24 +252,12 @@ pub fn set_flags(out: &mut [u8], nth: Nth, flags: Flags)
     out[at] = flags.0;
 }
 
-// Which bytes of an entry are written: all in a row, or one field for its column.
-#[derive(Clone, Copy)]
-enum Piece {
-    Row,
-    Number,
-    Flags,
-    Length,
-    Offset,
-}
-
 // Writes an entry as a row, as far as the buffer has room.
 fn put_row(out: &mut [u8], at: usize, e: Entry) -> usize
     ensures { Wrote out.old at (row_bytes e) result out.new }
 {
-    let number = e.number;
-    let flags = e.flags;
-    let a = lent::put2(out, at, number.0);
-    let b = lent::put(out, a, flags.0);
+    let a = lent::put2(out, at, e.number.0);
+    let b = lent::put(out, a, e.flags.0);
     let c = lent::put(out, b, e.length);
     lent::put4(out, c, e.offset)
 }
@@ -277,31 +272,23 @@ pub fn place_row(out: &mut [u8], at: usize, head: &[u8], offset: u32) -> usize
     lent::set4(out, behind, offset)
 }
 
-fn put_piece(out: &mut [u8], at: usize, piece: Piece, e: Entry) -> usize
-    ensures { Wrote out.old at (piece_bytes piece e) result out.new }
-{
-    let number = e.number;
-    let flags = e.flags;
-    match piece {
-        Piece::Row => put_row(out, at, e),
-        Piece::Number => lent::put2(out, at, number.0),
-        Piece::Flags => lent::put(out, at, flags.0),
-        Piece::Length => lent::put(out, at, e.length),
-        Piece::Offset => lent::put4(out, at, e.offset),
-    }
-}
-
-// Writes a piece of each entry of a sheet, as far as the buffer has room.
-// Asks: a sheet of n features that has its contents; `put_contents` asks the same.
-fn put_pieces(out: &mut [u8], at: usize, piece: Piece, lay: Layout, s: &[u8], n: u16) -> usize
-    requires { Room s.now n }
-    ensures { Wrote out.old at (flat (piece_bytes piece) (each (entry_of (stored lay s.now)) 0 n)) result out.new }
+// Writes something of each entry of a sheet, one behind the other, as far as the buffer has room.
+// Asks: a sheet of n features that has its contents, as `put_contents` does, and a writer that may be called with any entry.
+fn put_each<F: Fn(&mut [u8], usize, Entry) -> usize>(
+    out: &mut [u8],
+    at: usize,
+    lay: Layout,
+    s: &[u8],
+    n: u16,
+    put: F,
+) -> usize
+    requires { Room s.now n × F.IsAlwaysCallable put }
+    ensures { (bytes : Entry → List ℕ) → ((o : _) (a : _) (e : _) (r : _) (q : _) → F.post put o a e r q → Wrote o.now a (bytes e) r q.now)
+        → Wrote out.old at (flat bytes (each (entry_of (stored lay s.now)) 0 n)) result out.new }
 {
     let mut next = at;
-    let mut i: u16 = 0;
-    while i < n {
-        next = put_piece(out, next, piece, entry_in(s, Nth { lay, n, i }));
-        i += 1;
+    for i in 0..n {
+        next = put(out, next, entry_in(s, Nth { lay, n, i }));
     }
     next
 }
@@ -313,12 +300,12 @@ pub fn put_contents(out: &mut [u8], at: usize, to: Layout, lay: Layout, s: &[u8]
     ensures { Wrote out.old at (contents to (each (entry_of (stored lay s.now)) 0 n)) result out.new }
 {
     match to {
-        Layout::Rows => put_pieces(out, at, Piece::Row, lay, s, n),
+        Layout::Rows => put_each(out, at, lay, s, n, put_row),
         Layout::Columns => {
-            let a = put_pieces(out, at, Piece::Number, lay, s, n);
-            let b = put_pieces(out, a, Piece::Flags, lay, s, n);
-            let c = put_pieces(out, b, Piece::Length, lay, s, n);
-            put_pieces(out, c, Piece::Offset, lay, s, n)
+            let a = put_each(out, at, lay, s, n, |o, i, e| lent::put2(o, i, e.number.0));
+            let b = put_each(out, a, lay, s, n, |o, i, e| lent::put(o, i, e.flags.0));
+            let c = put_each(out, b, lay, s, n, |o, i, e| lent::put(o, i, e.length));
+            put_each(out, c, lay, s, n, |o, i, e| lent::put4(o, i, e.offset))
         }
     }
 }

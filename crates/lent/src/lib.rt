@@ -40,18 +40,26 @@ impl Made {
     }
 }
 
-// Puts a byte.
-pub fn put(out: &mut [u8], at: usize, b: u8) -> usize
-    ensures { Wrote out.old at (b ∷ []) result out.new }
+// Stores one element, of whatever type, where there is room for it.
+fn store<T: Copy>(out: &mut [T], at: usize, x: T) -> usize
+    ensures { Wrote out.old at (x ∷ []) result out.new }
 {
     if at < out.len() {
-        out[at] = b;
+        out[at] = x;
         return at + 1;
     }
     at
 }
 
-// Puts a field of two bytes.
+// Puts a byte. The theorems `put_decided` and `note_decided` name this and `note`, the instances of `store`.
+pub fn put(out: &mut [u8], at: usize, b: u8) -> usize
+    ensures { Wrote out.old at (b ∷ []) result out.new }
+{
+    store(out, at, b)
+}
+
+// Puts a field of two bytes, store by store: a copy of `to_be_bytes` would be a call of `place`.
+#[tactic(auto, using(crate::proofs::Laws::then), unfolding(fields::specs::Field::spell))]
 pub fn put2(out: &mut [u8], at: usize, v: u16) -> usize
     ensures { Wrote out.old at (spell 2 v) result out.new }
 {
@@ -104,26 +112,15 @@ pub fn place4(out: &mut [u8], at: usize, part: &[u8]) -> usize
     behind
 }
 
-// Writes a field over four bytes, straight into them: the compiler makes one store of it.
-// Asks: four bytes; `set4` lends as many.
-fn fill4(out: &mut [u8], v: u32)
-    requires { length out.old ≡ 4 }
-    ensures { out.new ≡ spell 4 v }
-{
-    out[0] = (v / 256 / 256 / 256 % 256) as u8;
-    out[1] = (v / 256 / 256 % 256) as u8;
-    out[2] = (v / 256 % 256) as u8;
-    out[3] = (v % 256) as u8;
-}
-
-// Puts a field of four bytes where there is room for it, all at once.
+// Puts a field of four bytes where there is room for it, all at once: the compiler makes one store of it.
 // Asks: room for four bytes; whoever writes has looked at the buffer's length.
 pub fn set4(out: &mut [u8], at: usize, v: u32) -> usize
     requires { at + 4 ≤ length out.old }
     ensures { Wrote out.old at (spell 4 v) result out.new }
 {
     let behind = at + 4;
-    fill4(&mut out[at..behind], v);
+    let bytes = v.to_be_bytes();
+    out[at..behind].copy_from_slice(&bytes);
     behind
 }
 
@@ -145,31 +142,19 @@ pub fn copy(out: &mut [u8], at: usize, part: &[u8]) -> usize
 pub fn note(out: &mut [u16], at: usize, v: u16) -> usize
     ensures { Wrote out.old at (v ∷ []) result out.new }
 {
-    if at < out.len() {
-        out[at] = v;
-        return at + 1;
-    }
-    at
+    store(out, at, v)
 }
 
 // Sets the whole buffer to zero.
 pub fn clear(out: &mut [u8])
     ensures { out.new ≡ replicate (length out.old) 0 }
 {
-    let mut i = 0;
-    while i < out.len() {
-        out[i] = 0;
-        i += 1;
-    }
+    out.fill(0);
 }
 
-// The same for a list of sixteen-bit numbers.
+// The same for a list of sixteen-bit numbers: the theorem `clear_list_decided` names it.
 pub fn clear_list(out: &mut [u16])
     ensures { out.new ≡ replicate (length out.old) 0 }
 {
-    let mut at = 0;
-    while at < out.len() {
-        out[at] = 0;
-        at += 1;
-    }
+    out.fill(0u16);
 }

@@ -1,5 +1,9 @@
 -- The lines of a text. Assumes nothing: these are definitions.
-use Rattle.std.specs.Prelude.{true, false, List, [], ◌∷◌, ℕ, zero, suc, ◌-◌, eqb}
+use Rattle.std.specs.Prelude.{Bool, true, false, List, [], ◌∷◌, ℕ, zero, suc, ◌-◌, eqb}
+
+-- a byte that ends a line: 10
+abbrev pub is_end : (byte : ℕ) → Bool
+is_end byte = eqb byte 10
 
 -- of so many lines to pass, those that are left behind a byte: a line end, 10, passes one
 unfoldable pub lines_left : (left byte : ℕ) → ℕ

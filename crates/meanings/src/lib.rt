@@ -2,64 +2,60 @@
 // an empty line. It is a literal that is lent to a walk, so that it is read-only data.
 #![tactic(auto)]
 
-ghost use Rattle.std.specs.Prelude.{◌≡◌, ◌≤◌, length, drop};
+ghost use Rattle.std.specs.Prelude.{◌≡◌};
+ghost use Rattle.std.specs.List.{position};
 ghost use Rattle.lent.specs.Wrote.{Wrote};
-ghost use Rattle.meanings.specs.Lines.{lines_left, behind_lines, up_to_end, text_line};
+ghost use Rattle.meanings.specs.Lines.{is_end, behind_lines, up_to_end, text_line};
 ghost use Rattle.meanings.specs.Meanings.{sentence};
 
 // The most characters of a sentence.
 pub const LONGEST: usize = 129;
 
-// How many lines are left to pass behind a byte.
-// Asks: at least one before it; the walk has looked.
-fn left_behind(left: usize, byte: u8) -> usize
-    requires { 1 ≤ left }
-    ensures { result ≡ lines_left left byte }
+// Where the first line end is, if there is one. By index: the C library's code for 32 bits cannot hand out an `Option` of a reference, as `iter` does.
+#[tactic(auto, using(crate::proofs::Laws::position_found, crate::proofs::Laws::position_missing))]
+fn line_end(s: &[u8]) -> Option<usize>
+    ensures { result ≡ position is_end s.now }
 {
-    if byte == b'\n' {
-        return left - 1;
-    }
-    left
-}
-
-// Where the line starts that has so many before it; the end where there are fewer.
-fn line_start(s: &[u8], lines: usize) -> usize
-    ensures { (result ≤ length s.now) × (drop result s.now ≡ behind_lines s.now lines) }
-{
-    let mut at = 0;
-    let mut left = lines;
-    while at < s.len() {
-        if left == 0 {
-            return at;
-        }
-        left = left_behind(left, s[at]);
-        at += 1;
-    }
-    at
-}
-
-// How many bytes there are from a place on to the end of its line.
-// Asks: a place that is not behind the end.
-fn line_length(s: &[u8], start: usize) -> usize
-    requires { start ≤ length s.now }
-    ensures { result ≡ length (up_to_end (drop start s.now)) }
-{
-    let mut at = start;
-    while at < s.len() {
+    for at in 0..s.len() {
         if s[at] == b'\n' {
-            return at - start;
+            return Some(at);
         }
-        at += 1;
     }
-    at - start
+    None
+}
+
+// What stands before the first line end; all where there is none.
+#[tactic(auto, using(crate::proofs::Laws::upto_found, crate::proofs::Laws::upto_all))]
+fn first_line(s: &[u8]) -> &[u8]
+    ensures { result.now ≡ up_to_end s.now }
+{
+    match line_end(s) {
+        Some(end) => &s[..end],
+        None => s,
+    }
+}
+
+// What stands behind the first line end; nothing where there is none.
+#[tactic(auto, using(crate::proofs::Laws::behind_found, crate::proofs::Laws::behind_all))]
+fn behind_line(s: &[u8]) -> &[u8]
+    ensures { result.now ≡ behind_lines s.now 1 }
+{
+    match line_end(s) {
+        Some(end) => &s[end + 1..],
+        None => &s[s.len()..],
+    }
 }
 
 // The line that has so many before it, without its end.
+#[tactic(auto, using(crate::proofs::Laws::line_is))]
 fn line_of(s: &[u8], lines: usize) -> &[u8]
     ensures { result.now ≡ text_line lines s.now }
 {
-    let start = line_start(s, lines);
-    fields::part(s, start, line_length(s, start))
+    let mut rest = s;
+    for passed in 0..lines {
+        rest = behind_line(rest);
+    }
+    first_line(rest)
 }
 
 // Puts the sentence of a number.

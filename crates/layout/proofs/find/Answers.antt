@@ -1,7 +1,5 @@
 -- `layout::find` meets its contract: it reads flags and length where the layout has them, and says where it has the offset.
 use native.Mathlib.Omega.{arith}
-use Rattle.layout.specs.Layout.{flags, body_length}
-use Rattle.layout.specs.inner.Found.{found_of}
 use Rattle.layout.proofs.Laws.{fields_inside}
 use Rattle.layout.proofs.find.Goals as goal
 
@@ -10,7 +8,3 @@ inside-requires c = let a = c.args in let p = c.requires in omega (arith, (field
 
 pub inside-length-requires : goal.inside-length-requires
 inside-length-requires c = let a = c.args in let p = c.requires in omega (arith, (fields_inside a.nth.lay a.nth.n a.nth.i p.1).length, p.0.1)
-
-pub returns : goal.returns
-unfolding found_of flags body_length
-returns c = cc c.requires.0.0

@@ -1,7 +1,7 @@
--- `meanings::line_of` meets its contract: the part from the start of the line to its end. Assumes nothing.
-use mathlib.Core.Path.{◌∙◌}
-use Rattle.meanings.proofs.Laws.{line_is}
+-- `meanings::line_of` meets its contract: one more line is passed.
+use native.Mathlib.Omega.{arith}
+use Rattle.meanings.proofs.Laws.{behind_step}
 use Rattle.meanings.proofs.line_of.Goals as goal
 
-pub returns : goal.returns
-returns c = c.part.ensures.holds ∙ line_is _ _ c.line_start-start.result _ c.line_start-start.ensures.1 c.line_length.ensures
+pub loop-passed-preserved : goal.loop-passed-preserved
+loop-passed-preserved c = behind_step _ _ _ c.loop-passed.passed c.args.lines (omega arith) c.behind_line-rest.ensures c.loop-passed.invariant
