@@ -101,6 +101,7 @@ function load_head(c, line, k, d, word) {
     d = high[c] = ++descriptors
     split(substr(line, k + 10), word, " ")
     feature[d] = substr(line, 1, 4)
+    row[c, feature[d]] = d
     title[d] = substr(line, 7, k - 7)
     version[d] = word[1] + 0
     persistent[d] = word[3] + 0
@@ -163,18 +164,8 @@ function load_show(c, file, line, k) {
     close(file)
 }
 
-# The descriptor of a feature, 0 where there is none: they ascend.
-function row_of(c, f, a, b, m) {
-    a = low[c]
-    b = high[c]
-    while (a <= b) {
-        m = int((a + b) / 2)
-        if (feature[m] "" == f "") return m
-        if (feature[m] "" < f "") a = m + 1
-        else b = m - 1
-    }
-    return 0
-}
+# The descriptor of a feature, 0 where there is none.
+function row_of(c, f) { return (c, f) in row ? row[c, f] : 0 }
 
 # A fault: 36 in feature 0003 at byte 28: byte 4 bit 4: a reserved body bit or a pad byte is not 0
 function load_fault(c, line, d) {
@@ -241,11 +232,36 @@ function load_notes(c, file, line) {
     close(file)
 }
 
+# Room for what is known of the descriptors that so many bytes can hold, and of their runs, but no more than the longest response has. Elements that split makes stand side by
+# side; where an array grows by itself each stands in a list, which is walked whenever it is looked for.
+function make_room(n, s) {
+    for (s = " "; length(s) < least(n / 4 + 8, 16384); s = s s) {}
+    split(s, feature, / /)
+    split(s, title, / /)
+    split(s, version, / /)
+    split(s, persistent, / /)
+    split(s, current, / /)
+    split(s, extent, / /)
+    split(s, inside, / /)
+    split(s, at, / /)
+    split(s, found, / /)
+    split(s, mending, / /)
+    split(s, run_from, / /)
+    split(s, run_to, / /)
+    split(s, run_kind, / /)
+    split(s, run_d, / /)
+    split(s, run_label, / /)
+}
+
+# The bytes of a capture, and how many they are.
+function load_bytes(c) {
+    all[c] = read_bytes(folder "/" c ".bytes")
+    return size[c] = int((length(all[c]) + 1) / 3)
+}
+
 # All that was said of a capture.
 function load(c, place) {
     place = folder "/" c
-    all[c] = read_bytes(place ".bytes")
-    size[c] = int((length(all[c]) + 1) / 3)
     load_show(c, place ".show")
     load_check(c, place ".check", "")
     load_check(c, place ".archive", "profile 0000")
@@ -404,6 +420,7 @@ function counts_told(kinds, i, s) {
 
 # As text, and 1 where there is a difference.
 function tell_difference(a, b, i, lines) {
+    make_room(load_bytes(a) + load_bytes(b))
     load(a)
     load(b)
     if (!compare(a, b)) {
@@ -422,7 +439,10 @@ function tell_difference(a, b, i, lines) {
 
 # ---- the page
 
-function make_page(i) {
+function make_page(i, n) {
+    n = against == "" ? 0 : load_bytes(against)
+    for (i = 1; i <= count; i++) n += load_bytes(captures[i])
+    make_room(n)
     for (i = 1; i <= count; i++) load(captures[i])
     if (against != "") load(against)
     page_head()
@@ -598,8 +618,8 @@ function contents(c, d) {
 # What the checks found at a descriptor, what mending would change, and whether it differs from the other capture's.
 function findings(d, s) {
     s = d in mark ? "<p class=\"" mark[d] "\">" mark[d] "</p>" : ""
-    if (d in found) s = s list_of(found[d], "bad")
-    if (d in mending) s = s list_of("mending\n" mending[d], "mending")
+    if (found[d] != "") s = s list_of(found[d], "bad")
+    if (mending[d] != "") s = s list_of("mending\n" mending[d], "mending")
     return s
 }
 

@@ -1,13 +1,11 @@
 -- The laws of `Wrote`. Assumes nothing.
 use mathlib.Core.Path.{◌≡◌, refl, sym, ap, ◌∙◌}
-use mathlib.Core.List.{List, [], ◌∷◌, ◌++◌, append_assoc}
+use mathlib.Core.List.{List, [], ◌∷◌, ◌++◌, append_assoc, append-nil}
 use Prim.Native.Nat.{ℕ, ◌+◌, ◌-◌, ◌≤◌, ◌<◌, min}
 use native.Mathlib.Nat.{zero-add}
 use native.Mathlib.Decide.{dec_le}
 use native.Mathlib.Omega.{arith}
-use Rattle.std.specs.Int.{w32, to_be_bytes}
-use Rattle.fields.specs.Field.{spell}
-use lib.ListN.{length, set, take, drop, length-append, length-take, take-append-drop}
+use lib.ListN.{length, set, take, drop, replicate, length-append, length-take, length-replicate, take-append-drop, drop_of_length-le, replicate-append-replicate}
 use lib.Seq.{sets, length-sets, sets-eq, length-take-le, take-length, take-append_seam, drop-drop}
 use Rattle.lent.specs.Wrote.{Wrote}
 use Rattle.lent.proofs.Sets.{sets_out, sets_room, sets_append, sets_left}
@@ -48,6 +46,15 @@ copied d b e at h k =
 pub copied_all : (n : ℕ) (d b e : List ℕ) (at : ℕ) → length b ≡ n → at + n ≤ length d → e ≡ b
     → Wrote d at b (at + n) (take at d ++ (e ++ drop (at + n - at) (drop at d)))
 copied_all n d b e at l h k = rw (← l) (copied d b e at (omega (arith, l, h)) k)
+
+-- four stores over four elements
+pub four_set : (d : List ℕ) (a b c e : ℕ) → length d ≡ 4 → set (set (set (set d 0 a) 1 b) 2 c) 3 e ≡ a ∷ b ∷ c ∷ e ∷ []
+four_set (x ∷ y ∷ z ∷ w ∷ []) a b c e h = refl
+four_set [] a b c e h = absurd (omega arith)
+four_set (x ∷ []) a b c e h = absurd (omega arith)
+four_set (x ∷ y ∷ []) a b c e h = absurd (omega arith)
+four_set (x ∷ y ∷ z ∷ []) a b c e h = absurd (omega arith)
+four_set (x ∷ y ∷ z ∷ w ∷ v ∷ d) a b c e h = absurd (omega arith)
 
 -- what is written, said otherwise
 pub written_as : {d e : List ℕ} {at r : ℕ} {xs ys : List ℕ} → xs ≡ ys → Wrote d at xs r e → Wrote d at ys r e
@@ -110,9 +117,19 @@ cut {d} {e} {r} {limit} {xs} h w =
           ∙ ap (λ (z : List ℕ). sets z 0 (take limit xs)) (take-append-drop limit d);
     }
 
--- ---- the library's bytes of a number
+-- ---- setting to one value
 
--- they are its field
-pub spelt4 : (v : ℕ) → to_be_bytes w32 v ≡ spell 4 v
-unfolding spell
-spelt4 v = grind arith
+-- one more of them
+pub filled_more : {d e : List ℕ} {i : ℕ} (x : ℕ) → Wrote d 0 (replicate i x) i e → i < length e → Wrote d 0 (replicate (i + 1) x) (i + 1) (set e i x)
+filled_more {d} {e} {i} x w h = rw (← replicate-append-replicate i 1 x) (then w (stored e i x h))
+
+-- the same where the index is said otherwise
+pub filled_at : {d e : List ℕ} {i j : ℕ} (x : ℕ) → Wrote d 0 (replicate i x) i e → j ≡ i → i < length e → Wrote d 0 (replicate (i + 1) x) (i + 1) (set e j x)
+filled_at {d} {e} {i} {j} x w q h = rw q (filled_more x w h)
+
+-- no room is left: all of them
+pub filled_whole : {d e : List ℕ} {i : ℕ} (x : ℕ) → Wrote d 0 (replicate i x) i e → length e ≤ i → e ≡ replicate (length d) x
+filled_whole {d} {e} {i} x w h =
+    let n : length (replicate i x) ≡ i = length-replicate i x in
+    let k : i ≡ length d = omega (arith, w.next, kept w) in
+    front w (omega arith) ∙ rw (drop_of_length-le d {i = length (replicate i x)} (omega arith), append-nil, k)

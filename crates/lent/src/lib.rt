@@ -112,15 +112,27 @@ pub fn place4(out: &mut [u8], at: usize, part: &[u8]) -> usize
     behind
 }
 
-// Puts a field of four bytes where there is room for it, all at once: the compiler makes one store of it.
+// Writes a field over four bytes, straight into them, with no array between: the compiler makes one store of it.
+// Asks: four bytes; `set4` lends as many.
+#[tactic(auto, using(crate::proofs::Laws::four_set), unfolding(fields::specs::Field::spell))]
+fn fill4(out: &mut [u8], v: u32)
+    requires { length out.old ≡ 4 }
+    ensures { out.new ≡ spell 4 v }
+{
+    out[0] = (v / 256 / 256 / 256 % 256) as u8;
+    out[1] = (v / 256 / 256 % 256) as u8;
+    out[2] = (v / 256 % 256) as u8;
+    out[3] = (v % 256) as u8;
+}
+
+// Puts a field of four bytes where there is room for it, all at once.
 // Asks: room for four bytes; whoever writes has looked at the buffer's length.
 pub fn set4(out: &mut [u8], at: usize, v: u32) -> usize
     requires { at + 4 ≤ length out.old }
     ensures { Wrote out.old at (spell 4 v) result out.new }
 {
     let behind = at + 4;
-    let bytes = v.to_be_bytes();
-    out[at..behind].copy_from_slice(&bytes);
+    fill4(&mut out[at..behind], v);
     behind
 }
 
@@ -152,9 +164,12 @@ pub fn clear(out: &mut [u8])
     out.fill(0);
 }
 
-// The same for a list of sixteen-bit numbers: the theorem `clear_list_decided` names it.
+// The same for a list of sixteen-bit numbers, number by number.
+#[tactic(auto, using(crate::proofs::Laws::nothing, crate::proofs::Laws::filled_whole))]
 pub fn clear_list(out: &mut [u16])
     ensures { out.new ≡ replicate (length out.old) 0 }
 {
-    out.fill(0u16);
+    for at in 0..out.len() {
+        out[at] = 0;
+    }
 }
