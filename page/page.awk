@@ -204,7 +204,7 @@ function mark_found(c, d, line, k) {
 
 function mark_bytes(c, d, from, n, k) {
     has_marks[d] = 1
-    for (k = from; k < from + n; k++) marked[c, k] = "at fault"
+    for (k = from; k < from + n; k++) marked[start[c] + k] = "at fault"
 }
 
 # The changes of mend, such as 'feature 0003, flags: 01h becomes 03h': one for each byte in which its copy differs, in rising order. Those are the bits at fault.
@@ -219,9 +219,9 @@ function load_mend(c, file, line, f, d, k, copy) {
             k = at[d]
         }
         while (substr(copy, 3 * k + 1, 2) "" == byte(c, k) "") k++
-        marked[c, k] = bits_of(byte(c, k), substr(copy, 3 * k + 1, 2))
+        marked[start[c] + k] = bits_of(byte(c, k), substr(copy, 3 * k + 1, 2))
         has_marks[d] = 1
-        mending[d] = mending[d] substr(line, 15) ", " marked[c, k] "\n"
+        mending[d] = mending[d] substr(line, 15) ", " marked[start[c] + k] "\n"
         k++
     }
     close(file)
@@ -232,10 +232,12 @@ function load_notes(c, file, line) {
     close(file)
 }
 
-# Room for what is known of the descriptors that so many bytes can hold, and of their runs, but no more than the longest response has. Elements that split makes stand side by
-# side; where an array grows by itself each stands in a list, which is walked whenever it is looked for.
+# Room for what is known of so many bytes, of the descriptors that they can hold and of their runs, but no more than the longest response has. Elements that split makes stand
+# side by side; where an array grows by itself each stands in a list, which is walked whenever it is looked for.
 function make_room(n, s) {
-    for (s = " "; length(s) < least(n / 4 + 8, 16384); s = s s) {}
+    for (s = " "; length(s) < least(n, 65536); s = s s) {}
+    split(s, marked, / /)
+    s = substr(s, 1, length(s) / 4)
     split(s, feature, / /)
     split(s, title, / /)
     split(s, version, / /)
@@ -253,10 +255,12 @@ function make_room(n, s) {
     split(s, run_label, / /)
 }
 
-# The bytes of a capture, and how many they are.
+# The bytes of a capture, and how many are loaded then; what is marked of them starts apart from that of others, also where a field at fault was not received whole.
 function load_bytes(c) {
     all[c] = read_bytes(folder "/" c ".bytes")
-    return size[c] = int((length(all[c]) + 1) / 3)
+    size[c] = int((length(all[c]) + 1) / 3)
+    start[c] = loaded + 1
+    return loaded += size[c] + 8
 }
 
 # All that was said of a capture.
@@ -420,7 +424,8 @@ function counts_told(kinds, i, s) {
 
 # As text, and 1 where there is a difference.
 function tell_difference(a, b, i, lines) {
-    make_room(load_bytes(a) + load_bytes(b))
+    load_bytes(a)
+    make_room(load_bytes(b))
     load(a)
     load(b)
     if (!compare(a, b)) {
@@ -440,8 +445,8 @@ function tell_difference(a, b, i, lines) {
 # ---- the page
 
 function make_page(i, n) {
-    n = against == "" ? 0 : load_bytes(against)
-    for (i = 1; i <= count; i++) n += load_bytes(captures[i])
+    for (i = 1; i <= count; i++) n = load_bytes(captures[i])
+    if (against != "") n = load_bytes(against)
     make_room(n)
     for (i = 1; i <= count; i++) load(captures[i])
     if (against != "") load(against)
@@ -666,9 +671,10 @@ function make_runs(c, d, n) {
 }
 
 # Bytes from a place to another, those at fault marked.
-function marked_bytes(c, from, to, s) {
+function marked_bytes(c, from, to, first, s) {
     s = ""
-    for (; from < to; from++) s = s (s == "" ? "" : " ") ((c, from) in marked ? "<mark>" byte(c, from) "</mark>" : byte(c, from))
+    first = start[c]
+    for (; from < to; from++) s = s (s == "" ? "" : " ") (marked[first + from] != "" ? "<mark>" byte(c, from) "</mark>" : byte(c, from))
     return s
 }
 
@@ -690,13 +696,14 @@ function run_told(i, c, r, k) {
 }
 
 # The marks from a place to another, in words.
-function marks_told(c, from, to, s, n) {
+function marks_told(c, from, to, first, s, n) {
     s = ""
+    first = start[c]
     for (; from < to; from += n) {
         n = 1
-        if (!((c, from) in marked)) continue
-        while (marked[c, from] == "at fault" && from + n < to && (c, from + n) in marked && marked[c, from + n] == "at fault") n++
-        s = s "<li class=\"bad\">" places(from, n) ": " marked[c, from]
+        if (marked[first + from] == "") continue
+        while (marked[first + from] == "at fault" && from + n < to && marked[first + from + n] == "at fault") n++
+        s = s "<li class=\"bad\">" places(from, n) ": " marked[first + from]
     }
     return s
 }
